@@ -1,0 +1,4 @@
+pub mod Arrays
+pub mod Tags
+pub mod Lay
+pub mod Little

@@ -1,0 +1,4 @@
+pub mod Pick
+pub mod First
+pub mod Lay
+pub mod Little
