@@ -1,12 +1,12 @@
 -- Laws of a lent buffer: bytes laid one after another are their sequence laid at once, and the length stays.
 use mathlib.Core.Path.{_≡_, refl, sym, _∙_, ap}
-use mathlib.Core.List.{List, [], _∷_, _++_, append-assoc}
-use Prim.Native.Nat.{ℕ, _+_, _<_, _≤_}
+use mathlib.Core.List.{List, [], _∷_, _++_, append-assoc, append-nil}
+use Prim.Native.Nat.{ℕ, _+_, _-_, _<_, _≤_}
 use native.Mathlib.Omega.{arith}
 use native.Mathlib.Numerals.{add-one}
 use native.Mathlib.Nat.{add-assoc}
-use lib.ListN.{length, take, drop, set, length-append, length-take, length-drop}
-use lib.Seq.{take-length, take-at, drop-at, drop-drop, drop-append-add, take-paste, drop-paste, length-take-le, length-paste, paste-zero, sets-eq}
+use lib.ListN.{length, take, drop, set, length-append, length-take, length-drop, drop-of-length-le}
+use lib.Seq.{take-all, take-length, take-at, drop-at, drop-drop, drop-append-add, take-paste, drop-paste, length-take-le, length-paste, paste-zero, sets-eq}
 use Rattle.base.specs.Lay.{laidAt}
 
 module _ (buffer : List ℕ) (at : ℕ) where
@@ -56,3 +56,19 @@ module _ (buffer : List ℕ) (at : ℕ) where
       ∙ ap (drop (length b)) (laid-after a (omega arith))
       ∙ drop-drop (length b) (at + length a) buffer in
       rw (front, after, length-append, ← add-assoc, append-assoc (take at buffer) a b)
+
+  -- a piece copied over the front of what stands from the place on, and that put back
+  pub laid-copied : (piece part : List ℕ) → at + length piece ≤ length buffer
+      → part ≡ take (length piece) piece ++ drop (length piece) (take (length buffer - at) (drop at buffer))
+      → take at buffer ++ (part ++ drop (length buffer - at) (drop at buffer)) ≡ laidAt buffer at piece
+  unfolding laidAt
+  laid-copied piece part h e =
+      rw (
+        e,
+        take-length,
+        take-all (length buffer - at) (drop at buffer) (simp length-drop (omega arith)),
+        drop-of-length-le (drop at buffer) {i = length buffer - at} (simp length-drop (omega arith)),
+        drop-drop,
+        append-nil,
+        append-assoc,
+      )

@@ -3,7 +3,7 @@ use mathlib.Core.Path.{_≡_, refl, sym, _∙_, ap}
 use mathlib.Core.List.{List, [], _∷_, _++_}
 use Prim.Native.Nat.{ℕ, zero, suc, _+_, _*_, _/_, _%_, _^_, _<_, _≤_}
 use native.Mathlib.Omega.{arith}
-use native.Mathlib.Nat.{pow-suc, div-lt-iff-lt-mul, mul-assoc, mul-add, add-assoc, mul-comm, div-div-eq-div-mul, zero-add, suc-add, div-one, one-mul}
+use native.Mathlib.Nat.{pow-suc, div-lt-iff-lt-mul, mul-assoc, mul-comm, div-div-eq-div-mul, zero-add, suc-add, div-one, mod-add-div}
 use lib.ListN.{length, getD}
 use Rattle.base.specs.Little.{Bytes, le, unle}
 
@@ -49,3 +49,20 @@ unfolding le
 le-append zero k n = rw (zero-add, div-one)
 le-append (suc j) k n =
     rw (suc-add, le-append j k (n / 256), div-div-eq-div-mul, pow-suc, mul-comm (256 ^ j) 256)
+
+-- what stands above k bytes does not matter to them
+le-low : (k a q : ℕ) → le k (a + 256 ^ k * q) ≡ le k a
+unfolding le
+le-low zero a q = refl
+le-low (suc k) a q =
+    let x : ℕ = 256 ^ k * q in
+    let e : 256 ^ suc k * q ≡ 256 * x = rw (pow-suc, mul-comm (256 ^ k) 256, mul-assoc 256 (256 ^ k) q) in
+    let low : (a + 256 * x) % 256 ≡ a % 256 = omega arith in
+    let high : (a + 256 * x) / 256 ≡ a / 256 + x = omega arith in
+    rw (e, low, high, le-low k (a / 256) q)
+
+-- a number in two pieces: the low j bytes of it, and the rest
+pub le-pieces : (j k n : ℕ) → le j (n % 256 ^ j) ++ le k (n / 256 ^ j) ≡ le (j + k) n
+le-pieces j k n =
+    let e : le j n ≡ le j (n % 256 ^ j) = ap (le j) (sym (mod-add-div n (256 ^ j))) ∙ le-low j (n % 256 ^ j) (n / 256 ^ j) in
+    rw (le-append, e)

@@ -1,0 +1,471 @@
+//! A second reading of document 01's refusals: one function per call, the tests named as in its
+//! table, in its order (8, 1, 3, 7, silent, 2, 4, 12, 6, 5; 14 before 15). It was written from
+//! document 01 and OPEN-POINTS.md by someone who had not seen our definitions, but who had read
+//! the crate: a slip that stands in OPEN-POINTS.md, or that the crate suggests, may stand here too.
+//! Nothing here asks the crate; `audit` then holds 5 and 6 against the crate's own doing.
+
+use super::record::Setup;
+use super::snapshot::{Phase, Snapshot, SpectatorSnapshot};
+use crate::network::messages::{ChecksumReport, Input, Message, MessageBody, SyncReply};
+use crate::DesyncDetection;
+
+pub const BAD_SETUP: u8 = 1;
+pub const WRONG_STATE: u8 = 2;
+pub const BAD_LENGTH: u8 = 3;
+pub const BAD_FRAME: u8 = 4;
+pub const FULL: u8 = 5;
+pub const OVERFLOW: u8 = 6;
+pub const BAD_HANDLE: u8 = 7;
+pub const BAD_CLOCK: u8 = 8;
+pub const SHORT: u8 = 9;
+pub const BAD_KIND: u8 = 10;
+pub const BAD_BOOL: u8 = 11;
+pub const TOO_LONG: u8 = 12;
+pub const EXTRA: u8 = 13;
+pub const NOT_SYNCHRONIZED: u8 = 14;
+pub const NOT_ENOUGH_DATA: u8 = 15;
+pub const PREDICTION_THRESHOLD: u8 = 16;
+pub const SPECTATOR_TOO_FAR_BEHIND: u8 = 17;
+
+pub const CLOCK_MAX: u64 = (1 << 62) - 1;
+pub const PENDING_MAX: usize = 129;
+pub const EVENTS_MAX: usize = 640;
+pub const NONCES_MAX: usize = 256;
+pub const CHECKSUMS_MAX: usize = 64;
+pub const TIMEOUT_MAX: u64 = 1 << 31;
+/// The crate cleans its checksums up from this many on, and keeps this many less one intervals.
+const CHECKSUM_CLEAN_UP: usize = 32;
+
+/// What document 01 says before anything is done.
+#[derive(Copy, Clone, Debug, PartialEq, Eq)]
+pub enum Verdict {
+    /// The call is refused with this number.
+    Refused(u8),
+    /// Done, 0, and nothing changes.
+    Silent,
+    /// Done.
+    Go,
+}
+
+use Verdict::{Go, Refused, Silent};
+
+/// The first test that holds gives the number.
+fn first_of(tests: &[(bool, u8)]) -> Verdict {
+    match tests.iter().find(|(holds, _)| *holds) {
+        Some((_, number)) => Refused(*number),
+        None => Go,
+    }
+}
+
+fn bad_clock(clock: u64) -> bool {
+    clock > CLOCK_MAX
+}
+
+/// Strict: last + wait < now.
+fn passed(last: u64, wait: u64, now: u64) -> bool {
+    u128::from(last) + u128::from(wait) < u128::from(now)
+}
+
+/// What a call adds, counted after what it frees, against the room there is.
+#[derive(Default, Debug)]
+struct Adds {
+    events: usize,
+    bytes: usize,
+    pending: usize,
+    nonces: usize,
+}
+
+impl Adds {
+    fn full(&self, s: &Snapshot, buffer: usize) -> bool {
+        self.too_many_events(s) || self.no_room(s, buffer) || self.stores_full(s)
+    }
+
+    fn too_many_events(&self, s: &Snapshot) -> bool {
+        s.events.len() + self.events > EVENTS_MAX
+    }
+
+    /// A call that queues nothing asks nothing of the buffer.
+    fn no_room(&self, s: &Snapshot, buffer: usize) -> bool {
+        self.bytes > 0 && s.queued.len() + self.bytes > buffer
+    }
+
+    fn stores_full(&self, s: &Snapshot) -> bool {
+        s.pending.len() + self.pending > PENDING_MAX || s.nonces.len() + self.nonces > NONCES_MAX
+    }
+}
+
+// Sizes of whole messages by kind.
+const SYNC_SIZE: usize = 10;
+const ACK_SIZE: usize = 10;
+const REPORT_SIZE: usize = 24;
+const REPLY_SIZE: usize = 22;
+const CHECKSUM_SIZE: usize = 26;
+const KEEP_ALIVE_SIZE: usize = 6;
+
+fn input_size(statuses: usize, payload: usize) -> usize {
+    31 + 5 * statuses + payload
+}
+
+// ---- setup ----
+
+fn bad_common_setup(s: &Setup) -> bool {
+    !(1..=4).contains(&s.players)
+        || !(1..=16).contains(&s.input_size)
+        || s.max_prediction > 16
+        || s.disconnect_timeout > TIMEOUT_MAX
+        || s.disconnect_notify_start > TIMEOUT_MAX
+        || !(1..=240).contains(&s.fps)
+        || s.magic == 0
+        || (s.desync_on && !(1..=10_000).contains(&s.desync_interval))
+}
+
+fn bad_handles(s: &Setup) -> bool {
+    if !(1..=4).contains(&s.handle_count) {
+        return true;
+    }
+    let handles = &s.handles[..s.handle_count as usize];
+    let repeated = (1..handles.len()).any(|i| handles[..i].contains(&handles[i]));
+    repeated || handles.iter().any(|h| *h > 65_535)
+}
+
+fn bad_local_players(s: &Setup) -> bool {
+    !(1..=4).contains(&s.local_players) || s.local_players > s.players
+}
+
+fn bad_setup(s: &Setup) -> bool {
+    bad_common_setup(s) || bad_handles(s) || bad_local_players(s)
+}
+
+fn bad_spectator_setup(s: &Setup) -> bool {
+    bad_common_setup(s)
+        || !(2..=64).contains(&s.slots)
+        || !(1..=128).contains(&s.session_events)
+        || s.max_frames_behind > 65_535
+        || s.catchup_speed > 65_535
+}
+
+pub fn new(s: &Setup, now: u64) -> Verdict {
+    first_of(&[(bad_clock(now), BAD_CLOCK), (bad_setup(s), BAD_SETUP)])
+}
+
+pub fn spectator_new(s: &Setup, now: u64) -> Verdict {
+    first_of(&[(bad_clock(now), BAD_CLOCK), (bad_spectator_setup(s), BAD_SETUP)])
+}
+
+// ---- handshake ----
+
+fn wrong_state(s: &Snapshot) -> bool {
+    s.phase != Phase::Initializing
+}
+
+pub(crate) fn synchronize(s: &Snapshot, now: u64, epoch: u64, buffer: usize) -> Verdict {
+    let adds = Adds { bytes: SYNC_SIZE, ..Adds::default() };
+    first_of(&[
+        (bad_clock(now) || bad_clock(epoch), BAD_CLOCK),
+        (wrong_state(s), WRONG_STATE),
+        (adds.full(s, buffer), FULL),
+    ])
+}
+
+// ---- messages ----
+
+pub(crate) struct Handed<'a> {
+    pub from: u32,
+    pub message: &'a Message,
+    pub now: u64,
+    pub epoch: u64,
+    pub buffer: usize,
+}
+
+pub(crate) fn message(s: &Snapshot, h: &Handed) -> Verdict {
+    if bad_clock(h.now) || bad_clock(h.epoch) {
+        return Refused(BAD_CLOCK);
+    }
+    if stopped(s, h) {
+        return Silent;
+    }
+    match &h.message.body {
+        MessageBody::Input(body) if !discarded(s, body) => input(s, body, h.buffer),
+        MessageBody::ChecksumReport(body) => checksum_report(s, body, h.buffer),
+        body => {
+            let adds = plain_adds(s, body);
+            first_of(&[(adds.full(s, h.buffer), FULL)])
+        }
+    }
+}
+
+/// A message in Shutdown, from another peer, or stopped by the filter.
+pub(crate) fn stopped(s: &Snapshot, h: &Handed) -> bool {
+    let filtered = s.remote_magic != 0 && h.message.header.magic != s.remote_magic;
+    s.phase == Phase::Shutdown || h.from != s.peer || filtered
+}
+
+/// What a message adds that is neither a kept Input nor a checksum.
+fn plain_adds(s: &Snapshot, body: &MessageBody) -> Adds {
+    let resumed = usize::from(s.resumes());
+    let (events, bytes) = match body {
+        MessageBody::SyncRequest(_) => (0, SYNC_SIZE),
+        MessageBody::SyncReply(reply) => sync_reply_adds(s, reply),
+        MessageBody::QualityReport(_) => (0, REPLY_SIZE),
+        _ => (0, 0),
+    };
+    Adds { events: resumed + events, bytes, ..Adds::default() }
+}
+
+/// Replies 1 to 4 bring an event and a new request, the fifth an event alone.
+/// The nonce spent leaves room for the new one, so the store never fills here.
+fn sync_reply_adds(s: &Snapshot, reply: &SyncReply) -> (usize, usize) {
+    let counts = s.phase == Phase::Synchronizing && s.outstanding(reply.random_reply);
+    match (counts, s.sync_remaining) {
+        (false, _) => (0, 0),
+        (true, 1) => (1, 0),
+        (true, _) => (1, SYNC_SIZE),
+    }
+}
+
+/// No disconnect requested and a wrong status count, or a negative start.
+pub(crate) fn discarded(s: &Snapshot, body: &Input) -> bool {
+    let wrong_count = body.peer_connect_status.len() != s.num_players;
+    (!body.disconnect_requested && wrong_count) || body.start_frame < 0
+}
+
+/// The frame that an Input is packed against: blank while nothing is received, else start - 1.
+pub(crate) fn reference_held(s: &Snapshot, body: &Input) -> bool {
+    s.newest() == -1 || s.holds(body.start_frame - 1)
+}
+
+pub(crate) fn decodable(s: &Snapshot, body: &Input) -> bool {
+    body.bytes.len() % s.receiving_width() == 0
+}
+
+/// An Input that is neither stopped nor discarded.
+fn input(s: &Snapshot, body: &Input, buffer: usize) -> Verdict {
+    let width = s.receiving_width();
+    let too_long = body.bytes.len() > 129 * width;
+    let taken = reference_held(s, body) && decodable(s, body);
+    let last = i64::from(body.start_frame) + (body.bytes.len() / width) as i64 - 1;
+    let announces = body.disconnect_requested && s.phase != Phase::Disconnected && !s.event_sent;
+    let mut adds = Adds::default();
+    adds.events = usize::from(s.resumes()) + usize::from(announces);
+    if taken {
+        let first_new = i64::from(body.start_frame).max(i64::from(s.newest()) + 1);
+        let frames = (last - first_new + 1).max(0) as usize;
+        adds.events += s.handles.len() * frames;
+        adds.bytes = ACK_SIZE;
+    }
+    first_of(&[
+        (too_long, TOO_LONG),
+        (taken && last > i64::from(i32::MAX), OVERFLOW),
+        (adds.full(s, buffer), FULL),
+    ])
+}
+
+fn interval(s: &Snapshot) -> i64 {
+    match s.desync {
+        DesyncDetection::On { interval } => i64::from(interval),
+        DesyncDetection::Off => 1,
+    }
+}
+
+/// With 32 or more stored, those below frame - 31 x interval go first; a stored frame is replaced.
+fn checksum_report(s: &Snapshot, body: &ChecksumReport, buffer: usize) -> Verdict {
+    let cleans = s.checksums.len() >= CHECKSUM_CLEAN_UP;
+    let keep_line = i64::from(body.frame) - (CHECKSUM_CLEAN_UP as i64 - 1) * interval(s);
+    let stays = |frame: i32| !cleans || i64::from(frame) >= keep_line;
+    let others = s.checksums.iter().filter(|(f, _)| stays(*f) && *f != body.frame).count();
+    let adds = Adds { events: usize::from(s.resumes()), ..Adds::default() };
+    first_of(&[
+        (cleans && keep_line < i64::from(i32::MIN), OVERFLOW),
+        (adds.full(s, buffer) || others + 1 > CHECKSUMS_MAX, FULL),
+    ])
+}
+
+// ---- act ----
+
+pub(crate) struct Acting {
+    /// The raw count of the status list.
+    pub statuses: usize,
+    pub now: u64,
+    pub epoch: u64,
+    pub nonce: u32,
+    pub buffer: usize,
+}
+
+/// A status list not of num_players entries.
+fn bad_status_count(s: &Snapshot, statuses: usize) -> bool {
+    statuses != s.num_players
+}
+
+pub(crate) fn act(s: &Snapshot, a: &Acting) -> Verdict {
+    first_of(&[
+        (bad_clock(a.now) || bad_clock(a.epoch), BAD_CLOCK),
+        (bad_status_count(s, a.statuses), BAD_LENGTH),
+        (act_adds(s, a).full(s, a.buffer), FULL),
+    ])
+}
+
+fn act_adds(s: &Snapshot, a: &Acting) -> Adds {
+    match s.phase {
+        Phase::Synchronizing if passed(s.clocks.sync_request, 200, a.now) => {
+            Adds { bytes: SYNC_SIZE, nonces: usize::from(!s.outstanding(a.nonce)), ..Adds::default() }
+        }
+        Phase::Running => running_adds(s, a.now),
+        _ => Adds::default(),
+    }
+}
+
+/// Resend, report, keepalive, interruption, disconnect; the keepalive looks at the send time
+/// that the two before it just set.
+fn running_adds(s: &Snapshot, now: u64) -> Adds {
+    let mut adds = Adds::default();
+    if passed(s.clocks.input_recv, 200, now) && !s.pending.is_empty() {
+        adds.bytes += input_size(s.num_players, s.pending.len() * s.sending_width());
+    }
+    if passed(s.clocks.quality_report, 200, now) {
+        adds.bytes += REPORT_SIZE;
+    }
+    let sent = if adds.bytes > 0 { now } else { s.clocks.send };
+    if passed(sent, 200, now) {
+        adds.bytes += KEEP_ALIVE_SIZE;
+    }
+    let interrupted = !s.notify_sent && passed(s.clocks.recv, s.disconnect_notify_start, now);
+    let disconnected = !s.event_sent && passed(s.clocks.recv, s.disconnect_timeout, now);
+    adds.events = usize::from(interrupted) + usize::from(disconnected);
+    adds
+}
+
+// ---- sending ----
+
+pub(crate) struct Sending {
+    pub frame: i32,
+    /// The length of the input's bytes.
+    pub bytes: usize,
+    pub statuses: usize,
+    pub now: u64,
+    pub buffer: usize,
+}
+
+fn bad_length(s: &Snapshot, a: &Sending) -> bool {
+    bad_status_count(s, a.statuses) || a.bytes != s.sending_width()
+}
+
+pub(crate) fn send_input(s: &Snapshot, a: &Sending) -> Verdict {
+    if bad_clock(a.now) {
+        return Refused(BAD_CLOCK);
+    }
+    if bad_length(s, a) {
+        return Refused(BAD_LENGTH);
+    }
+    if s.phase != Phase::Running {
+        return Silent;
+    }
+    let pending = s.pending.len() + 1;
+    let adds = Adds {
+        events: usize::from(pending == PENDING_MAX),
+        bytes: input_size(a.statuses, pending * s.sending_width()),
+        pending: 1,
+        nonces: 0,
+    };
+    first_of(&[(bad_frame(s, a.frame), BAD_FRAME), (adds.full(s, a.buffer), FULL)])
+}
+
+/// Negative, or not one above the last accepted frame where there is one.
+fn bad_frame(s: &Snapshot, frame: i32) -> bool {
+    match s.last_accepted() {
+        Some(last) => frame < 0 || i64::from(frame) != i64::from(last) + 1,
+        None => frame < 0,
+    }
+}
+
+/// Queues in every phase, in Shutdown too.
+pub(crate) fn send_checksum_report(s: &Snapshot, now: u64, buffer: usize) -> Verdict {
+    let adds = Adds { bytes: CHECKSUM_SIZE, ..Adds::default() };
+    first_of(&[(bad_clock(now), BAD_CLOCK), (adds.full(s, buffer), FULL)])
+}
+
+pub(crate) fn disconnect(s: &Snapshot, now: u64) -> Verdict {
+    match (bad_clock(now), s.phase) {
+        (true, _) => Refused(BAD_CLOCK),
+        (false, Phase::Shutdown) => Silent,
+        (false, _) => Go,
+    }
+}
+
+// ---- advantage, statistics, status ----
+
+/// newest + (min(rtt / 2, i32 max) x fps) / 1000 - local frame, each step within i32.
+pub fn advantage_overflow(newest: i32, rtt: u64, fps: usize, local_frame: i32) -> bool {
+    if local_frame == -1 || newest == -1 {
+        return false;
+    }
+    let fits = |n: i64| i32::try_from(n).is_ok();
+    let ping = i64::try_from(rtt / 2).unwrap_or(i64::MAX).min(i64::from(i32::MAX));
+    let product = ping * fps as i64;
+    let remote = i64::from(newest) + product / 1000;
+    let advantage = remote - i64::from(local_frame);
+    !(fits(product) && fits(remote) && fits(advantage))
+}
+
+pub(crate) fn update_local_frame_advantage(s: &Snapshot, local_frame: i32) -> Verdict {
+    let overflow = advantage_overflow(s.newest(), s.round_trip_time, s.fps, local_frame);
+    first_of(&[(overflow, OVERFLOW)])
+}
+
+/// As in the crate; 15 also when the epoch clock is before the start.
+pub(crate) fn network_stats(s: &Snapshot, epoch: u64) -> Verdict {
+    let known = matches!(s.phase, Phase::Synchronizing | Phase::Running);
+    first_of(&[
+        (bad_clock(epoch), BAD_CLOCK),
+        (!known, NOT_SYNCHRONIZED),
+        (epoch < s.stats_start || epoch - s.stats_start < 1000, NOT_ENOUGH_DATA),
+    ])
+}
+
+fn bad_handle(s: &Snapshot, handle: u32) -> bool {
+    handle as usize >= s.num_players
+}
+
+pub(crate) fn peer_connect_status(s: &Snapshot, handle: u32) -> Verdict {
+    first_of(&[(bad_handle(s, handle), BAD_HANDLE)])
+}
+
+/// In Shutdown with any buffer; else the queued bytes must lie in it.
+pub(crate) fn take_messages(s: &Snapshot, buffer: usize) -> Verdict {
+    let short = s.phase != Phase::Shutdown && buffer < s.queued.len();
+    first_of(&[(short, FULL)])
+}
+
+// ---- spectator ----
+
+/// As the host's act, but events never count and what is queued is taken from the same buffer.
+pub(crate) fn poll(s: &SpectatorSnapshot, a: &Acting) -> Verdict {
+    let adds = act_adds(&s.host, a);
+    let bytes = s.host.queued.len() + adds.bytes;
+    first_of(&[
+        (bad_clock(a.now) || bad_clock(a.epoch), BAD_CLOCK),
+        (bytes > a.buffer || adds.stores_full(&s.host), FULL),
+    ])
+}
+
+/// newest - current.
+pub(crate) fn frames_behind(s: &SpectatorSnapshot) -> Verdict {
+    let behind = i64::from(s.last_recv_frame) - i64::from(s.current_frame);
+    first_of(&[(i32::try_from(behind).is_err(), OVERFLOW)])
+}
+
+/// Catch-up 0 looks at no slot, so it is neither 16 nor 17.
+pub(crate) fn advance(s: &SpectatorSnapshot) -> Verdict {
+    if !s.running {
+        return Refused(NOT_SYNCHRONIZED);
+    }
+    if frames_behind(s) != Go || s.current_frame == i32::MAX {
+        return Refused(OVERFLOW);
+    }
+    let behind = (s.last_recv_frame - s.current_frame) as usize;
+    if behind > s.max_frames_behind && s.catchup_speed == 0 {
+        return Go;
+    }
+    let wanted = s.current_frame + 1;
+    let held = s.slots[wanted as usize % s.slots.len()][0].frame;
+    first_of(&[(held < wanted, PREDICTION_THRESHOLD), (held > wanted, SPECTATOR_TOO_FAR_BEHIND)])
+}

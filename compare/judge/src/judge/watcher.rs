@@ -1,0 +1,63 @@
+//! The spectator session of the crate with the values that stand outside it.
+
+use super::config::{set_input_size, Cfg};
+use super::end::{protocol, reorder, Readings};
+use super::record::Setup;
+use super::snapshot::SpectatorSnapshot;
+use super::socket::Catch;
+use crate::sessions::builder::set_constants;
+use crate::SpectatorSession;
+
+pub(crate) struct Watcher {
+    pub session: SpectatorSession<Cfg>,
+    pub input_size: usize,
+    slots: usize,
+    session_events: usize,
+    nonces: Vec<u32>,
+    socket: Catch,
+}
+
+impl Watcher {
+    /// Its handles are 0 up to players - 1; the host's endpoint has one local player (OP-51).
+    pub fn new(setup: &Setup, now: u64) -> Self {
+        let input_size = setup.input_size as usize;
+        let (slots, session_events) = (setup.slots as usize, setup.session_events as usize);
+        set_input_size(input_size);
+        set_constants(slots, session_events);
+        Readings { now: Some(now), magic: Some(setup.magic), ..Readings::default() }.set();
+        let host = protocol(setup, (0..setup.players as usize).collect(), 1);
+        let socket = Catch::default();
+        let session = SpectatorSession::new(
+            setup.players as usize,
+            socket.boxed(),
+            host,
+            setup.max_frames_behind as usize,
+            setup.catchup_speed as usize,
+        );
+        Self { session, input_size, slots, session_events, nonces: Vec::new(), socket }
+    }
+
+    fn enter(&self, readings: Readings) {
+        set_input_size(self.input_size);
+        set_constants(self.slots, self.session_events);
+        readings.set();
+    }
+
+    pub fn run<R>(&mut self, readings: Readings, call: impl FnOnce(&mut SpectatorSession<Cfg>) -> R) -> R {
+        self.enter(readings);
+        let result = call(&mut self.session);
+        let issued = readings.nonce.filter(|_| rand::nonce_drawn());
+        reorder(&mut self.nonces, self.session.host().outstanding_nonces(), issued);
+        result
+    }
+
+    /// The bytes that the session sent in the call before.
+    pub fn sent(&self) -> Vec<u8> {
+        self.socket.take()
+    }
+
+    pub fn snapshot(&self) -> SpectatorSnapshot {
+        self.enter(Readings::default());
+        self.session.snapshot(&self.nonces)
+    }
+}

@@ -1,0 +1,28 @@
+//! Stands in for src/network/compression.rs: document 01's packing.
+//! Each frame XOR the one reference, end to end; decodable exactly when the length is a multiple of W.
+
+pub(crate) fn encode<'a>(reference: &[u8], pending_input: impl Iterator<Item = &'a Vec<u8>>) -> Vec<u8> {
+    let mut packed = Vec::new();
+    for input in pending_input {
+        packed.extend(xor(reference, input));
+    }
+    packed
+}
+
+pub(crate) fn decode(
+    reference: &[u8],
+    data: &[u8],
+) -> Result<Vec<Vec<u8>>, Box<dyn std::error::Error + Send + Sync>> {
+    if data.len() % reference.len() != 0 {
+        return Err("not a multiple of the reference's length".into());
+    }
+    let mut inputs = Vec::new();
+    for part in data.chunks(reference.len()) {
+        inputs.push(xor(reference, part));
+    }
+    Ok(inputs)
+}
+
+fn xor(reference: &[u8], input: &[u8]) -> Vec<u8> {
+    reference.iter().zip(input).map(|(a, b)| a ^ b).collect()
+}

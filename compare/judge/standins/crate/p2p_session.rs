@@ -1,0 +1,4 @@
+//! Stands in for a file that was not given.
+
+/// Not used.
+pub struct P2PSession;

@@ -1,0 +1,74 @@
+-- What the codec's calls answer, over the definitions of bytes and of reading.
+use mathlib.Core.Path.{_≡_}
+use mathlib.Core.Bool.{Bool, true, false}
+use mathlib.Core.List.{List, [], _∷_}
+use Prim.Native.Nat.{ℕ, _+_, _-_}
+use lib.Dec.{ltb, eqb}
+use lib.ListN.{length, drop}
+use Rattle.base.specs.Pick.{pick}
+use Rattle.base.specs.First.{firstOf}
+use Rattle.base.specs.Lay.{noRoom, laidAt}
+use Rattle.answer.specs.Number.{numberOf}
+use Rattle.codec.specs.Sizes.{maxStatuses, maxPayload}
+use Rattle.codec.specs.Message.{Wire, Fits, isInput, meant, sizeWith}
+use Rattle.codec.specs.Bytes.{head, bytes}
+use Rattle.codec.specs.Read.{message, datagram, numberIn, wireIn, leftIn}
+use Rattle.codec.specs.declared.Message.{Message}
+use Rattle.codec.specs.declared.Size.{Size}
+use Rattle.codec.specs.declared.Size.the-variants.{Bytes, TooLong}
+use Rattle.codec.specs.declared.Written.{Written}
+use Rattle.codec.specs.declared.Received.{Received}
+use Rattle.codec.specs.declared.Cut.{Cut}
+
+-- more than 4 statuses or 8,256 payload bytes to be written: only an Input has either
+unfoldable pub tooLong : Message → ℕ → Bool
+tooLong m n = pick (isInput (m .body)) (pick (ltb maxStatuses (m .reports .count)) true (ltb maxPayload n)) false
+
+-- the bytes of a message with a payload of n bytes
+abbrev pub sizeFor : Message → ℕ → ℕ
+sizeFor m n = sizeWith (m .body) (m .reports .count) n
+
+-- document 01's number and value for each case
+abbrev pub shownSize : Size → ℕ × ℕ
+shownSize (Bytes n) = (0, n)
+shownSize TooLong = (12, 0)
+
+abbrev pub sizeAs : Message → ℕ → ℕ × ℕ
+sizeAs m n = pick (tooLong m n) (12, 0) (0, sizeFor m n)
+
+-- a writer's refusals, in order
+unfoldable pub writeRefusal : List ℕ → ℕ → Message → ℕ → ℕ
+writeRefusal buffer at m n = firstOf ((tooLong m n, 12) ∷ (noRoom buffer at (sizeFor m n), 5) ∷ [])
+
+-- on a refusal nothing is written; otherwise the piece of a message stands at its place and the answer tells where it ends. What is written
+-- fits, as every value of the code's types within the counts does
+pub record LaidAs (buffer : List ℕ) (at refusal : ℕ) (w : Wire) (piece : List ℕ) (r : Written) (buffer′ : List ℕ) : Type 0 where
+  pub answer : numberOf (r .answer) ≡ refusal
+  pub end : r .end ≡ pick (eqb refusal 0) (at + length piece) at
+  pub lent : buffer′ ≡ pick (eqb refusal 0) (laidAt buffer at piece) buffer
+  pub fits : refusal ≡ 0 → Fits w
+
+abbrev pub WrittenAs : List ℕ → ℕ → Message → List ℕ → Written → List ℕ → Type 0
+WrittenAs buffer at m payload =
+    LaidAs buffer at (writeRefusal buffer at m (length payload)) (meant m payload) (bytes (meant m payload))
+
+-- an Input's payload of n bytes is left to the caller, who puts it at the end
+abbrev pub HeadAs : List ℕ → ℕ → Message → ℕ → Written → List ℕ → Type 0
+HeadAs buffer at m n = LaidAs buffer at (writeRefusal buffer at m n) (meant m []) (head (meant m []) n)
+
+-- the payload of a datagram that reads, empty where it does not or is no Input; it is the last part of the datagram
+abbrev pub payloadIn : List ℕ → List ℕ
+payloadIn d = wireIn (datagram d) .payload
+
+pub record ReadAs (d : List ℕ) (r : Received) : Type 0 where
+  pub answer : numberOf (r .answer) ≡ numberIn (datagram d)
+  pub message : meant (r .message) (payloadIn d) ≡ wireIn (datagram d)
+  pub count : r .message .reports .count ≡ length (wireIn (datagram d) .reports)
+
+pub record PayloadAs (d r : List ℕ) : Type 0 where
+  pub part : r ≡ drop (length d - length (payloadIn d)) d
+  pub payload : r ≡ payloadIn d
+
+pub record CutAs (queue : List ℕ) (r : Cut) : Type 0 where
+  pub answer : numberOf (r .answer) ≡ numberIn (message queue)
+  pub end : r .end ≡ pick (eqb (numberIn (message queue)) 0) (length queue - length (leftIn (message queue))) 0

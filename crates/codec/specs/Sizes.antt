@@ -1,0 +1,17 @@
+-- Document 01, "Messages": the one table of sizes, and the two counts that are limited.
+use mathlib.Core.List.{List, [], _∷_}
+use Prim.Native.Nat.{ℕ}
+use lib.ListN.{getD}
+
+-- total sizes by kind; an Input adds 5 per status and 1 per payload byte
+abbrev pub sizes : List ℕ
+sizes = 10 ∷ 10 ∷ 31 ∷ 10 ∷ 24 ∷ 22 ∷ 26 ∷ 6 ∷ []
+
+abbrev pub fixedSize : ℕ → ℕ
+fixedSize kind = getD sizes kind 0
+
+abbrev pub maxStatuses : ℕ
+maxStatuses = 4
+
+abbrev pub maxPayload : ℕ
+maxPayload = 8256

@@ -1,0 +1,30 @@
+-- One player's connection status: whether the player is disconnected, and the last frame (biased) that is had from the player.
+use mathlib.Core.Path.{_≡_, refl}
+use mathlib.Core.Bool.{Bool, true, false, _||_}
+use Prim.Native.Nat.{ℕ, max}
+use Rattle.frame.specs.Bias.{nullFrame}
+use Rattle.status.specs.declared.ConnectionStatus.{ConnectionStatus}
+
+-- before anything is heard
+unfoldable pub defaultStatus : ConnectionStatus
+defaultStatus = record { disconnected = false; «last_frame» = nullFrame }
+
+-- the status that a report of two fields gives: the one way by which a report enters the record
+unfoldable pub reported : Bool → ℕ → ConnectionStatus
+reported d f = record { disconnected = d; «last_frame» = f }
+
+-- `disconnected` is the or, `last_frame` the maximum
+unfoldable pub merged : ConnectionStatus → ConnectionStatus → ConnectionStatus
+merged x y = record {
+  disconnected = x .disconnected || y .disconnected;
+  «last_frame» = max (x .«last_frame») (y .«last_frame»);
+}
+
+-- worked: a disconnected player stays so when a later report says false, and the later frame stays
+flag-stays : merged (reported true 7) (reported false 9) .disconnected ≡ true
+unfolding merged reported
+flag-stays = refl
+
+later-stays : merged (reported true 9) (reported false 7) .«last_frame» ≡ 9
+unfolding merged reported
+later-stays = refl

@@ -1,0 +1,32 @@
+-- The statuses of all players, as a list by handle: what the store holds, and what merging does to it.
+use mathlib.Core.Path.{_≡_, refl}
+use mathlib.Core.Bool.{true, false}
+use mathlib.Core.List.{List, [], _∷_}
+use Prim.Native.Nat.{ℕ, min}
+use lib.ListN.{take, replicate, getD, set}
+use Rattle.status.specs.declared.ConnectionStatus.{ConnectionStatus}
+use Rattle.status.specs.declared.list.Statuses.{Statuses}
+use Rattle.status.specs.Status.{defaultStatus, merged, reported}
+
+-- the statuses held; a count beyond the array counts as the array's length
+unfoldable pub held : Statuses → List ConnectionStatus
+held s = take (s .count) (s .list)
+
+-- the default for each player, of whom there are at most 4
+unfoldable pub fresh : ℕ → List ConnectionStatus
+fresh players = replicate (min players 4) defaultStatus
+
+-- the status at a place merged with another; nothing changes where there is no such place
+unfoldable pub mergedAt : ℕ → ConnectionStatus → List ConnectionStatus → List ConnectionStatus
+mergedAt at y xs = set xs at (merged (getD xs at defaultStatus) y)
+
+-- place by place; what has no partner stays, and partners beyond the end are left out
+unfoldable pub mergedAll : List ConnectionStatus → List ConnectionStatus → List ConnectionStatus
+mergedAll [] ys = []
+mergedAll (x ∷ xs) [] = x ∷ xs
+mergedAll (x ∷ xs) (y ∷ ys) = merged x y ∷ mergedAll xs ys
+
+-- worked: the second player has no partner, and stays
+merged-all-example : mergedAll (reported false 5 ∷ reported true 6 ∷ []) (reported false 8 ∷ []) ≡ reported false 8 ∷ reported true 6 ∷ []
+unfolding mergedAll merged reported
+merged-all-example = refl

@@ -1,0 +1,80 @@
+// The status records of all players of a game, in the order of their handles.
+ghost use mathlib.Core.Path.{_≡_};
+ghost use Prim.Native.Nat.{min};
+ghost use lib.ListN.{length, getD};
+ghost use Rattle.status.specs.Status.{defaultStatus, reported};
+ghost use Rattle.status.specs.Statuses.{held, fresh, mergedAt, mergedAll};
+use crate::ConnectionStatus;
+
+pub struct Statuses {
+    pub list: [ConnectionStatus; 4],
+    pub count: usize,
+}
+
+impl Statuses {
+    // One for each player, at most 4.
+    pub fn new(players: usize) -> Statuses
+        ensures { λ r. ⌜ held r ≡ fresh players ⌝ }
+    {
+        let status = ConnectionStatus::default();
+        let list = [status; 4];
+        Statuses {
+            list,
+            count: at_most_four(players),
+        }
+    }
+
+    pub fn count(self) -> usize
+        ensures { λ r. ⌜ r ≡ length (held self) ⌝ }
+    {
+        at_most_four(self.count)
+    }
+
+    // The status at a place, or the default where there is none.
+    pub fn get(self, at: usize) -> ConnectionStatus
+        ensures { λ r. ⌜ r ≡ getD (held self) at defaultStatus ⌝ }
+    {
+        if at < self.count() {
+            return self.list[at];
+        }
+        ConnectionStatus::default()
+    }
+
+    // One place merged with a status; nothing changes where there is no such place.
+    pub fn merge_at(self, at: usize, other: ConnectionStatus) -> Statuses
+        ensures { λ r. ⌜ held r ≡ mergedAt at other (held self) ⌝ }
+    {
+        let mut next = self;
+        if at < self.count() {
+            next.list[at] = self.get(at).merge(other);
+        }
+        next
+    }
+
+    // The same for a report as it travels.
+    pub fn merge_report(self, at: usize, disconnected: bool, last_frame: u32) -> Statuses
+        ensures { λ r. ⌜ held r ≡ mergedAt at (reported disconnected «last_frame») (held self) ⌝ }
+    {
+        self.merge_at(at, ConnectionStatus::reported(disconnected, last_frame))
+    }
+
+    // Each place merged with the same place of the other, where it has one.
+    pub fn merge(self, other: Statuses) -> Statuses
+        ensures { λ r. ⌜ held r ≡ mergedAll (held self) (held other) ⌝ }
+    {
+        let n = other.count();
+        let mut next = self;
+        let mut i = 0;
+        while i < n {
+            next = next.merge_at(i, other.get(i));
+            i += 1;
+        }
+        next
+    }
+}
+
+fn at_most_four(n: usize) -> usize
+    ensures { λ r. ⌜ r ≡ min n 4 ⌝ }
+{
+    if n < 4 { n } else { 4 }
+}

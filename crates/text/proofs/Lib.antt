@@ -1,0 +1,5 @@
+pub mod AppendLaws
+pub mod DecimalLaws
+pub mod HexLaws
+pub mod NumeralLaws
+pub mod TenthLaws
