@@ -5,3 +5,5 @@ pub mod Little
 pub mod Orders
 pub mod Digits
 pub mod Bytes
+pub mod Shifts
+pub mod Removal

@@ -2,3 +2,4 @@ pub mod Pick
 pub mod First
 pub mod Lay
 pub mod Little
+pub mod Keyed
