@@ -7,3 +7,5 @@ pub mod Digits
 pub mod Bytes
 pub mod Shifts
 pub mod Removal
+pub mod Settled
+pub mod Lines

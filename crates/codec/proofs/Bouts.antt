@@ -2,10 +2,11 @@
 use mathlib.Core.Path.{_≡_, refl}
 use mathlib.Core.List.{List, [], _∷_, _++_}
 use Prim.Native.Nat.{ℕ}
+use native.Mathlib.Omega.{arith}
 use lib.ListN.{take}
 use Rattle.base.specs.Little.{le, unle}
 use Rattle.frame.specs.Bias.{bitsOf, nullFrame}
-use Rattle.codec.specs.Message.{Wire, kindOf}
+use Rattle.codec.specs.Message.{Wire, Fits, kindOf, isInput}
 use Rattle.codec.specs.Bytes.{frameBytes, bodyBytes, head, bytes}
 use Rattle.codec.specs.Read.{part, number, frame, plain, kinds, message, datagram, numberIn}
 use Rattle.codec.specs.declared.MessageBody.the-variants.{InputAck}
@@ -29,3 +30,17 @@ P2-short = refl
 pub P2-extra : (b : ℕ) → numberIn (datagram (p1Bytes ++ b ∷ [])) ≡ 13
 unfolding datagram message kinds frame number part unle bitsOf
 P2-extra b = refl
+
+-- P1's message is one that its bytes tell
+pub p1-fits : Fits p1Message
+unfolding isInput
+p1-fits =
+    record {
+      magic = omega arith;
+      body = omega arith;
+      frames = λ i d h. absurd (omega arith);
+      statuses = omega arith;
+      length = omega arith;
+      bytes = λ i. omega arith;
+      none = λ e. (refl, refl);
+    }

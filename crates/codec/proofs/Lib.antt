@@ -16,3 +16,4 @@ pub mod Laws
 pub mod Settled
 pub mod Examples
 pub mod Bouts
+pub mod Meant

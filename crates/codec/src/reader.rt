@@ -15,7 +15,7 @@ use frame::NULL_FRAME;
 ghost use mathlib.Core.Path.{_≡_};
 ghost use Prim.Native.Nat.{_+_, _*_, _≤_, _<_};
 ghost use lib.ListN.{length, drop};
-ghost use Rattle.frame.specs.Bias.{bias32, bias16, bitsOf};
+ghost use Rattle.frame.specs.Bias.{bias32, bitsOf};
 ghost use Rattle.answer.specs.Number.{numberOf};
 ghost use Rattle.codec.specs.Message.{listed};
 ghost use Rattle.codec.specs.Read.{message, datagram, report, numberIn};

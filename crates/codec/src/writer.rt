@@ -74,6 +74,7 @@ pub fn write_head(out: &mut [u8], at: usize, message: Message, length: usize) ->
     }
 }
 
+// Writes a message with its payload.
 pub fn write(out: &mut [u8], at: usize, message: Message, payload: &[u8]) -> Written
     ensures { λ r. ⌜ WrittenAs (now (out .entry)) at message (now (payload .entry)) r (now (out .exit)) ⌝ }
 {

@@ -1,0 +1,34 @@
+// A datagram's line up to the payload.
+use crate::body::fields;
+use crate::body::kind;
+use crate::draft::Draft;
+use crate::draft::empty;
+use crate::field::number;
+use codec::Message;
+ghost use Prim.Native.Nat.{_≤_};
+ghost use Rattle.codec.specs.Message.{listed};
+ghost use Rattle.message_line.specs.Draft.{headOf, Holds};
+ghost use Rattle.message_line.specs.Line.{headText};
+
+// The payload has `length` bytes.
+pub(crate) fn head_of(datagram: &[u8], length: usize) -> Draft
+    ensures { λ r. ⌜ Holds (headOf (now (datagram .entry)) length) 250 r ⌝ }
+{
+    let received = codec::read(datagram);
+    let answer = received.answer;
+    let refusal = answer.number();
+    if refusal != 0 {
+        return number(empty(), b"refused ", refusal as u64);
+    }
+    let message = received.message;
+    head(message, length)
+}
+
+fn head(message: Message, length: usize) -> Draft
+    requires { ⌜ message .reports .count ≤ 4 ⌝ }
+    ensures { λ r. ⌜ Holds (headText (message .magic) (message .body) (listed (message .reports)) length) 250 r ⌝ }
+{
+    let body = message.body;
+    let next = number(kind(body), b" magic ", message.magic as u64);
+    fields(next, message, length)
+}
