@@ -2,10 +2,12 @@ pub mod Arrays
 pub mod Tags
 pub mod Lay
 pub mod Little
+pub mod Bytes
 pub mod Orders
 pub mod Digits
-pub mod Bytes
+pub mod Lines
 pub mod Shifts
+pub mod Kept
+pub mod Padded
 pub mod Removal
 pub mod Settled
-pub mod Lines

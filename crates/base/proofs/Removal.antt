@@ -1,56 +1,17 @@
--- Laws of keyed elements (specs/Keyed.antt), over the element type and its key: the loops of a store that search or sift its view, and what holds of the list before and after.
+-- Laws of keyed elements (specs/Keyed.antt), over the element type and its key: the loops of a store that search its view, and what holds of the list before and after.
 use borrow.Author.Tests.{eq-eqb, ne-eqb, eqb-true, eqb-false, lt-ltb}
 use mathlib.Core.Bool.{Bool, true, false, not}
-use mathlib.Core.List.{List, [], _∷_, _++_, append-nil}
+use mathlib.Core.List.{List, [], _∷_, _++_}
 use mathlib.Core.Path.{_≡_, refl, sym, _∙_, ap}
 use Prim.Native.Nat.{compare·suc-suc, ℕ, zero, suc, _+_, _<_, _≤_}
 use native.Mathlib.Omega.{arith}
-use native.Mathlib.Numerals.{add-one}
 use lib.Dec.{eqb, ltb}
 use lib.ListN.{length, take, drop, set, getD, drop-of-length-le}
-use lib.Seq.{drop-cons, take-suc-set, append-snoc}
 use Rattle.base.specs.Pick.{pick}
 use Rattle.base.specs.Keyed.{kept, has, firstWith, place, without, put, Distinct}
-use Rattle.base.proofs.Arrays.{view-at}
+use Rattle.base.proofs.Kept.{view-cons, kept-length}
 
 module _ {X : Type 0} where
-  -- below the length what stands for no element does not matter
-  pub getD-any : (l : List X) (i : ℕ) (d e : X) → i < length l → getD l i d ≡ getD l i e
-  getD-any [] i d e h = absurd (omega arith)
-  getD-any (x ∷ xs) zero d e h = refl
-  getD-any (x ∷ xs) (suc i) d e h = getD-any xs i d e (omega arith)
-
-  -- an element written behind the first w of an array stands before what is to follow
-  pub next-turn : (l : List X) (w : ℕ) (x : X) (rest : List X) → w < length l → take (w + 1) (set l w x) ++ rest ≡ take w l ++ x ∷ rest
-  next-turn l w x rest h = rw (add-one, take-suc-set, append-snoc)
-
-  -- what is left of a view at i: its element, and the rest
-  pub view-cons : (u : ℕ) (L : List X) (i : ℕ) (d : X) → i < length (take u L) → drop i (take u L) ≡ getD L i d ∷ drop (i + 1) (take u L)
-  view-cons u L i d h = rw (add-one, drop-cons (take u L) i d h, view-at u L i d h)
-
-  -- a loop that writes what passes a test of a view u L behind what passed before it, into l: its two turns, and its end
-  module _ (p : X → Bool) (u : ℕ) (L l : List X) (w i : ℕ) where
-    module _ (d : X) (T : List X) (h : i < length (take u L)) (inv : take w l ++ kept p (drop i (take u L)) ≡ T) where
-      pub keep-turn : w < length l → p (getD L i d) ≡ true → take (w + 1) (set l w (getD L i d)) ++ kept p (drop (i + 1) (take u L)) ≡ T
-      unfolding kept
-      keep-turn r e = next-turn l w (getD L i d) (kept p (drop (i + 1) (take u L))) r ∙ (rw (view-cons u L i d h, e) at inv)
-
-      pub leave-turn : p (getD L i d) ≡ false → take w l ++ kept p (drop (i + 1) (take u L)) ≡ T
-      unfolding kept
-      leave-turn e = rw (view-cons u L i d h, e) at inv
-
-    pub keep-end : length (take u L) ≤ i → take w l ++ kept p (drop i (take u L)) ≡ kept p (take u L) → take w l ≡ kept p (take u L)
-    unfolding kept
-    keep-end h inv = sym (append-nil (take w l)) ∙ (rw (drop-of-length-le (take u L) h) at inv)
-
-  -- what is kept is no longer
-  pub kept-length : (p : X → Bool) (l : List X) → length (kept p l) ≤ length l
-  unfolding kept
-  kept-length p [] = omega arith
-  kept-length p (x ∷ xs) =
-      let n = kept-length p xs in
-      elim (p x) as (λ b. length (pick b (x ∷ kept p xs) (kept p xs)) ≤ suc (length xs)) [ true ↦ omega arith | false ↦ omega arith ]
-
   -- a loop that looks for a key in a view
   module _ (key : X → ℕ) (k u : ℕ) (L : List X) (i : ℕ) where
     module _ (d : X) (h : i < length (take u L)) where

@@ -27,7 +27,7 @@ put-frame-requires-2 c κs =
     let second = c .before .before .before .put-frame in
     let first = c .before .before .before .before .before .before .before .put-flag in
     let a = c .before .before .before .before .before .before .before .before .before .before .args in
-    omega (arith, first .ensures .next, second .ensures .next, frame-length (a .start-frame), first .kept .0, second .kept .0)
+    omega (arith, first .ensures .next, second .ensures .next, frame-length (a .start-frame), frame-length (a .ack-frame), first .kept .0, second .kept .0)
 
 put8-requires : tie.Need-put8-requires
 unfolding flagBytes

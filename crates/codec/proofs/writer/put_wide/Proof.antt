@@ -18,7 +18,7 @@ put8-requires-2 : tie.Need-put8-requires-2
 put8-requires-2 c κs =
     let first = c .before .before .before .put8 in
     let a = c .before .before .before .before .before .before .args in
-    omega (arith, first .ensures .next, le-length 8 (a .wide .low), first .kept .0)
+    omega (arith, first .ensures .next, le-length 8 (a .wide .low), le-length 8 (a .wide .high), first .kept .0)
 
 same-length : tie.Need-same-length
 same-length c = search needs

@@ -1,0 +1,29 @@
+-- `find` reads the first place of the frame, which is below the count exactly where the frame is stored.
+use borrow.Author.Needs.{needs}
+use mathlib.Core.Path.{_∙_}
+use Rattle.base.proofs.Removal.{has-place, first-place}
+use Rattle.checksums.specs.Checksums.{stored, frameOf, blank}
+use Rattle.checksums.proofs.Checksums.find.Statement.{statement}
+use Rattle.checksums.proofs.Checksums.find.Tie as tie
+
+count-requires : tie.Need-count-requires
+count-requires c κs = search needs
+
+place-requires : tie.Need-place-requires
+place-requires c κs = search needs
+
+entry-requires : tie.Need-entry-requires
+entry-requires c κs = search needs
+
+returns : tie.Need-returns
+returns c =
+    let a = c .before .before .before .args in
+    let n = c .before .before .count .ensures in
+    let i = c .before .place .ensures in
+    record {
+      found = rw (n, i, has-place frameOf (a .frame) (stored (a .self)));
+      checksum = c .entry .ensures ∙ rw (i, first-place frameOf (a .frame) blank (stored (a .self)));
+    }
+
+pub find-spec : {M : Type 1} → statement M
+find-spec = tie.close (tie.spec count-requires place-requires entry-requires returns)

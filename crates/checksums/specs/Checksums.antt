@@ -1,0 +1,81 @@
+-- The checksums reported, and what one more report does to them (document 01, Checksums; the crate's `on_checksum_report`).
+use mathlib.Core.Bool.{Bool, true, false, not}
+use mathlib.Core.List.{List, [], _∷_}
+use mathlib.Core.Path.{_≡_, refl}
+use Prim.Native.Nat.{ℕ, _-_, _*_}
+use lib.Dec.{leb, ltb}
+use lib.ListN.{length, take}
+use Rattle.base.specs.Pick.{pick}
+use Rattle.base.specs.Keyed.{kept, has, firstWith, put}
+use Rattle.checksums.specs.declared.Checksum.{Checksum}
+use Rattle.checksums.specs.declared.Checksums.{Checksums}
+use Rattle.checksums.specs.declared.Found.{Found}
+use Rattle.checksums.specs.declared.Put.{Put}
+use Rattle.checksums.specs.declared.Reported.{Reported}
+
+-- the checksums stored, each at the place of its frame's first report; a count beyond the array is the array's length
+unfoldable pub stored : Checksums → List Checksum
+stored s = take (s .used) (s .entries)
+
+abbrev pub frameOf : Checksum → ℕ
+frameOf c = c .frame
+
+-- what stands for no checksum
+abbrev pub blank : Checksum
+blank = record { frame = 0; low = 0; high = 0 }
+
+-- those of a frame or later
+abbrev pub keptFrom : ℕ → List Checksum → List Checksum
+keptFrom oldest l = kept (λ c. leb oldest (c .frame)) l
+
+-- with 32 or more stored, those are kept that are at most 31 intervals older than the arriving frame
+unfoldable pub cleaned : (frame interval : ℕ) → List Checksum → List Checksum
+cleaned frame interval l = pick (leb 32 (length l)) (keptFrom (frame - 31 * interval) l) l
+
+-- 6: frame - 31 x interval leaves i32 (a biased frame falls below 0), tested only with 32 or more stored
+unfoldable pub tooEarly : (count frame interval : ℕ) → Bool
+tooEarly count frame interval = pick (leb 32 count) (ltb frame (31 * interval)) false
+
+abbrev pub overflows : (frame interval : ℕ) → List Checksum → Bool
+overflows frame interval l = tooEarly (length l) frame interval
+
+-- 5: 64 others are stored
+unfoldable pub isFull : ℕ → List Checksum → Bool
+isFull frame l = pick (has frameOf frame l) false (leb 64 (length l))
+
+pub record FoundAs (s : Checksums) (frame : ℕ) (r : Found) : Type 0 where
+  pub found : r .found ≡ has frameOf frame (stored s)
+  pub checksum : r .checksum ≡ firstWith frameOf frame blank (stored s)
+
+pub record PutAs (s : Checksums) (c : Checksum) (r : Put) : Type 0 where
+  pub ok : r .ok ≡ not (isFull (c .frame) (stored s))
+  pub view : stored (r .checksums) ≡ pick (isFull (c .frame) (stored s)) (stored s) (put frameOf c (stored s))
+  pub same : r .ok ≡ false → r .checksums ≡ s
+
+-- 6 before 5; done, the checksum is put into what the clean-up leaves
+unfoldable pub fullAfter : (frame interval : ℕ) → List Checksum → Bool
+fullAfter frame interval l = pick (overflows frame interval l) false (isFull frame (cleaned frame interval l))
+
+unfoldable pub reported : Checksum → (interval : ℕ) → List Checksum → List Checksum
+reported c interval l =
+    pick (overflows (c .frame) interval l) l (pick (fullAfter (c .frame) interval l) l (put frameOf c (cleaned (c .frame) interval l)))
+
+-- worked, at interval 10: with 31 stored nothing overflows, with 32 frame 309 does; frame 400 keeps from 90 on
+early-example : tooEarly 31 300 10 ≡ false
+unfolding tooEarly
+early-example = refl
+
+late-example : tooEarly 32 309 10 ≡ true
+unfolding tooEarly
+late-example = refl
+
+line-example : keptFrom (400 - 31 * 10) (record { frame = 89; low = 1; high = 2 } ∷ record { frame = 90; low = 3; high = 4 } ∷ []) ≡ record { frame = 90; low = 3; high = 4 } ∷ []
+unfolding kept
+line-example = refl
+
+pub record ReportedAs (s : Checksums) (c : Checksum) (interval : ℕ) (r : Reported) : Type 0 where
+  pub overflow : r .overflow ≡ overflows (c .frame) interval (stored s)
+  pub full : r .full ≡ fullAfter (c .frame) interval (stored s)
+  pub view : stored (r .checksums) ≡ reported c interval (stored s)
+  pub same-6 : r .overflow ≡ true → r .checksums ≡ s
+  pub same-5 : r .full ≡ true → r .checksums ≡ s

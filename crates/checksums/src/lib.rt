@@ -1,0 +1,210 @@
+// The checksums that the other end reported, one for each frame: the crate's `pending_checksums`, with its clean-up. A checksum's 128 bits are
+// two halves.
+ghost use mathlib.Core.Path.{_≡_};
+ghost use mathlib.Core.List.{[]};
+ghost use Prim.Native.Nat.{_-_, _*_};
+ghost use lib.ListN.{length, getD};
+ghost use Rattle.base.specs.Keyed.{place};
+ghost use Rattle.checksums.specs.Checksums.{stored, frameOf, keptFrom, cleaned, tooEarly, blank, FoundAs, PutAs, ReportedAs};
+
+pub struct Checksum {
+    pub frame: u32,
+    pub low: u64,
+    pub high: u64,
+}
+
+pub struct Checksums {
+    pub entries: [Checksum; 64],
+    pub used: usize,
+}
+
+pub struct Found {
+    pub found: bool,
+    pub checksum: Checksum,
+}
+
+pub struct Put {
+    pub ok: bool,
+    pub checksums: Checksums,
+}
+
+// Done where neither flag is set.
+pub struct Reported {
+    pub overflow: bool,
+    pub full: bool,
+    pub checksums: Checksums,
+}
+
+// The oldest frame to keep, 31 intervals before the arriving one, or the least frame. In u64 no interval overflows.
+fn oldest(frame: u32, interval: u32) -> u32
+    ensures { λ r. ⌜ r ≡ frame - 31 * interval ⌝ }
+{
+    let arriving = frame as u64;
+    let span = 31 * (interval as u64);
+    if arriving < span {
+        0
+    } else {
+        (arriving - span) as u32
+    }
+}
+
+// The oldest frame to keep would lie below all frames: told only where the clean-up needs it.
+fn too_early(count: usize, frame: u32, interval: u32) -> bool
+    ensures { λ r. ⌜ r ≡ tooEarly count frame interval ⌝ }
+{
+    if count < 32 {
+        return false;
+    }
+    (frame as u64) < 31 * (interval as u64)
+}
+
+impl Checksums {
+    pub fn new() -> Checksums
+        ensures { λ r. ⌜ stored r ≡ [] ⌝ }
+    {
+        Checksums {
+            entries: [Checksum {
+                frame: 0,
+                low: 0,
+                high: 0,
+            }; 64],
+            used: 0,
+        }
+    }
+
+    pub fn count(self) -> usize
+        ensures { λ r. ⌜ r ≡ length (stored self) ⌝ }
+    {
+        let used = self.used;
+        if used < 64 { used } else { 64 }
+    }
+
+    // The i-th, or zeros.
+    pub fn entry(self, i: usize) -> Checksum
+        ensures { λ r. ⌜ r ≡ getD (stored self) i blank ⌝ }
+    {
+        let n = self.count();
+        if i < n {
+            return self.entries[i];
+        }
+        Checksum {
+            frame: 0,
+            low: 0,
+            high: 0,
+        }
+    }
+
+    // The first place of a frame, or the count.
+    fn place(self, frame: u32) -> usize
+        ensures { λ r. ⌜ r ≡ place frameOf frame (stored self) ⌝ }
+    {
+        let n = self.count();
+        let mut i = 0;
+        while i < n {
+            let x = self.entries[i];
+            if frame == x.frame {
+                return i;
+            }
+            i += 1;
+        }
+        i
+    }
+
+    pub fn find(self, frame: u32) -> Found
+        ensures { λ r. ⌜ FoundAs self frame r ⌝ }
+    {
+        let n = self.count();
+        let i = self.place(frame);
+        let checksum = self.entry(i);
+        Found {
+            found: i < n,
+            checksum,
+        }
+    }
+
+    // Those of a frame or later, in their order: each that stays is written behind those that stayed before it.
+    fn kept_from(self, oldest: u32) -> Checksums
+        ensures { λ r. ⌜ stored r ≡ keptFrom oldest (stored self) ⌝ }
+    {
+        let n = self.count();
+        let mut next = self;
+        let mut kept = 0;
+        let mut i = 0;
+        while i < n {
+            let x = self.entries[i];
+            if oldest <= x.frame {
+                next.entries[kept] = x;
+                kept += 1;
+            }
+            i += 1;
+        }
+        next.used = kept;
+        next
+    }
+
+    // The crate's clean-up at the report of a frame.
+    fn clean(self, frame: u32, interval: u32) -> Checksums
+        ensures { λ r. ⌜ stored r ≡ cleaned frame interval (stored self) ⌝ }
+    {
+        if self.count() < 32 {
+            return self;
+        }
+        self.kept_from(oldest(frame, interval))
+    }
+
+    // A checksum takes the place of its frame's, or goes to the end; where 64 others are stored, unchanged.
+    fn put(self, checksum: Checksum) -> Put
+        ensures { λ r. ⌜ PutAs self checksum r ⌝ }
+    {
+        let n = self.count();
+        let i = self.place(checksum.frame);
+        let mut next = self;
+        if i < n {
+            next.entries[i] = checksum;
+            return Put {
+                ok: true,
+                checksums: next,
+            };
+        }
+        if n < 64 {
+            next.entries[n] = checksum;
+            next.used = n + 1;
+            return Put {
+                ok: true,
+                checksums: next,
+            };
+        }
+        Put {
+            ok: false,
+            checksums: self,
+        }
+    }
+
+    // A report, as the crate takes it: the clean-up where 32 or more are stored, then the checksum put in. Refused, it gives the store back.
+    pub fn report(self, frame: u32, low: u64, high: u64, interval: u32) -> Reported
+        ensures { λ r. ⌜ ReportedAs self (record { frame = frame; low = low; high = high }) interval r ⌝ }
+    {
+        if too_early(self.count(), frame, interval) {
+            return Reported {
+                overflow: true,
+                full: false,
+                checksums: self,
+            };
+        }
+        let next = self.clean(frame, interval);
+        let put = next.put(Checksum { frame, low, high });
+        if !put.ok {
+            return Reported {
+                overflow: false,
+                full: true,
+                checksums: self,
+            };
+        }
+        let checksums = put.checksums;
+        Reported {
+            overflow: false,
+            full: false,
+            checksums,
+        }
+    }
+}

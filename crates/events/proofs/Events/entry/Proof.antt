@@ -1,0 +1,39 @@
+-- `entry` reads the array below the count, where it is the view's; beyond the view there is nothing.
+use borrow.Author.Needs.{needs}
+use mathlib.Core.Path.{_≡_, sym, _∙_}
+use Prim.Native.Nat.{_<_}
+use native.Mathlib.Omega.{arith}
+use lib.ListN.{length, List·getD-eq-default}
+use Rattle.base.proofs.Arrays.{unmap, view-at, view-le}
+use Rattle.base.proofs.Orders.{getD-within}
+use Rattle.events.specs.Events.{held, blankEntry}
+use Rattle.events.proofs.Events.entry.Statement.{statement}
+use Rattle.events.proofs.Events.entry.Tie as tie
+
+count-requires : tie.Need-count-requires
+count-requires c κs = search needs
+
+long : (c : tie.Start) → length (c .args .t1 .entries) ≡ 640
+long c = search (unmap, needs)
+
+mul-result : tie.Need-mul-result
+unfolding held
+mul-result c = let s = c .before .before .args .t1 in omega (arith, long (c .before .before), view-le (s .used) (s .entries), c .before .count .ensures)
+
+element-copy-out-result : tie.Need-element-copy-out-result
+unfolding held
+element-copy-out-result c = let s = c .before .before .args .t1 in omega (arith, long (c .before .before), view-le (s .used) (s .entries), c .before .count .ensures)
+
+returns : tie.Need-returns
+unfolding held
+returns c =
+    let a = c .before .before .before .args in
+    let h : a .i < length (held (a .t1)) = omega (arith, c .before .before .count .ensures) in
+    sym (view-at (a .t1 .used) (a .t1 .entries) (a .i) _ h) ∙ getD-within (held (a .t1)) (a .i) _ blankEntry h
+
+returns-2 : tie.Need-returns-2
+unfolding held blankEntry
+returns-2 c = sym (List·getD-eq-default (held (c .before .before .args .t1)) blankEntry (omega (arith, c .before .count .ensures)))
+
+pub entry-spec : {M : Type 1} → statement M
+entry-spec = tie.close (tie.spec count-requires mul-result element-copy-out-result returns returns-2)

@@ -1,0 +1,44 @@
+-- Two answers that a contract allows are equal, by name for each public function: stores up to what their array holds past the count.
+use mathlib.Core.Bool.{Bool}
+use mathlib.Core.List.{List, [], _∷_}
+use mathlib.Core.Path.{_≡_, sym, _∙_}
+use Prim.Native.Nat.{ℕ}
+use lib.ListN.{length, take, drop, getD}
+use Rattle.base.proofs.Settled.{settled}
+use Rattle.packing.specs.Packing.{framesOf}
+use Rattle.events.specs.declared.Entry.{Entry}
+use Rattle.events.specs.declared.Events.{Events}
+use Rattle.events.specs.declared.Pushed.{Pushed}
+use Rattle.events.specs.Events.{held, hasRoom, blankEntry, announcedAll, packetFits, PushedAs}
+
+pub new-settled : (r s : Events) → held r ≡ [] → held s ≡ [] → held r ≡ held s
+new-settled = settled held []
+
+module _ (e : Events) where
+  pub count-settled : (r s : ℕ) → r ≡ length (held e) → s ≡ length (held e) → r ≡ s
+  count-settled = settled (λ r. r) (length (held e))
+
+  pub entry-settled : (i : ℕ) (r s : Entry) → r ≡ getD (held e) i blankEntry → s ≡ getD (held e) i blankEntry → r ≡ s
+  entry-settled i = settled (λ r. r) (getD (held e) i blankEntry)
+
+  pub take-all-settled : (r s : Events) → held r ≡ [] → held s ≡ [] → held r ≡ held s
+  take-all-settled = settled held []
+
+  pushed-settled : (able : Bool) (more : List Entry) (r s : Pushed) → PushedAs e able more r → PushedAs e able more s
+      → (r .ok ≡ s .ok) × (held (r .events) ≡ held (s .events))
+  pushed-settled able more r s a b = (a .ok ∙ sym (b .ok), a .view ∙ sym (b .view))
+
+  pub push-settled : (x : Entry) (r s : Pushed) → PushedAs e (hasRoom (held e) 1) (x ∷ []) r → PushedAs e (hasRoom (held e) 1) (x ∷ []) s
+      → (r .ok ≡ s .ok) × (held (r .events) ≡ held (s .events))
+  push-settled x = pushed-settled (hasRoom (held e) 1) (x ∷ [])
+
+  module _ (frame count : ℕ) (payload : List ℕ) (at width : ℕ) (reference handles : List ℕ) (handleCount size : ℕ) where
+    abbrev pub packetAble : Bool
+    packetAble = packetFits (held e) frame count (take handleCount handles)
+
+    abbrev pub packetEvents : List Entry
+    packetEvents = announcedAll frame size (take handleCount handles) (framesOf width reference count (drop at payload))
+
+    pub push-packet-settled : (r s : Pushed) → PushedAs e packetAble packetEvents r → PushedAs e packetAble packetEvents s
+        → (r .ok ≡ s .ok) × (held (r .events) ≡ held (s .events))
+    push-packet-settled = pushed-settled packetAble packetEvents

@@ -1,0 +1,62 @@
+-- The events held, and how frames are announced (document 01, Input: "announce each frame above the newest, once per handle ascending").
+use mathlib.Core.Bool.{Bool, false}
+use mathlib.Core.List.{List, [], _∷_, _++_}
+use mathlib.Core.Path.{_≡_, refl}
+use Prim.Native.Nat.{ℕ, _+_, _-_, _*_, _^_}
+use lib.Dec.{leb}
+use lib.ListN.{length, take, drop, replicate}
+use Rattle.base.specs.Pick.{pick}
+use Rattle.events.specs.declared.Entry.{Entry}
+use Rattle.events.specs.declared.Events.{Events}
+use Rattle.events.specs.declared.Pushed.{Pushed}
+use Rattle.events.specs.declared.Event.the-variants as Event
+
+-- the events held, oldest first; a count beyond the array is the array's length
+unfoldable pub held : Events → List Entry
+held e = take (e .used) (e .entries)
+
+-- room for n more
+unfoldable pub hasRoom : List Entry → ℕ → Bool
+hasRoom l n = leb (length l + n) 640
+
+-- 16 bytes: an input, zeros after it
+unfoldable pub inputOf : List ℕ → List ℕ
+inputOf bytes = take 16 bytes ++ replicate (16 - length bytes) 0
+
+-- an event that has no input
+unfoldable pub blankEntry : Entry
+blankEntry = record { event = Event.Synchronized; input = replicate 16 0 }
+
+-- one player's input of a frame
+unfoldable pub inputEntry : (frame player : ℕ) → List ℕ → Entry
+inputEntry frame player bytes = record { event = Event.Input frame player; input = inputOf bytes }
+
+-- one frame, once per handle in their order, each with the next `size` of the frame's bytes
+unfoldable pub announced : (frame size : ℕ) → (bytes handles : List ℕ) → List Entry
+announced frame size bytes [] = []
+announced frame size bytes (h ∷ hs) = inputEntry frame h (take size bytes) ∷ announced frame size (drop size bytes) hs
+
+-- frames one after another, from a number on
+unfoldable pub announcedAll : (frame size : ℕ) → (handles : List ℕ) → (frames : List (List ℕ)) → List Entry
+announcedAll frame size handles [] = []
+announcedAll frame size handles (bytes ∷ rest) = announced frame size bytes handles ++ announcedAll (frame + 1) size handles rest
+
+-- room for all events of `count` frames, whose numbers are frames (they are where 6 was tested)
+unfoldable pub packetFits : List Entry → (frame count : ℕ) → (handles : List ℕ) → Bool
+packetFits l frame count handles = pick (leb (frame + count) (2 ^ 32)) (hasRoom l (count * length handles)) false
+
+-- all of some entries at the end where the call is able to, else nothing changes
+pub record PushedAs (e : Events) (able : Bool) (more : List Entry) (r : Pushed) : Type 0 where
+  pub ok : r .ok ≡ able
+  pub view : held (r .events) ≡ pick able (held e ++ more) (held e)
+  pub same : r .ok ≡ false → r .events ≡ e
+
+-- worked: frame 7 of two players with two bytes each
+frame-example : announced 7 2 (1 ∷ 2 ∷ 3 ∷ 4 ∷ []) (0 ∷ 3 ∷ []) ≡ inputEntry 7 0 (1 ∷ 2 ∷ []) ∷ inputEntry 7 3 (3 ∷ 4 ∷ []) ∷ []
+unfolding announced
+frame-example = refl
+
+-- worked: two frames of one player (P3)
+packet-example : announcedAll 7 1 (1 ∷ []) ((5 ∷ []) ∷ (7 ∷ []) ∷ []) ≡ inputEntry 7 1 (5 ∷ []) ∷ inputEntry 8 1 (7 ∷ []) ∷ []
+unfolding announced announcedAll
+packet-example = refl

@@ -1,0 +1,191 @@
+// The events that wait to be taken, oldest first. An event's input stands beside the event: an enum holds no bytes.
+ghost use mathlib.Core.Path.{_≡_};
+ghost use mathlib.Core.List.{[], _∷_};
+ghost use Prim.Native.Nat.{_+_, _*_, _^_, _≤_, min};
+ghost use mathlib.Core.Bool.{false};
+ghost use lib.Dec.{leb};
+ghost use Rattle.base.specs.Pick.{pick};
+ghost use Rattle.packing.specs.Packing.{framesOf};
+ghost use lib.ListN.{length, take, drop, getD};
+ghost use Rattle.events.specs.Events.{held, hasRoom, inputEntry, announcedAll, packetFits, blankEntry, PushedAs};
+
+pub enum Event {
+    Synchronizing { total: u32, count: u32 },
+    Synchronized,
+    Input { frame: u32, player: u32 },
+    Disconnected,
+    NetworkInterrupted { disconnect_timeout: u64 },
+    NetworkResumed,
+}
+
+// An event with its input, zeros past the input's size; all zeros beside any event but Input.
+pub struct Entry {
+    pub event: Event,
+    pub input: [u8; 16],
+}
+
+pub struct Events {
+    pub entries: [Entry; 640],
+    pub used: usize,
+}
+
+pub struct Pushed {
+    pub ok: bool,
+    pub events: Events,
+}
+
+fn least(a: usize, b: usize) -> usize
+    ensures { λ r. ⌜ r ≡ min a b ⌝ }
+{
+    if a < b { a } else { b }
+}
+
+// A place further on, or the end: a size is any number.
+fn onward(at: usize, size: usize, end: usize) -> usize
+    requires { ⌜ at ≤ end ⌝ }
+    ensures { λ r. ⌜ r ≡ min (at + size) end ⌝ }
+{
+    if size < end - at { at + size } else { end }
+}
+
+// One player's input of a frame: its part of the frame's bytes.
+fn input_entry(frame: u32, player: u32, bytes: [u8; 64], at: usize, size: usize) -> Entry
+    requires { ⌜ at ≤ 64 ⌝ }
+    ensures { λ r. ⌜ r ≡ inputEntry frame player (take size (drop at bytes)) ⌝ }
+{
+    let n = least(16, least(size, 64 - at));
+    let mut input = [0u8; 16];
+    let mut i = 0;
+    while i < n {
+        input[i] = bytes[at + i];
+        i += 1;
+    }
+    Entry {
+        event: Event::Input { frame, player },
+        input,
+    }
+}
+
+// Whether a packet's events fit behind `used`, and its frames' numbers are frames.
+fn packet_fits(used: usize, frame: u32, count: u32, players: usize) -> bool
+    requires { ⌜ (used ≤ 640) × (players ≤ 4) ⌝ }
+    ensures { λ r. ⌜ r ≡ pick (leb (frame + count) (2 ^ 32)) (leb (used + count * players) 640) false ⌝ }
+{
+    if 0x1_0000_0000 < (frame as u64) + (count as u64) {
+        return false;
+    }
+    used + (count as usize) * players <= 640
+}
+
+impl Events {
+    pub fn new() -> Events
+        ensures { λ r. ⌜ held r ≡ [] ⌝ }
+    {
+        Events {
+            entries: [Entry {
+                event: Event::Synchronized,
+                input: [0; 16],
+            }; 640],
+            used: 0,
+        }
+    }
+
+    pub fn count(self) -> usize
+        ensures { λ r. ⌜ r ≡ length (held self) ⌝ }
+    {
+        let used = self.used;
+        if used < 640 { used } else { 640 }
+    }
+
+    // The i-th, or Synchronized with no input.
+    pub fn entry(self, i: usize) -> Entry
+        ensures { λ r. ⌜ r ≡ getD (held self) i blankEntry ⌝ }
+    {
+        let n = self.count();
+        if i < n {
+            return self.entries[i];
+        }
+        Entry {
+            event: Event::Synchronized,
+            input: [0; 16],
+        }
+    }
+
+    // The store after all its events are taken.
+    pub fn take_all(mut self) -> Events
+        ensures { λ r. ⌜ held r ≡ [] ⌝ }
+    {
+        self.used = 0;
+        self
+    }
+
+    // One more at the end; where there is no room, unchanged.
+    pub fn push(mut self, entry: Entry) -> Pushed
+        ensures { λ r. ⌜ PushedAs self (hasRoom (held self) 1) (entry ∷ []) r ⌝ }
+    {
+        let n = self.count();
+        if n < 640 {
+            self.entries[n] = entry;
+            self.used = n + 1;
+            return Pushed {
+                ok: true,
+                events: self,
+            };
+        }
+        Pushed {
+            ok: false,
+            events: self,
+        }
+    }
+
+    // A packet's Input events, frame by frame, in each one per handle: `count` frames of `width` bytes from a place of the payload on, each XOR the
+    // reference, the first being `frame`. Where there is no room for all, or a number would be no frame, unchanged. Both loops are in here, so that
+    // the store is copied once.
+    pub fn push_packet(
+        mut self,
+        frame: u32,
+        count: u32,
+        payload: &[u8],
+        at: usize,
+        width: usize,
+        reference: [u8; 64],
+        handles: [u32; 4],
+        handle_count: usize,
+        size: usize,
+    ) -> Pushed
+        ensures { λ r. ⌜ PushedAs self (packetFits (held self) frame count (take «handle_count» handles))
+            (announcedAll frame size (take «handle_count» handles) (framesOf width reference count (drop at (now (payload .entry))))) r ⌝ }
+    {
+        let players = least(handle_count, 4);
+        let used = self.count();
+        if !packet_fits(used, frame, count, players) {
+            return Pushed {
+                ok: false,
+                events: self,
+            };
+        }
+        let end = payload.len();
+        let mut to = used;
+        let mut from = least(at, end);
+        let mut k = 0;
+        'frames: while k < count {
+            let bytes = packing::frame_at(payload, from, width, reference);
+            let mut part = 0;
+            let mut i = 0;
+            'handles: while i < players {
+                let entry = input_entry(frame + k, handles[i], bytes, part, size);
+                self.entries[to] = entry;
+                to += 1;
+                part = onward(part, size, 64);
+                i += 1;
+            }
+            from = onward(from, width, end);
+            k += 1;
+        }
+        self.used = to;
+        Pushed {
+            ok: true,
+            events: self,
+        }
+    }
+}

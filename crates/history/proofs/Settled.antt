@@ -1,0 +1,26 @@
+-- Two answers that a contract allows are equal, by name for each public function: stores up to what their array holds past the count.
+use mathlib.Core.List.{List, [], _∷_}
+use mathlib.Core.Path.{_≡_}
+use Prim.Native.Nat.{ℕ}
+use lib.ListN.{take}
+use Rattle.base.proofs.Settled.{settled}
+use Rattle.packing.specs.declared.input_bytes.InputBytes.{InputBytes}
+use Rattle.history.specs.declared.History.{History}
+use Rattle.history.specs.declared.Found.{Found}
+use Rattle.history.specs.History.{received, blank, newestOf, foundIn, packetOf, takenIn}
+
+pub new-settled : (r s : History) → received r ≡ blank ∷ [] → received s ≡ blank ∷ [] → received r ≡ received s
+new-settled = settled received (blank ∷ [])
+
+module _ (h : History) where
+  pub newest-settled : (r s : ℕ) → r ≡ newestOf (received h) → s ≡ newestOf (received h) → r ≡ s
+  newest-settled = settled (λ r. r) (newestOf (received h))
+
+  pub find-settled : (frame : ℕ) (r s : Found) → r ≡ foundIn frame (received h) → s ≡ foundIn frame (received h) → r ≡ s
+  find-settled frame = settled (λ r. r) (foundIn frame (received h))
+
+  pub take-in-settled : (payload : List ℕ) (start width : ℕ) (reference : InputBytes) (maxPrediction : ℕ) (r s : History)
+      → received r ≡ take 33 (takenIn maxPrediction (received h) (packetOf start width (reference .bytes) payload))
+      → received s ≡ take 33 (takenIn maxPrediction (received h) (packetOf start width (reference .bytes) payload)) → received r ≡ received s
+  take-in-settled payload start width reference maxPrediction =
+      settled received (take 33 (takenIn maxPrediction (received h) (packetOf start width (reference .bytes) payload)))

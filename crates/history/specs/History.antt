@@ -1,0 +1,89 @@
+-- The inputs received: what the history holds, the newest frame, and what a packet does to it.
+use mathlib.Core.Path.{_≡_, refl}
+use mathlib.Core.Bool.{Bool, true, false}
+use mathlib.Core.List.{List, [], _∷_, _++_}
+use Prim.Native.Nat.{ℕ, zero, suc, _+_, _-_, _*_, _^_, _≤_, max}
+use lib.Dec.{ltb, leb, eqb}
+use lib.ListN.{take}
+use Rattle.base.specs.Pick.{pick}
+use Rattle.base.specs.Keyed.{kept}
+use Rattle.frame.specs.Bias.{nullFrame}
+use Rattle.packing.specs.Packing.{unpack}
+use Rattle.packing.specs.Pad.{zeros, padded}
+use Rattle.packing.specs.declared.input_bytes.InputBytes.{InputBytes}
+use Rattle.history.specs.declared.History.{History}
+use Rattle.history.specs.declared.Found.{Found}
+
+-- the inputs held; a count beyond the array is the array's length
+unfoldable pub received : History → List InputBytes
+received h = take (h .used) (h .slots)
+
+-- what is held before anything is received
+unfoldable pub blank : InputBytes
+blank = record { frame = nullFrame; bytes = zeros }
+
+unfoldable pub highest : List InputBytes → ℕ
+highest [] = 0
+highest (x ∷ xs) = max (x .frame) (highest xs)
+
+-- the newest frame: the highest, and -1 where there is none
+unfoldable pub newestOf : List InputBytes → ℕ
+newestOf [] = nullFrame
+newestOf (x ∷ xs) = highest (x ∷ xs)
+
+-- the input of a frame; where it is not held, the blank one stands beside the answer
+unfoldable pub foundIn : ℕ → List InputBytes → Found
+foundIn f [] = record { held = false; input = blank }
+foundIn f (x ∷ xs) = pick (eqb (x .frame) f) (record { held = true; input = x }) (foundIn f xs)
+
+-- at or above the keep line: frame >= newest - 2 max_prediction
+abbrev pub stays : ℕ → ℕ → ℕ → Bool
+stays newest maxPrediction frame = leb newest (frame + 2 * maxPrediction)
+
+-- those at or above the keep line of the newest
+unfoldable pub atLine : ℕ → List InputBytes → List InputBytes
+atLine maxPrediction l = kept (λ x. stays (newestOf l) maxPrediction (x .frame)) l
+
+-- those above a frame
+unfoldable pub above : ℕ → List InputBytes → List InputBytes
+above newest l = kept (λ x. ltb newest (x .frame)) l
+
+-- frames one after the other from a first number on
+unfoldable pub numbered : ℕ → List (List ℕ) → List InputBytes
+numbered start [] = []
+numbered start (f ∷ fs) = record { frame = start; bytes = padded f } ∷ numbered (suc start) fs
+
+-- the frames of a packet; those past the largest frame have no number (not reachable: such a packet is refused by 6)
+unfoldable pub packetOf : ℕ → ℕ → List ℕ → List ℕ → List InputBytes
+packetOf start width reference payload = numbered start (take (2 ^ 32 - start) (unpack width reference payload))
+
+-- append all frames of a packet above the newest, then keep those at or above the keep line
+unfoldable pub takenIn : ℕ → List InputBytes → List InputBytes → List InputBytes
+takenIn maxPrediction l packet = atLine maxPrediction (l ++ above (newestOf l) packet)
+
+-- the newest after it, by numbers alone
+unfoldable pub newestAfter : ℕ → ℕ → ℕ → ℕ
+newestAfter newest start zero = newest
+newestAfter newest start (suc n) = max newest (start + n)
+
+-- new, and not below the keep line of the newest after it
+abbrev pub fresh : ℕ → ℕ → ℕ → ℕ → Bool
+fresh newest last maxPrediction frame = pick (ltb newest frame) (stays last maxPrediction frame) false
+
+-- frames ascending, none below a first number
+unfoldable pub Ascending : ℕ → List InputBytes → Type 0
+Ascending low [] = Unit {0}
+Ascending low (x ∷ xs) = (low ≤ x .frame) × Ascending (suc (x .frame)) xs
+
+-- worked: at max_prediction 1, frames 11 to 14 after frame 10 leave 12, 13 and 14
+input : ℕ → InputBytes
+input f = record { frame = f; bytes = [] }
+
+leaves : takenIn 1 (input 10 ∷ []) (input 9 ∷ input 10 ∷ input 11 ∷ input 12 ∷ input 13 ∷ input 14 ∷ []) ≡ input 12 ∷ input 13 ∷ input 14 ∷ []
+unfolding takenIn atLine above kept newestOf highest input
+leaves = refl
+
+-- worked: a packet that comes again leaves the history as it was
+again : takenIn 1 (input 10 ∷ input 11 ∷ []) (input 10 ∷ input 11 ∷ []) ≡ input 10 ∷ input 11 ∷ []
+unfolding takenIn atLine above kept newestOf highest input
+again = refl

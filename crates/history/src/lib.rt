@@ -1,0 +1,216 @@
+// The inputs received, kept as references for the packets to come: at most 33, since none is kept below newest - 2 max_prediction.
+ghost use mathlib.Core.Path.{_≡_};
+ghost use mathlib.Core.List.{[], _∷_, _++_};
+ghost use Prim.Native.Nat.{_-_, _*_, _≤_, _^_, min};
+ghost use lib.ListN.{length, take};
+ghost use Rattle.base.specs.Keyed.{kept};
+ghost use Rattle.packing.specs.Packing.{frameCount, framesOf};
+ghost use Rattle.history.specs.History.{received, blank, newestOf, foundIn, newestAfter, stays, fresh, numbered, packetOf, takenIn};
+use frame::NULL_FRAME;
+use packing::InputBytes;
+
+// 2 * 16 + 1, the most that the keep line leaves.
+pub const MOST_RECEIVED: usize = 33;
+
+pub struct History {
+    pub slots: [InputBytes; 33],
+    pub used: usize,
+}
+
+pub struct Found {
+    pub held: bool,
+    pub input: InputBytes,
+}
+
+// Whether a frame is at or above the keep line, newest - 2 max_prediction. Written as a sum: a difference could fall below the least frame.
+fn stays_above(frame: u32, newest: u32, max_prediction: u32) -> bool
+    ensures { λ r. ⌜ r ≡ stays newest «max_prediction» frame ⌝ }
+{
+    (newest as u64) <= (frame as u64) + 2 * (max_prediction as u64)
+}
+
+// Whether a packet's frame is new and stays once the packet is in.
+fn is_fresh(frame: u32, newest: u32, last: u32, max_prediction: u32) -> bool
+    ensures { λ r. ⌜ r ≡ fresh newest last «max_prediction» frame ⌝ }
+{
+    if newest < frame {
+        return stays_above(frame, last, max_prediction);
+    }
+    false
+}
+
+// How many frames of a payload get a number: all, but none above the largest frame.
+fn arriving(length: usize, width: usize, start: u32) -> usize
+    ensures { λ r. ⌜ r ≡ min (2 ^ 32 - start) (frameCount width length) ⌝ }
+{
+    let n = packing::frame_count(length, width);
+    let most = 4294967296 - (start as usize);
+    if most < n { most } else { n }
+}
+
+// The newest frame once count frames from start on are in.
+fn after(newest: u32, start: u32, count: usize) -> u32
+    requires { ⌜ count ≤ 2 ^ 32 - start ⌝ }
+    ensures { λ r. ⌜ r ≡ newestAfter newest start count ⌝ }
+{
+    if count == 0 {
+        return newest;
+    }
+    let last = start + ((count - 1) as u32);
+    if newest < last {
+        return last;
+    }
+    newest
+}
+
+impl History {
+    // Frame -1 with zero bytes: what the first packet is packed against.
+    pub fn new() -> History
+        ensures { λ r. ⌜ received r ≡ blank ∷ [] ⌝ }
+    {
+        let none = InputBytes {
+            frame: NULL_FRAME,
+            bytes: [0u8; 64],
+        };
+        History {
+            slots: [none; 33],
+            used: 1,
+        }
+    }
+
+    fn count(self) -> usize
+        ensures { λ r. ⌜ r ≡ length (received self) ⌝ }
+    {
+        let used = self.used;
+        if used < MOST_RECEIVED {
+            used
+        } else {
+            MOST_RECEIVED
+        }
+    }
+
+    // The newest frame, searched; -1 where nothing is held.
+    pub fn newest(self) -> u32
+        ensures { λ r. ⌜ r ≡ newestOf (received self) ⌝ }
+    {
+        let n = self.count();
+        if n == 0 {
+            return NULL_FRAME;
+        }
+        let mut newest = 0;
+        let mut k = 0;
+        while k < n {
+            let x = self.slots[k];
+            if newest < x.frame {
+                newest = x.frame;
+            }
+            k += 1;
+        }
+        newest
+    }
+
+    // The input of a frame, if it is held.
+    pub fn find(self, frame: u32) -> Found
+        ensures { λ r. ⌜ r ≡ foundIn frame (received self) ⌝ }
+    {
+        let n = self.count();
+        let mut k = 0;
+        while k < n {
+            let x = self.slots[k];
+            if x.frame == frame {
+                return Found {
+                    held: true,
+                    input: x,
+                };
+            }
+            k += 1;
+        }
+        Found {
+            held: false,
+            input: InputBytes {
+                frame: NULL_FRAME,
+                bytes: [0u8; 64],
+            },
+        }
+    }
+
+    // Those that stay, in a store of their own.
+    fn keep(self, newest: u32, max_prediction: u32) -> History
+        ensures { λ r. ⌜ received r ≡ kept (λ x. stays newest «max_prediction» (x .frame)) (received self) ⌝ }
+    {
+        let n = self.count();
+        let mut next = self;
+        let mut at = 0;
+        let mut k = 0;
+        while k < n {
+            let x = self.slots[k];
+            if stays_above(x.frame, newest, max_prediction) {
+                next.slots[at] = x;
+                at += 1;
+            }
+            k += 1;
+        }
+        next.used = at;
+        next
+    }
+
+    // Appends the fresh ones of the first count frames of a payload, as many as fit.
+    fn append(
+        mut self,
+        payload: &[u8],
+        start: u32,
+        count: usize,
+        width: usize,
+        reference: InputBytes,
+        newest: u32,
+        last: u32,
+        max_prediction: u32,
+    ) -> History
+        requires { ⌜ (count ≤ 2 ^ 32 - start) × (count * width ≤ length (now payload)) ⌝ }
+        ensures { λ r. ⌜ received r ≡ take 33 (received self ++ kept (λ x. fresh newest last «max_prediction» (x .frame)) (numbered start (framesOf width (reference .bytes) count (now (payload .entry))))) ⌝ }
+    {
+        let bytes = reference.bytes;
+        let mut at = self.count();
+        let mut place = 0;
+        let mut k = 0;
+        while k < count && at < MOST_RECEIVED {
+            let frame = start + (k as u32);
+            if is_fresh(frame, newest, last, max_prediction) {
+                let b = packing::frame_at(payload, place, width, bytes);
+                self.slots[at] = InputBytes { frame, bytes: b };
+                at += 1;
+            }
+            place += width;
+            k += 1;
+        }
+        self.used = at;
+        self
+    }
+
+    // Takes in a packet's frames above the newest and drops those below the new keep line. What would be dropped at once is never stored.
+    pub fn take_in(
+        self,
+        payload: &[u8],
+        start: u32,
+        width: usize,
+        reference: InputBytes,
+        max_prediction: u32,
+    ) -> History
+        ensures { λ r. ⌜ received r ≡ take 33 (takenIn «max_prediction» (received self) (packetOf start width (reference .bytes) (now (payload .entry)))) ⌝ }
+    {
+        let count = arriving(payload.len(), width, start);
+        let newest = self.newest();
+        let last = after(newest, start, count);
+        let kept = self.keep(last, max_prediction);
+        kept.append(
+            payload,
+            start,
+            count,
+            width,
+            reference,
+            newest,
+            last,
+            max_prediction,
+        )
+    }
+}

@@ -1,0 +1,5 @@
+pub mod Pads
+pub mod Laws
+pub mod Laid
+pub mod Inputs
+pub mod Settled

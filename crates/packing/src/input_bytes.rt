@@ -1,0 +1,7 @@
+// One input as the stores keep it.
+
+// A frame (biased by 2^31) and its bytes, zeros past the width.
+pub struct InputBytes {
+    pub frame: u32,
+    pub bytes: [u8; 64],
+}

@@ -1,0 +1,4 @@
+pub mod Laws
+pub mod Widths
+pub mod PackAll
+pub mod Settled

@@ -1,0 +1,41 @@
+-- Two answers that a contract allows are equal, by name for each public function: stores up to what their array holds past the count.
+use mathlib.Core.Bool.{Bool}
+use mathlib.Core.List.{List, []}
+use mathlib.Core.Path.{_≡_, sym, _∙_}
+use Prim.Native.Nat.{ℕ}
+use lib.ListN.{length}
+use Rattle.base.proofs.Settled.{settled}
+use Rattle.packing.specs.declared.input_bytes.InputBytes.{InputBytes}
+use Rattle.packing.specs.Packing.{LaidAs}
+use Rattle.packing.proofs.Settled.{laid-settled}
+use Rattle.pending.specs.declared.Pending.{Pending}
+use Rattle.pending.specs.declared.Pushed.{Pushed}
+use Rattle.pending.specs.declared.Dropped.{Dropped}
+use Rattle.pending.specs.Pending.{waiting, firstFrame, lastFrame, payload, PushedAs, SizedAs, DroppedAs}
+
+pub new-settled : (r s : Pending) → waiting r ≡ [] → waiting s ≡ [] → waiting r ≡ waiting s
+new-settled = settled waiting []
+
+module _ (p : Pending) where
+  pub count-settled : (r s : ℕ) → r ≡ length (waiting p) → s ≡ length (waiting p) → r ≡ s
+  count-settled = settled (λ r. r) (length (waiting p))
+
+  pub push-settled : (x : InputBytes) (r s : Pushed) → PushedAs p x r → PushedAs p x s → (r .ok ≡ s .ok) × (waiting (r .pending) ≡ waiting (s .pending))
+  push-settled x r s a b = (a .ok ∙ sym (b .ok), a .view ∙ sym (b .view))
+
+  pub drop-to-settled : (ack : ℕ) (reference : InputBytes) (r s : Dropped) → DroppedAs p ack reference r → DroppedAs p ack reference s
+      → (r .last ≡ s .last) × (waiting (r .pending) ≡ waiting (s .pending))
+  drop-to-settled ack reference r s a b = (a .last ∙ sym (b .last), a .view ∙ sym (b .view))
+
+  pub first-frame-settled : (none r s : ℕ) → r ≡ firstFrame none (waiting p) → s ≡ firstFrame none (waiting p) → r ≡ s
+  first-frame-settled none = settled (λ r. r) (firstFrame none (waiting p))
+
+  pub last-frame-settled : (acked r s : ℕ) → r ≡ lastFrame acked (waiting p) → s ≡ lastFrame acked (waiting p) → r ≡ s
+  last-frame-settled acked = settled (λ r. r) (lastFrame acked (waiting p))
+
+  pub payload-size-settled : (width r s : ℕ) → SizedAs p width r → SizedAs p width s → r ≡ s
+  payload-size-settled width r s a b = a .counted ∙ sym (b .counted)
+
+  pub pack-all-settled : (before : List ℕ) (at width : ℕ) (reference : InputBytes) (r s : Bool) (after after′ : List ℕ)
+      → LaidAs before at (payload width reference (waiting p)) r after → LaidAs before at (payload width reference (waiting p)) s after′ → (r ≡ s) × (after ≡ after′)
+  pack-all-settled before at width reference = laid-settled before at (payload width reference (waiting p))

@@ -1,0 +1,184 @@
+// The inputs sent and not yet acknowledged, oldest first: at most 129.
+ghost use mathlib.Core.Path.{_≡_};
+ghost use mathlib.Core.List.{[]};
+ghost use lib.ListN.{length, drop};
+ghost use Rattle.packing.specs.Packing.{LaidAs};
+ghost use Rattle.pending.specs.Pending.{waiting, leading, firstFrame, lastFrame, payload, PushedAs, SizedAs, DroppedAs};
+use packing::InputBytes;
+
+// Where the crate tells the session that the other end is too far behind.
+pub const MOST_PENDING: usize = 129;
+
+pub struct Pending {
+    pub slots: [InputBytes; 129],
+    pub used: usize,
+}
+
+pub struct Pushed {
+    pub ok: bool,
+    pub pending: Pending,
+}
+
+pub struct Dropped {
+    pub last: InputBytes,
+    pub pending: Pending,
+}
+
+impl Pending {
+    pub fn new() -> Pending
+        ensures { λ r. ⌜ waiting r ≡ [] ⌝ }
+    {
+        let blank = InputBytes {
+            frame: 0,
+            bytes: [0u8; 64],
+        };
+        Pending {
+            slots: [blank; 129],
+            used: 0,
+        }
+    }
+
+    pub fn count(self) -> usize
+        ensures { λ r. ⌜ r ≡ length (waiting self) ⌝ }
+    {
+        let used = self.used;
+        if used < MOST_PENDING {
+            used
+        } else {
+            MOST_PENDING
+        }
+    }
+
+    // One more at the end; where it is full, unchanged and told so.
+    pub fn push(mut self, input: InputBytes) -> Pushed
+        ensures { λ r. ⌜ PushedAs self input r ⌝ }
+    {
+        let n = self.count();
+        if n < MOST_PENDING {
+            self.slots[n] = input;
+            self.used = n + 1;
+            return Pushed {
+                ok: true,
+                pending: self,
+            };
+        }
+        Pushed {
+            ok: false,
+            pending: self,
+        }
+    }
+
+    // How many at the front have a frame of at most ack.
+    fn lead(self, ack: u32) -> usize
+        ensures { λ r. ⌜ r ≡ leading ack (waiting self) ⌝ }
+    {
+        let n = self.count();
+        let mut k = 0;
+        while k < n {
+            let x = self.slots[k];
+            if ack < x.frame {
+                return k;
+            }
+            k += 1;
+        }
+        k
+    }
+
+    // Those from the k-th on, moved to the front.
+    fn shift(mut self, k: usize) -> Pending
+        ensures { λ r. ⌜ waiting r ≡ drop k (waiting self) ⌝ }
+    {
+        let n = self.count();
+        if n <= k {
+            self.used = 0;
+            return self;
+        }
+        let m = n - k;
+        let mut i = 0;
+        while i < m {
+            let x = self.slots[i + k];
+            self.slots[i] = x;
+            i += 1;
+        }
+        self.used = m;
+        self
+    }
+
+    // Drops the leading inputs with a frame of at most ack. The last dropped is the new reference; where none is dropped, the old one stays.
+    pub fn drop_to(self, ack: u32, reference: InputBytes) -> Dropped
+        ensures { λ r. ⌜ DroppedAs self ack reference r ⌝ }
+    {
+        let k = self.lead(ack);
+        if k == 0 {
+            return Dropped {
+                last: reference,
+                pending: self,
+            };
+        }
+        let at = k - 1;
+        let x = self.slots[at];
+        let rest = self.shift(k);
+        Dropped {
+            last: x,
+            pending: rest,
+        }
+    }
+
+    // The frame of the oldest input, or the one given where there is none.
+    pub fn first_frame(self, none: u32) -> u32
+        ensures { λ r. ⌜ r ≡ firstFrame none (waiting self) ⌝ }
+    {
+        if self.count() == 0 {
+            return none;
+        }
+        let x = self.slots[0];
+        x.frame
+    }
+
+    // The frame of the newest input, or the one given (the last acknowledged) where there is none.
+    pub fn last_frame(self, acked: u32) -> u32
+        ensures { λ r. ⌜ r ≡ lastFrame acked (waiting self) ⌝ }
+    {
+        let n = self.count();
+        if n == 0 {
+            return acked;
+        }
+        let at = n - 1;
+        let x = self.slots[at];
+        x.frame
+    }
+
+    // The bytes of all inputs packed; a frame has at most 64.
+    pub fn payload_size(self, width: usize) -> usize
+        ensures { λ r. ⌜ SizedAs self width r ⌝ }
+    {
+        self.count() * packing::frame_width(width)
+    }
+
+    // Packs all inputs against the reference straight into a lent buffer; where they do not fit, nothing is written.
+    pub fn pack_all(self, out: &mut [u8], at: usize, width: usize, reference: InputBytes) -> bool
+        ensures { λ r. ⌜ LaidAs (now (out .entry)) at (payload width reference (waiting self)) r (now (out .exit)) ⌝ }
+    {
+        let size = self.payload_size(width);
+        let len = out.len();
+        if len < at {
+            return false;
+        }
+        if len - at < size {
+            return false;
+        }
+        let n = self.count();
+        let w = packing::frame_width(width);
+        let r = reference.bytes;
+        let mut place = at;
+        let mut k = 0;
+        while k < n {
+            let x = self.slots[k];
+            let b = x.bytes;
+            packing::pack_frame(out, place, b, width, r);
+            place += w;
+            k += 1;
+        }
+        true
+    }
+}
