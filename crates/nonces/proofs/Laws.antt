@@ -58,7 +58,7 @@ module _ (nonce : ℕ) (l : List ℕ) where
   unfolding issued fits
   issued-bound e = omega (arith, ltb-true (length (spent nonce l)) 256 e, length-append (spent nonce l) (nonce ∷ []))
 
-  -- room: a nonce that is outstanding fits again (OP-31), and any fits after one is spent
+  -- room: a nonce that is outstanding fits again, and any fits after one is spent
   pub fits-again : length l ≤ 256 → isOutstanding nonce l ≡ true → fits nonce l ≡ true
   unfolding fits
   fits-again h e = lt-ltb (length (spent nonce l)) 256 (omega (arith, without-shorter (λ x. x) nonce l e))

@@ -1,7 +1,7 @@
 //! A second reading of document 01's refusals: one function per call, the tests named as in its
 //! table, in its order (8, 1, 3, 7, silent, 2, 4, 12, 6, 5; 14 before 15). It was written from
-//! document 01 and OPEN-POINTS.md by someone who had not seen our definitions, but who had read
-//! the crate: a slip that stands in OPEN-POINTS.md, or that the crate suggests, may stand here too.
+//! document 01 and its decided points, apart from the definitions that are proved, but with the
+//! crate at hand: a slip that those points or the crate suggest may stand here too.
 //! Nothing here asks the crate; `audit` then holds 5 and 6 against the crate's own doing.
 
 use super::record::Setup;

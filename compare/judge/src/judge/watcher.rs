@@ -18,7 +18,7 @@ pub(crate) struct Watcher {
 }
 
 impl Watcher {
-    /// Its handles are 0 up to players - 1; the host's endpoint has one local player (OP-51).
+    /// Its handles are 0 up to players - 1; the host's endpoint has one local player.
     pub fn new(setup: &Setup, now: u64) -> Self {
         let input_size = setup.input_size as usize;
         let (slots, session_events) = (setup.slots as usize, setup.session_events as usize);

@@ -43,7 +43,7 @@ pub(crate) struct Gen<'a> {
     tally: &'a mut Tally,
 }
 
-/// The calls that take each argument (OP-8).
+/// The calls that take each argument.
 fn takes_now(call: Call) -> bool {
     use Call::*;
     matches!(
