@@ -1,7 +1,6 @@
 -- What a reading that failed, and one of a fixed size, say of the answer.
 use borrow.Author.Tests.{ne-eqb}
 use mathlib.Core.Path.{_≡_, refl, sym, _∙_, ap}
-use mathlib.Core.Bool.{Bool, true, false}
 use mathlib.Core.Logic.{inl, inr}
 use mathlib.Core.List.{List, [], _∷_}
 use Prim.Native.Nat.{ℕ, zero, suc, _-_, _<_, _≤_}
@@ -15,27 +14,15 @@ use Rattle.base.proofs.Digits.{below-or-not}
 use Rattle.answer.specs.Number.{numberOf}
 use Rattle.answer.specs.declared.Answer.{Answer}
 use Rattle.answer.specs.declared.Answer.the-variants.{Done}
-use Rattle.codec.specs.Message.{Wire, isInput, listed, meant}
+use Rattle.codec.specs.Message.{Wire, meant}
 use Rattle.codec.specs.Read.{Got, after, plain, ended, message, datagram, blank, numberIn, wireIn, leftIn}
 use Rattle.codec.specs.Read.Got.{got, fault}
 use Rattle.codec.specs.Front.{numberAt, endIn, FrontAs, RefusedAs, PlainAs}
 use Rattle.codec.specs.Calls.{ReadAs, PayloadAs, CutAs, payloadIn}
 use Rattle.codec.proofs.Statuses.{fault-of}
-use Rattle.codec.specs.declared.StatusReports.{StatusReports}
 use Rattle.codec.specs.declared.Message.{Message}
 use Rattle.codec.specs.declared.MessageBody.{MessageBody}
 use Rattle.codec.specs.declared.reader.Front.{Front}
-
-chosen-none : {A : Type 0} (t : Bool) (l : List A) → l ≡ [] → pick t l [] ≡ []
-chosen-none true l e = e
-chosen-none false l e = refl
-
--- a message whose count is 0 is a plain one
-pub meant-plain : (magic : ℕ) (body : MessageBody) (rs : StatusReports) → rs .count ≡ 0
-    → meant (record { magic = magic; body = body; reports = rs }) [] ≡ plain magic body
-unfolding meant
-meant-plain magic body rs e =
-    rw (chosen-none (isInput body) (listed rs) (rw e), chosen-none {A = ℕ} (isInput body) [] refl)
 
 more : (w : Wire) (left : List ℕ) → 0 < length left → ended w left ≡ fault 13
 more w [] h = absurd (omega arith)

@@ -1,5 +1,5 @@
 -- What other crates cite of messages and their bytes: each tells the other, sizes, an Input's head and payload, and a queue cut into its messages.
-use borrow.Author.Tests.{ne-eqb}
+use borrow.Author.Tests.{le-ltb, ne-eqb}
 use mathlib.Core.Path.{_≡_, refl, sym, _∙_, ap}
 use mathlib.Core.Bool.{Bool, true, false}
 use mathlib.Core.List.{List, [], _∷_, _++_, append-assoc, append-nil, map, flatten}
@@ -11,20 +11,20 @@ use lib.ListN.{length, take, drop, length-append, length-take}
 use lib.Seq.{take-append-seam, drop-append-seam}
 use Rattle.base.specs.Pick.{pick}
 use Rattle.base.specs.Little.{Bytes, le}
-use Rattle.base.specs.Lay.{laidAt}
+use Rattle.base.specs.Lay.{noRoom, laidAt}
 use Rattle.base.proofs.Little.{le-pieces}
 use Rattle.base.proofs.Lay.{laid-join}
 use Rattle.answer.specs.Number.{numberOf, number-tells}
 use Rattle.answer.specs.declared.Answer.the-variants.{Done}
 use Rattle.codec.specs.Sizes.{fixedSize, maxStatuses, maxPayload}
-use Rattle.codec.specs.Message.{Wire, Fits, kindOf, isInput, listed, meant, sizeWith, sizeOf}
-use Rattle.codec.specs.Bytes.{wideBytes, head, bytes}
+use Rattle.codec.specs.Message.{Wire, Fits, FitAll, kindOf, isInput, listed, meant, sizeWith, sizeOf, bodySize, tableSize}
+use Rattle.codec.specs.Bytes.{wideBytes, head, bytes, queueOf}
 use Rattle.codec.specs.Read.{Got, after, number, part, message, ended, datagram, numberIn, wireIn, leftIn}
 use Rattle.codec.specs.Read.Got.{got, fault}
 use Rattle.codec.specs.Calls.{tooLong, writeRefusal, HeadAs, WrittenAs, ReadAs, PayloadAs, payloadIn, CutAs}
 use Rattle.codec.proofs.Lengths.{head-length, head-parts}
 use Rattle.codec.proofs.Sizes.{kind-below, input-counts, size-head}
-use Rattle.codec.proofs.Laid.{bytes-input, bytes-other, not-long, head-end, head-lent}
+use Rattle.codec.proofs.Laid.{bytes-input, bytes-other, still-refused, not-long, head-end, head-lent, input-written}
 use Rattle.codec.proofs.RoundTrip.{number-le, body-read}
 use Rattle.codec.proofs.Back.{message-right, took, told}
 use Rattle.codec.specs.declared.Wide.{Wide}
@@ -109,6 +109,21 @@ bytes-length w h = simp (length-append, head-length) (go (isInput (w .body)) (h 
     go true f = omega arith
     go false f = rw (f refl .1) (omega arith)
 
+table : (body : MessageBody) (n b : ℕ) → sizeWith body n b ≡ bodySize body n b
+unfolding sizeWith kindOf isInput
+table (SyncRequest x) n b = refl
+table (SyncReply x) n b = refl
+table (Input d s a) n b = omega arith
+table (InputAck a) n b = refl
+table (QualityReport a x) n b = refl
+table (QualityReply x) n b = refl
+table (ChecksumReport x f) n b = refl
+table KeepAlive n b = refl
+
+pub size-table : (w : Wire) → sizeOf w ≡ tableSize w
+unfolding sizeOf
+size-table w = table (w .body) (length (w .reports)) (length (w .payload))
+
 pub least : (w : Wire) → 6 ≤ length (bytes w)
 unfolding bytes
 least w = simp length-append (omega (arith, head-parts w (length (w .payload))))
@@ -146,6 +161,20 @@ size-meant m p short four =
     go true f = rw (f refl)
     go false f = refl
 
+-- a message within the counts is refused for want of room alone
+within-counts : (m : Message) (n : ℕ) → m .reports .count ≤ maxStatuses → n ≤ maxPayload → tooLong m n ≡ false
+unfolding tooLong
+within-counts m n few short =
+    rw (le-ltb maxStatuses (m .reports .count) few, le-ltb maxPayload n short)
+    (elim (isInput (m .body)) as (λ t. pick t false false ≡ false) [ true ↦ refl | false ↦ refl ])
+
+pub refused-room : (buffer : List ℕ) (at : ℕ) (m : Message) (p : List ℕ) → m .reports .count ≤ maxStatuses → length p ≤ maxPayload
+    → length (m .reports .list) ≡ 4 → writeRefusal buffer at m (length p) ≡ pick (noRoom buffer at (tableSize (meant m p))) 5 0
+unfolding writeRefusal
+refused-room buffer at m p few short four =
+    let within = within-counts m (length p) few short in
+    rw (within, size-meant m p within four, size-table)
+
 -- a message's bytes are its head's and, of an Input, the payload's
 pub head-payload : (m : Message) (p : List ℕ) → isInput (m .body) ≡ true → bytes (meant m p) ≡ head (meant m []) (length p) ++ p
 head-payload m p e = bytes-input m p e
@@ -166,6 +195,19 @@ module _ (buffer : List ℕ) (at : ℕ) (m : Message) (p : List ℕ) (e : isInpu
       let ends = head-end buffer at m p r buffer′ h done in
       let size = rw e at (size-head m (length p) (short .0) four) in
       (omega (arith, short .1), rw (head-lent buffer at m p r buffer′ h done, ends) (laid-payload (omega (arith, short .1))))
+
+  -- with it the message is written
+  pub head-written : (r : Written) (buffer′ buffer″ : List ℕ) → HeadAs buffer at m (length p) r buffer′ → numberOf (r .answer) ≡ 0
+      → length (m .reports .list) ≡ 4 → Bytes p → buffer″ ≡ laidAt buffer′ (r .end) p
+      → WrittenAs buffer at m p (record { answer = Done; end = r .end + length p }) buffer″
+  head-written r buffer′ buffer″ h done four q l =
+      let room = payload-laid r buffer′ h done four .0 in
+      let ends = head-end buffer at m p r buffer′ h done in
+      input-written buffer at m p r buffer′ h done buffer″ (r .end + length p) q e (omega arith) refl l
+
+pub head-refused : (buffer : List ℕ) (at : ℕ) (m : Message) (p : List ℕ) (r : Written) (buffer′ : List ℕ) → HeadAs buffer at m (length p) r buffer′
+    → (numberOf (r .answer) ≡ 0 → ⊥) → WrittenAs buffer at m p r buffer′
+head-refused = still-refused
 
 -- what the writer and the reader answer: of a message that fits, and of bytes that read
 pub written-end : (buffer : List ℕ) (at : ℕ) (m : Message) (p : List ℕ) (r : Written) (buffer′ : List ℕ) → WrittenAs buffer at m p r buffer′
@@ -202,14 +244,6 @@ firstEnd queue = pick (eqb (numberIn (message queue)) 0) (length queue - length 
 unfoldable pub cutAll : ℕ → List ℕ → List (List ℕ)
 cutAll zero queue = []
 cutAll (suc k) queue = pick (eqb (firstEnd queue) 0) [] (take (firstEnd queue) queue ∷ cutAll k (drop (firstEnd queue) queue))
-
-abbrev pub FitAll : List Wire → Type 0
-FitAll [] = Unit {0}
-FitAll (w ∷ ws) = Fits w × FitAll ws
-
--- messages back to back
-abbrev pub queueOf : List Wire → List ℕ
-queueOf ws = flatten (map bytes ws)
 
 pub first-end : (w : Wire) (rest : List ℕ) → Fits w → firstEnd (bytes w ++ rest) ≡ length (bytes w)
 unfolding firstEnd

@@ -1,4 +1,4 @@
--- What a message struct stands for, field by field, for crates that do not open `meant`.
+-- What a message struct stands for, as a whole and field by field, for crates that do not open `meant`.
 use mathlib.Core.Path.{_≡_, refl}
 use mathlib.Core.Bool.{Bool, true, false}
 use mathlib.Core.List.{List, []}
@@ -7,8 +7,33 @@ use native.Mathlib.Omega.{arith}
 use lib.ListN.{length, length-take}
 use Rattle.base.specs.Pick.{pick}
 use Rattle.codec.specs.Message.{isInput, listed, meant}
+use Rattle.codec.specs.Read.{plain}
+use Rattle.codec.specs.declared.StatusReports.{StatusReports}
 use Rattle.codec.specs.declared.Message.{Message}
+use Rattle.codec.specs.declared.MessageBody.{MessageBody}
 use Rattle.codec.specs.declared.MessageBody.the-variants.{Input}
+
+chosen-none : {A : Type 0} (t : Bool) (l : List A) → l ≡ [] → pick t l [] ≡ []
+chosen-none true l e = e
+chosen-none false l e = refl
+
+-- a message whose count is 0 is a plain one
+pub meant-plain : (magic : ℕ) (body : MessageBody) (rs : StatusReports) → rs .count ≡ 0
+    → meant (record { magic = magic; body = body; reports = rs }) [] ≡ plain magic body
+unfolding meant
+meant-plain magic body rs e =
+    rw (chosen-none (isInput body) (listed rs) (rw e), chosen-none {A = ℕ} (isInput body) [] refl)
+
+pub input-is : (d : Bool) (s a : ℕ) → isInput (Input d s a) ≡ true
+unfolding isInput
+input-is d s a = refl
+
+-- an Input has the reports that its array lists, and the payload beside it
+pub meant-input : (magic : ℕ) (d : Bool) (s a : ℕ) (rs : StatusReports) (payload : List ℕ)
+    → meant (record { magic = magic; body = Input d s a; reports = rs }) payload
+    ≡ record { magic = magic; body = Input d s a; reports = listed rs; payload = payload }
+unfolding meant isInput
+meant-input magic d s a rs payload = refl
 
 module _ (m : Message) (payload : List ℕ) where
   pub meant-magic : meant m payload .magic ≡ m .magic

@@ -1,5 +1,5 @@
--- Two answers that a contract allows are equal, by name for each public function. The one exception: what a message that was read holds in its
--- status array past the count is left open (`read-open`).
+-- Two answers that a contract allows are equal, by name for each public function. The one exception: what a status array, of a message
+-- that was read or an empty one, holds past the count is left open (`read-open`).
 use mathlib.Core.Path.{_≡_, refl, sym, _∙_, ap}
 use mathlib.Core.Bool.{Bool, true, false}
 use mathlib.Core.List.{List, [], _∷_}
@@ -13,6 +13,7 @@ use Rattle.codec.specs.Message.{Wire, kindOf, isInput, listed, meant}
 use Rattle.codec.specs.Read.{part, number, kinds, message, datagram, wireIn}
 use Rattle.codec.specs.Calls.{shownSize, sizeAs, LaidAs, WrittenAs, HeadAs, ReadAs, PayloadAs, CutAs}
 use Rattle.codec.specs.declared.StatusReport.{StatusReport}
+use Rattle.codec.specs.declared.StatusReports.{StatusReports}
 use Rattle.codec.specs.declared.Message.{Message}
 use Rattle.codec.specs.declared.MessageBody.{MessageBody}
 use Rattle.codec.specs.declared.MessageBody.the-variants.{KeepAlive}
@@ -50,6 +51,9 @@ module _ (r s : Written) (buffer′ buffer″ : List ℕ) where
   pub write-head-settled : (buffer : List ℕ) (at : ℕ) (m : Message) (n : ℕ) → HeadAs buffer at m n r buffer′ → HeadAs buffer at m n s buffer″
       → (r ≡ s) × (buffer′ ≡ buffer″)
   write-head-settled buffer at m n = laid-settled buffer at _ _ _
+
+pub no-reports-settled : (r s : StatusReports) → r .count ≡ 0 → s .count ≡ 0 → (listed r ≡ listed s) × (r .count ≡ s .count)
+no-reports-settled r s e f = (rw (e, f), e ∙ sym f)
 
 -- the list of a message that was read: what its array holds below the count
 read-list : (d : List ℕ) (r : Received) → ReadAs d r → listed (r .message .reports) ≡ wireIn (datagram d) .reports

@@ -1,6 +1,6 @@
 -- The bytes of a message: bincode 1's layout, fields in declared order.
 use mathlib.Core.Bool.{Bool, true, false}
-use mathlib.Core.List.{List, [], _∷_, _++_}
+use mathlib.Core.List.{List, [], _∷_, _++_, map, flatten}
 use Prim.Native.Nat.{ℕ}
 use lib.ListN.{length}
 use Rattle.base.specs.Little.{le}
@@ -62,3 +62,7 @@ head w n = le 2 (w .magic) ++ le 4 (kindOf (w .body)) ++ bodyBytes (w .body) (w 
 
 unfoldable pub bytes : Wire → List ℕ
 bytes w = head w (length (w .payload)) ++ w .payload
+
+-- messages back to back
+abbrev pub queueOf : List Wire → List ℕ
+queueOf ws = flatten (map bytes ws)

@@ -1,7 +1,7 @@
 -- A message as a value: its kind, its size, and which values its bytes can tell.
 use mathlib.Core.Path.{_≡_}
 use mathlib.Core.Bool.{Bool, true, false}
-use mathlib.Core.List.{List, []}
+use mathlib.Core.List.{List, [], _∷_}
 use Prim.Native.Nat.{ℕ, _+_, _*_, _^_, _<_, _≤_}
 use lib.ListN.{length, take, getD}
 use Rattle.base.specs.Pick.{pick}
@@ -62,6 +62,20 @@ sizeWith body statuses n = fixedSize (kindOf body) + pick (isInput body) (5 * st
 unfoldable pub sizeOf : Wire → ℕ
 sizeOf w = sizeWith (w .body) (length (w .reports)) (length (w .payload))
 
+-- the same table by the body's case, in a form that computes on a literal body: with n statuses and b payload bytes
+abbrev pub bodySize : MessageBody → ℕ → ℕ → ℕ
+bodySize (SyncRequest nonce) n b = fixedSize 0
+bodySize (SyncReply nonce) n b = fixedSize 1
+bodySize (Input disconnect start ack) n b = fixedSize 2 + 5 * n + b
+bodySize (InputAck ack) n b = fixedSize 3
+bodySize (QualityReport advantage ping) n b = fixedSize 4
+bodySize (QualityReply pong) n b = fixedSize 5
+bodySize (ChecksumReport checksum frame) n b = fixedSize 6
+bodySize KeepAlive n b = fixedSize 7
+
+abbrev pub tableSize : Wire → ℕ
+tableSize w = bodySize (w .body) (length (w .reports)) (length (w .payload))
+
 abbrev pub FitsWide : Wide → Type 0
 FitsWide x = (x .low < 2 ^ 64) × (x .high < 2 ^ 64)
 
@@ -88,3 +102,7 @@ pub record Fits (w : Wire) : Type 0 where
   pub length : lib.ListN.length (w .payload) ≤ maxPayload
   pub bytes : Bytes (w .payload)
   pub none : isInput (w .body) ≡ false → (w .reports ≡ []) × (w .payload ≡ [])
+
+abbrev pub FitAll : List Wire → Type 0
+FitAll [] = Unit {0}
+FitAll (w ∷ ws) = Fits w × FitAll ws

@@ -6,6 +6,7 @@ mod writer;
 
 use answer::Answer;
 pub use reader::first_end;
+pub use reader::no_reports;
 pub use reader::payload_of;
 pub use reader::read;
 pub use writer::size_of;

@@ -305,7 +305,8 @@ fn refused(answer: Answer) -> Front
     }
 }
 
-fn no_reports() -> StatusReports
+// An empty status list.
+pub fn no_reports() -> StatusReports
     ensures { λ r. ⌜ r .count ≡ 0 ⌝ }
 {
     let none = StatusReport {

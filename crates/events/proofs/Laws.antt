@@ -11,7 +11,7 @@ use lib.Dec.{leb}
 use lib.ListN.{length, take, drop, set, getD, replicate, length-replicate, length-take, length-drop, length-append, drop-of-length-le}
 use lib.Seq.{drop-cons, drop-drop, getD-take, getD-drop, take-all}
 use Rattle.base.specs.Pick.{pick}
-use Rattle.base.proofs.Arrays.{drop-replicate}
+use Rattle.base.proofs.Arrays.{drop-replicate, view-le}
 use Rattle.base.proofs.Kept.{next-turn}
 use Rattle.base.proofs.Padded.{take-join, drop-join, take-alike, pad-over, pad-more}
 use Rattle.packing.specs.Packing.{xors, framesOf}
@@ -19,7 +19,9 @@ use Rattle.packing.specs.Pad.{padded}
 use Rattle.packing.proofs.Laws.{xors-length, frames-length}
 use Rattle.events.specs.declared.Entry.{Entry}
 use Rattle.events.specs.declared.Event.the-variants as Event
-use Rattle.events.specs.Events.{hasRoom, inputOf, inputEntry, announced, announcedAll, packetFits}
+use Rattle.events.specs.declared.Events.{Events}
+use Rattle.events.specs.declared.Pushed.{Pushed}
+use Rattle.events.specs.Events.{held, hasRoom, inputOf, inputEntry, announced, announcedAll, packetFits, PushedAs}
 
 unfoldable pub zeros : List ℕ
 zeros = replicate 16 0
@@ -144,3 +146,17 @@ packet-fits l frame count hs h = rw (le-leb (frame + count) (2 ^ 32) h)
 
 pub packet-length : (frame size w : ℕ) (r hs p : List ℕ) (count : ℕ) → length (announcedAll frame size hs (framesOf w r count p)) ≡ count * length hs
 packet-length frame size w r hs p count = announcedAll-length frame size hs (framesOf w r count p) ∙ rw (frames-length w r count p)
+
+-- one event, told or not
+module _ (e : Events) (tells : Bool) (entry : Entry) where
+  abbrev More : List Entry
+  More = pick tells (entry ∷ []) []
+
+  pub pushed-if : (r : Pushed) → tells ≡ true → PushedAs e (hasRoom (held e) 1) (entry ∷ []) r → PushedAs e (hasRoom (held e) (length More)) More r
+  pushed-if r h p = rw h p
+
+  pub not-pushed : tells ≡ false → length (e .entries) ≡ 640 → PushedAs e (hasRoom (held e) (length More)) More (record { ok = true; events = e })
+  unfolding hasRoom held
+  not-pushed h l =
+      let t : leb (length (held e) + 0) 640 ≡ true = le-leb (length (held e) + 0) 640 (omega (arith, l, view-le (e .used) (e .entries))) in
+      rw h (record { ok = sym t; view = rw (t, append-nil); same = λ _. refl })

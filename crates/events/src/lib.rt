@@ -138,6 +138,19 @@ impl Events {
         }
     }
 
+    // The same where there is something to tell, else unchanged.
+    pub fn push_if(self, tells: bool, entry: Entry) -> Pushed
+        ensures { λ r. ⌜ PushedAs self (hasRoom (held self) (length (pick tells (entry ∷ []) []))) (pick tells (entry ∷ []) []) r ⌝ }
+    {
+        if tells {
+            return self.push(entry);
+        }
+        Pushed {
+            ok: true,
+            events: self,
+        }
+    }
+
     // A packet's Input events, frame by frame, in each one per handle: `count` frames of `width` bytes from a place of the payload on, each XOR the
     // reference, the first being `frame`. Where there is no room for all, or a number would be no frame, unchanged. Both loops are in here, so that
     // the store is copied once.

@@ -1,2 +1,3 @@
 pub mod Merge
 pub mod MergeAll
+pub mod Held

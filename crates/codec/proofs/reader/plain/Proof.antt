@@ -1,5 +1,5 @@
 -- `plain` puts a body into a message without reports.
-use Rattle.codec.proofs.Fronts.{meant-plain}
+use Rattle.codec.proofs.Meant.{meant-plain}
 use mathlib.Core.Path.{refl}
 use borrow.Author.Needs.{needs}
 use Rattle.codec.proofs.reader.plain.Statement.{statement}

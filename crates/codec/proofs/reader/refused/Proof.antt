@@ -1,6 +1,6 @@
 -- `refused` has a blank message.
 use Rattle.codec.specs.declared.MessageBody.the-variants.{KeepAlive}
-use Rattle.codec.proofs.Fronts.{meant-plain}
+use Rattle.codec.proofs.Meant.{meant-plain}
 use mathlib.Core.Path.{refl}
 use borrow.Author.Needs.{needs}
 use Rattle.codec.proofs.reader.refused.Statement.{statement}

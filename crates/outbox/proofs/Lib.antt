@@ -1,0 +1,4 @@
+pub mod Writes
+pub mod Packed
+pub mod Laws
+pub mod Settled

@@ -1,0 +1,4 @@
+pub mod Laws
+pub mod Datagrams
+pub mod Bouts
+pub mod Orders

@@ -1,0 +1,14 @@
+pub mod Seen
+pub mod Did
+pub mod Room
+pub mod Handshake
+pub mod Sending
+pub mod Receiving
+pub mod Act
+pub mod Reports
+pub mod Checksum
+pub mod Advantage
+pub mod Call
+pub mod Step
+pub mod Value
+pub mod Sound

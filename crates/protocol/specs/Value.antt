@@ -1,0 +1,59 @@
+-- What a call hands back beside its number, where the number is 0: read off the state before it.
+use mathlib.Core.Bool.{Bool, _||_}
+use mathlib.Core.List.{List}
+use Prim.Native.Nat.{ℕ}
+use lib.Dec.{eqb}
+use lib.ListN.{getD}
+use Rattle.base.specs.Pick.{pick}
+use Rattle.status.specs.Status.{defaultStatus}
+use Rattle.status.specs.declared.ConnectionStatus.{ConnectionStatus}
+use Rattle.checksums.specs.declared.Checksum.{Checksum}
+use Rattle.events.specs.declared.Entry.{Entry}
+use Rattle.protocol.specs.declared.Phase.{Phase}
+use Rattle.quality.specs.declared.NetworkStats.{NetworkStats}
+use Rattle.protocol.specs.Seen.{Seen, isRunning, isDisconnected, isShutdown}
+use Rattle.protocol.specs.Sending.{newest}
+use Rattle.protocol.specs.Reports.{statsOf}
+use Rattle.protocol.specs.Call.{Call}
+
+pub data Value : Type 0 where
+  nothing : Value
+  stats : NetworkStats → Value
+  status : ConnectionStatus → Value
+  events : List Entry → Value
+  -- the filled part of the send buffer, from its start: how many bytes
+  part : ℕ → Value
+  numbers : List ℕ → Value
+  flag : Bool → Value
+  frame : ℕ → Value
+  phase : Phase → Value
+  checksums : List Checksum → Value
+
+-- Running, Disconnected or Shutdown
+abbrev pub synchronizedIn : Phase → Bool
+synchronizedIn p = isRunning p || isDisconnected p || isShutdown p
+
+-- in Shutdown the part is empty
+unfoldable pub filledPart : Seen → ℕ
+filledPart s = pick (isShutdown (s .phase)) 0 (s .queued)
+
+unfoldable pub valueOf : Call → Seen → Value
+valueOf (Call.synchronize now epoch nonce buffer) s = Value.nothing
+valueOf (Call.message from count w now epoch nonce buffer) s = Value.nothing
+valueOf (Call.datagram from bytes now epoch nonce buffer) s = Value.nothing
+valueOf (Call.act count statuses now epoch nonce buffer) s = Value.nothing
+valueOf (Call.sendInput at bytes count statuses now buffer) s = Value.nothing
+valueOf (Call.disconnect now) s = Value.nothing
+valueOf (Call.sendChecksumReport at checksum now buffer) s = Value.nothing
+valueOf (Call.updateLocalFrameAdvantage localFrame) s = Value.nothing
+valueOf (Call.networkStats epoch) s = Value.stats (statsOf s)
+valueOf (Call.peerConnectStatus handle) s = Value.status (getD (s .statuses) handle defaultStatus)
+valueOf Call.takeEvents s = Value.events (s .events)
+valueOf (Call.takeMessages buffer) s = Value.part (filledPart s)
+valueOf Call.handles s = Value.numbers (s .setup .handles)
+valueOf Call.isSynchronized s = Value.flag (synchronizedIn (s .phase))
+valueOf Call.isRunning s = Value.flag (isRunning (s .phase))
+valueOf (Call.isHandlingMessage from) s = Value.flag (eqb from (s .setup .peer))
+valueOf Call.newestFrame s = Value.frame (newest s)
+valueOf Call.state s = Value.phase (s .phase)
+valueOf Call.checksums s = Value.checksums (s .checksums)

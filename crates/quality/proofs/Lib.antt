@@ -1,0 +1,4 @@
+pub mod Held
+pub mod Overflows
+pub mod Laws
+pub mod Settled

@@ -1,0 +1,2 @@
+pub mod Quality
+pub mod Advantage

@@ -1,0 +1,36 @@
+-- Two answers that a contract allows are equal, by name for each public function.
+use mathlib.Core.Bool.{Bool}
+use mathlib.Core.Path.{_≡_}
+use Prim.Native.Nat.{ℕ}
+use Rattle.base.proofs.Settled.{settled}
+use Rattle.timers.specs.declared.Clocks.{Clocks}
+use Rattle.timers.specs.Timers.{badClock, passed, madeAt, qualityAt, inputAt, sentAt, requestAt, heardAt, shutdownAt}
+
+module _ (now : ℕ) where
+  pub is-bad-settled : (r s : Bool) → r ≡ badClock now → s ≡ badClock now → r ≡ s
+  is-bad-settled = settled (λ r. r) (badClock now)
+
+  pub passed-settled : (last wait : ℕ) (r s : Bool) → r ≡ passed last wait now → s ≡ passed last wait now → r ≡ s
+  passed-settled last wait = settled (λ r. r) (passed last wait now)
+
+  pub new-settled : (r s : Clocks) → r ≡ madeAt now → s ≡ madeAt now → r ≡ s
+  new-settled = settled (λ r. r) (madeAt now)
+
+  module _ (c r s : Clocks) where
+    pub quality-reported-settled : r ≡ qualityAt now c → s ≡ qualityAt now c → r ≡ s
+    quality-reported-settled = settled (λ r. r) (qualityAt now c) r s
+
+    pub input-received-settled : r ≡ inputAt now c → s ≡ inputAt now c → r ≡ s
+    input-received-settled = settled (λ r. r) (inputAt now c) r s
+
+    pub sent-settled : r ≡ sentAt now c → s ≡ sentAt now c → r ≡ s
+    sent-settled = settled (λ r. r) (sentAt now c) r s
+
+    pub requested-settled : r ≡ requestAt now c → s ≡ requestAt now c → r ≡ s
+    requested-settled = settled (λ r. r) (requestAt now c) r s
+
+    pub heard-settled : r ≡ heardAt now c → s ≡ heardAt now c → r ≡ s
+    heard-settled = settled (λ r. r) (heardAt now c) r s
+
+    pub shutting-down-settled : r ≡ shutdownAt now c → s ≡ shutdownAt now c → r ≡ s
+    shutting-down-settled = settled (λ r. r) (shutdownAt now c) r s

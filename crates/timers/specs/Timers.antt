@@ -1,0 +1,114 @@
+-- The clocks: when one is refused, when a wait is over, and what setting one changes.
+use mathlib.Core.Bool.{Bool, true, false, _||_}
+use mathlib.Core.Path.{_≡_, refl}
+use Prim.Native.Nat.{ℕ, _+_, _-_, _^_}
+use lib.Dec.{ltb, leb}
+use Rattle.timers.specs.declared.Clocks.{Clocks}
+
+-- clocks at most 2^62 - 1
+abbrev pub badClock : ℕ → Bool
+badClock now = leb (2 ^ 62) now
+
+abbrev pub badClocks : (now epoch : ℕ) → Bool
+badClocks now epoch = badClock now || badClock epoch
+
+-- thresholds are strict, last + 200 < now
+abbrev pub passed : (last wait now : ℕ) → Bool
+passed last wait now = ltb (last + wait) now
+
+-- all clocks at now
+abbrev pub madeAt : ℕ → Clocks
+madeAt now =
+    record {
+      «running_last_quality_report» = now;
+      «running_last_input_recv» = now;
+      «last_send_time» = now;
+      «last_sync_request_time» = now;
+      «last_recv_time» = now;
+      «shutdown_timeout» = now;
+    }
+
+-- ---- one clock set, all else as it was
+
+abbrev pub qualityAt : ℕ → Clocks → Clocks
+qualityAt now c =
+    record {
+      «running_last_quality_report» = now;
+      «running_last_input_recv» = c .«running_last_input_recv»;
+      «last_send_time» = c .«last_send_time»;
+      «last_sync_request_time» = c .«last_sync_request_time»;
+      «last_recv_time» = c .«last_recv_time»;
+      «shutdown_timeout» = c .«shutdown_timeout»;
+    }
+
+abbrev pub inputAt : ℕ → Clocks → Clocks
+inputAt now c =
+    record {
+      «running_last_quality_report» = c .«running_last_quality_report»;
+      «running_last_input_recv» = now;
+      «last_send_time» = c .«last_send_time»;
+      «last_sync_request_time» = c .«last_sync_request_time»;
+      «last_recv_time» = c .«last_recv_time»;
+      «shutdown_timeout» = c .«shutdown_timeout»;
+    }
+
+abbrev pub sentAt : ℕ → Clocks → Clocks
+sentAt now c =
+    record {
+      «running_last_quality_report» = c .«running_last_quality_report»;
+      «running_last_input_recv» = c .«running_last_input_recv»;
+      «last_send_time» = now;
+      «last_sync_request_time» = c .«last_sync_request_time»;
+      «last_recv_time» = c .«last_recv_time»;
+      «shutdown_timeout» = c .«shutdown_timeout»;
+    }
+
+abbrev pub requestAt : ℕ → Clocks → Clocks
+requestAt now c =
+    record {
+      «running_last_quality_report» = c .«running_last_quality_report»;
+      «running_last_input_recv» = c .«running_last_input_recv»;
+      «last_send_time» = c .«last_send_time»;
+      «last_sync_request_time» = now;
+      «last_recv_time» = c .«last_recv_time»;
+      «shutdown_timeout» = c .«shutdown_timeout»;
+    }
+
+abbrev pub heardAt : ℕ → Clocks → Clocks
+heardAt now c =
+    record {
+      «running_last_quality_report» = c .«running_last_quality_report»;
+      «running_last_input_recv» = c .«running_last_input_recv»;
+      «last_send_time» = c .«last_send_time»;
+      «last_sync_request_time» = c .«last_sync_request_time»;
+      «last_recv_time» = now;
+      «shutdown_timeout» = c .«shutdown_timeout»;
+    }
+
+abbrev pub shutdownAt : ℕ → Clocks → Clocks
+shutdownAt time c =
+    record {
+      «running_last_quality_report» = c .«running_last_quality_report»;
+      «running_last_input_recv» = c .«running_last_input_recv»;
+      «last_send_time» = c .«last_send_time»;
+      «last_sync_request_time» = c .«last_sync_request_time»;
+      «last_recv_time» = c .«last_recv_time»;
+      «shutdown_timeout» = time;
+    }
+
+-- worked: the last clock that is taken, and the first that is refused
+last-clock : badClock (2 ^ 62 - 1) ≡ false
+last-clock = refl
+
+first-refused : badClock (2 ^ 62) ≡ true
+first-refused = refl
+
+epoch-refused : badClocks 0 (2 ^ 62) ≡ true
+epoch-refused = refl
+
+-- worked (P11): last request at 1000, at 1200 nothing is due, at 1201 a request is
+not-yet : passed 1000 200 1200 ≡ false
+not-yet = refl
+
+due : passed 1000 200 1201 ≡ true
+due = refl

@@ -1,0 +1,98 @@
+// The timer clocks of an endpoint (ggrs, protocol.rs), when a clock is refused, and when a wait is over. Each clock is set by a step of its own.
+ghost use mathlib.Core.Path.{_≡_};
+ghost use Rattle.timers.specs.Timers.{badClock, passed, madeAt, qualityAt, inputAt, sentAt, requestAt, heardAt, shutdownAt};
+
+// The first clock that is refused.
+pub const CLOCK_END: u64 = 0x4000_0000_0000_0000;
+
+// The timer clocks, in milliseconds of the monotonic clock.
+pub struct Clocks {
+    pub running_last_quality_report: u64,
+    pub running_last_input_recv: u64,
+    pub last_send_time: u64,
+    pub last_sync_request_time: u64,
+    pub last_recv_time: u64,
+    pub shutdown_timeout: u64,
+}
+
+pub fn is_bad(now: u64) -> bool
+    ensures { λ r. ⌜ r ≡ badClock now ⌝ }
+{
+    CLOCK_END <= now
+}
+
+// By differences, since the sum of two clocks may leave u64.
+pub fn passed(last: u64, wait: u64, now: u64) -> bool
+    ensures { λ r. ⌜ r ≡ passed last wait now ⌝ }
+{
+    last < now && wait < now - last
+}
+
+impl Clocks {
+    pub fn new(now: u64) -> Clocks
+        ensures { λ r. ⌜ r ≡ madeAt now ⌝ }
+    {
+        Clocks {
+            running_last_quality_report: now,
+            running_last_input_recv: now,
+            last_send_time: now,
+            last_sync_request_time: now,
+            last_recv_time: now,
+            shutdown_timeout: now,
+        }
+    }
+
+    pub fn quality_reported(self, now: u64) -> Clocks
+        ensures { λ r. ⌜ r ≡ qualityAt now self ⌝ }
+    {
+        Clocks {
+            running_last_quality_report: now,
+            ..self
+        }
+    }
+
+    pub fn input_received(self, now: u64) -> Clocks
+        ensures { λ r. ⌜ r ≡ inputAt now self ⌝ }
+    {
+        Clocks {
+            running_last_input_recv: now,
+            ..self
+        }
+    }
+
+    pub fn sent(self, now: u64) -> Clocks
+        ensures { λ r. ⌜ r ≡ sentAt now self ⌝ }
+    {
+        Clocks {
+            last_send_time: now,
+            ..self
+        }
+    }
+
+    pub fn requested(self, now: u64) -> Clocks
+        ensures { λ r. ⌜ r ≡ requestAt now self ⌝ }
+    {
+        Clocks {
+            last_sync_request_time: now,
+            ..self
+        }
+    }
+
+    pub fn heard(self, now: u64) -> Clocks
+        ensures { λ r. ⌜ r ≡ heardAt now self ⌝ }
+    {
+        Clocks {
+            last_recv_time: now,
+            ..self
+        }
+    }
+
+    pub fn shutting_down(self, at: u64) -> Clocks
+        ensures { λ r. ⌜ r ≡ shutdownAt at self ⌝ }
+    {
+        Clocks {
+            shutdown_timeout: at,
+            ..self
+        }
+    }
+}
