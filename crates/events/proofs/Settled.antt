@@ -4,6 +4,7 @@ use mathlib.Core.List.{List, [], _∷_}
 use mathlib.Core.Path.{_≡_, sym, _∙_}
 use Prim.Native.Nat.{ℕ}
 use lib.ListN.{length, take, drop, getD}
+use Rattle.base.specs.Pick.{pick}
 use Rattle.base.proofs.Settled.{settled}
 use Rattle.packing.specs.Packing.{framesOf}
 use Rattle.events.specs.declared.Entry.{Entry}
@@ -31,6 +32,10 @@ module _ (e : Events) where
   pub push-settled : (x : Entry) (r s : Pushed) → PushedAs e (hasRoom (held e) 1) (x ∷ []) r → PushedAs e (hasRoom (held e) 1) (x ∷ []) s
       → (r .ok ≡ s .ok) × (held (r .events) ≡ held (s .events))
   push-settled x = pushed-settled (hasRoom (held e) 1) (x ∷ [])
+
+  pub push-if-settled : (tells : Bool) (x : Entry) (r s : Pushed) → PushedAs e (hasRoom (held e) (length (pick tells (x ∷ []) []))) (pick tells (x ∷ []) []) r
+      → PushedAs e (hasRoom (held e) (length (pick tells (x ∷ []) []))) (pick tells (x ∷ []) []) s → (r .ok ≡ s .ok) × (held (r .events) ≡ held (s .events))
+  push-if-settled tells x = pushed-settled (hasRoom (held e) (length (pick tells (x ∷ []) []))) (pick tells (x ∷ []) [])
 
   module _ (frame count : ℕ) (payload : List ℕ) (at width : ℕ) (reference handles : List ℕ) (handleCount size : ℕ) where
     abbrev pub packetAble : Bool

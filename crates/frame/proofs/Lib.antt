@@ -1,2 +1,3 @@
 pub mod Signed
 pub mod Bits
+pub mod Settled

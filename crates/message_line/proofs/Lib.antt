@@ -6,3 +6,4 @@ pub mod HeadLaws
 pub mod LayLaws
 pub mod PrintedLaws
 pub mod Bouts
+pub mod Settled

@@ -1,9 +1,9 @@
 -- Document 01's worked bouts P3 to P14, computed from `step` on a fresh endpoint that calls bring to where the bout begins.
-use mathlib.Core.Bool.{Bool, true, false}
+use mathlib.Core.Bool.{true, false}
 use mathlib.Core.List.{List, [], _∷_, map}
 use mathlib.Core.Path.{_≡_, refl}
 use Prim.Native.Nat.{ℕ, _+_, _-_}
-use lib.ListN.{length, take, replicate}
+use lib.ListN.{length, take}
 use Rattle.base.specs.Keyed.{kept, has, without}
 use Rattle.frame.specs.Bias.{bias32, bias16, nullFrame}
 use Rattle.packing.specs.Packing.{xors, framesOf, unpack, pack, decodableLength, decodable}
@@ -11,23 +11,21 @@ use Rattle.packing.specs.Pad.{zeros, padded}
 use Rattle.pending.specs.Pending.{dropTo, lastTo, room}
 use Rattle.history.specs.History.{blank, highest, newestOf, foundIn, atLine, above, numbered, packetOf, takenIn}
 use Rattle.nonces.specs.Nonces.{issued, fits}
-use Rattle.status.specs.declared.ConnectionStatus.{ConnectionStatus}
 use Rattle.status.specs.Status.{defaultStatus, reported, merged}
 use Rattle.status.specs.Statuses.{mergedAll, fresh as freshStatuses}
 use Rattle.codec.specs.Message.{Wire}
-use Rattle.codec.specs.declared.Wide.{Wide}
 use Rattle.codec.specs.declared.StatusReport.{StatusReport}
 use Rattle.codec.specs.declared.MessageBody.{MessageBody}
 use Rattle.codec.specs.declared.MessageBody.the-variants.{SyncRequest, SyncReply, Input, InputAck, QualityReport, QualityReply}
 use Rattle.events.specs.declared.Entry.{Entry}
 use Rattle.events.specs.declared.Event.the-variants as Event
 use Rattle.events.specs.Events.{hasRoom, inputOf, inputEntry, announced}
+use Rattle.timers.specs.declared.Clocks.{Clocks}
 use Rattle.setup.specs.declared.Setup.{Setup}
-use Rattle.protocol.specs.declared.Phase.{Phase}
-use Rattle.protocol.specs.declared.Phase.the-variants.{Initializing, Synchronizing, Running, Disconnected, Shutdown}
+use Rattle.protocol.specs.declared.Phase.the-variants.{Disconnected, Shutdown}
 use Rattle.setup.specs.declared.DesyncDetection.the-variants.{Off}
 use Rattle.setup.specs.Setup.{badSetup, anyAbove, anyTwice, inserted, sorted, termsWith}
-use Rattle.protocol.specs.Seen.{Seen, made, heardAt}
+use Rattle.protocol.specs.Seen.{Seen, withClocks, made}
 use Rattle.outbox.specs.Outbox.{sizes}
 use Rattle.protocol.specs.Did.{Did, refused, decided, queueWire, done}
 use Rattle.protocol.specs.Room.{bufferFull, isFull}
@@ -77,16 +75,23 @@ wire body reports payload = record { magic = 9; body = body; reports = reports; 
 abbrev pub none : List StatusReport
 none = record { disconnected = false; «last_frame» = nullFrame } ∷ record { disconnected = false; «last_frame» = nullFrame } ∷ []
 
--- a message from the peer at a clock, both clocks alike, with a new nonce
+-- the epoch clock stands 70,000 ahead of the monotonic one
+abbrev pub epochAt : ℕ → ℕ
+epochAt now = 70000 + now
+
+-- a message from the peer at a clock, with a new nonce
 abbrev pub hand : Wire → (now nonce : ℕ) → Call
-hand w now nonce = Call.message 3 (length (w .reports)) w now now nonce 65536
+hand w now nonce = Call.message 3 (length (w .reports)) w now (epochAt now) nonce 65536
 
 -- an Input at clock 2000, acknowledging nothing
 abbrev pub packet : (start : ℕ) → List StatusReport → List ℕ → Call
 packet start reports payload = hand (wire (Input false start nullFrame) reports payload) 2000 0
 
-abbrev actAt : ℕ → Call
-actAt now = Call.act 2 (defaultStatus ∷ defaultStatus ∷ []) now now 99 65536
+abbrev pub actAt : ℕ → Call
+actAt now = Call.act 2 (defaultStatus ∷ defaultStatus ∷ []) now (epochAt now) 99 65536
+
+abbrev pub starting : Call
+starting = Call.synchronize 1000 (epochAt 1000) 1 65536
 
 -- calls one after the other
 abbrev pub after : List Call → Seen → Seen
@@ -98,7 +103,7 @@ abbrev pub reply : (nonce next : ℕ) → Call
 reply nonce next = hand (wire (SyncReply nonce) [] []) 1000 next
 
 abbrev pub handshake : List Call
-handshake = Call.synchronize 1000 1000 1 65536 ∷ reply 1 2 ∷ reply 2 3 ∷ reply 3 4 ∷ reply 4 5 ∷ reply 5 6 ∷ []
+handshake = starting ∷ reply 1 2 ∷ reply 2 3 ∷ reply 3 4 ∷ reply 4 5 ∷ reply 5 6 ∷ []
 
 -- one byte as the input of an event
 abbrev byte : ℕ → List ℕ
@@ -117,10 +122,10 @@ bodies d = map (λ (w : Wire). w .body) (d .out)
 
 -- ---- the calls of the bouts
 
-abbrev P3 : Call
+abbrev pub P3 : Call
 P3 = packet (fr 0) none (5 ∷ 7 ∷ [])
 
-abbrev P5 : Call
+abbrev pub P5 : Call
 P5 = packet (fr 2) none (2 ∷ [])
 
 -- with statuses: player 1 disconnected at frame 3
@@ -130,6 +135,18 @@ P6 = packet (fr 4) (record { disconnected = false; «last_frame» = nullFrame } 
 abbrev P8 : Call
 P8 = packet (fr 7) none (5 ∷ [])
 
+-- the clocks of an endpoint made at 1000 that heard something at 2000
+abbrev heardClocks : Clocks
+heardClocks =
+    record {
+      «running_last_quality_report» = 1000;
+      «running_last_input_recv» = 1000;
+      «last_send_time» = 1000;
+      «last_sync_request_time» = 1000;
+      «last_recv_time» = 2000;
+      «shutdown_timeout» = 1000;
+    }
+
 abbrev P10 : Did
 P10 = step (packet (fr 0) none (1 ∷ 2 ∷ 3 ∷ [])) (fresh (setupWith 2) 1000 .1)
 
@@ -138,12 +155,12 @@ abbrev advanced : (start local : ℕ) → List Call
 advanced start local = packet start none (5 ∷ []) ∷ Call.updateLocalFrameAdvantage local ∷ []
 
 abbrev reportAfter : (start local : ℕ) → List MessageBody
-reportAfter start local = take 1 (bodies (step (actAt 2000) (after (advanced start local) (after handshake new))))
+reportAfter start local = bodies (step (actAt 2000) (after (advanced start local) (after handshake new)))
 
 abbrev pong : Wire
-pong = wire (QualityReply (record { low = 1000; high = 0 })) [] []
+pong = wire (QualityReply (record { low = 71000; high = 0 })) [] []
 
-bouts :
+pub bouts :
     -- P3: (0, 05), (1, 07), ack 1
     (step P3 new .told ≡ told (fr 0) 5 ∷ told (fr 1) 7 ∷ [])
     × (step P3 new .out ≡ own (InputAck (fr 1)) ∷ [])
@@ -156,12 +173,14 @@ bouts :
     -- P6: no event, no ack; statuses merged
     × (step P6 (after (P3 ∷ P3 ∷ P5 ∷ []) new) .told ≡ [])
     × (bodies (step P6 (after (P3 ∷ P3 ∷ P5 ∷ []) new)) ≡ [])
-    × (step P6 (after (P3 ∷ P3 ∷ P5 ∷ []) new) .after .statuses ≡ reported false nullFrame ∷ reported true (fr 3) ∷ [])
+    × (step P6 (after (P3 ∷ P3 ∷ P5 ∷ []) new) .after .statuses
+    ≡ record { disconnected = false; «last_frame» = nullFrame } ∷ record { disconnected = true; «last_frame» = fr 3 } ∷ [])
     -- P7: start -1 is discarded: the receive time is set, and nothing else
-    × (step (packet nullFrame none (5 ∷ [])) new ≡ record { answer = 0; after = heardAt 2000 new; out = []; told = []; kept = [] })
+    × (step (packet nullFrame none (5 ∷ [])) new ≡ record { answer = 0; after = withClocks heardClocks new; out = []; told = []; kept = [] })
     -- P8: (7, 05), ack 7; second time neither
     × (step P8 new .told ≡ told (fr 7) 5 ∷ [])
     × (bodies (step P8 new) ≡ InputAck (fr 7) ∷ [])
+    × (step P8 (after (P8 ∷ []) new) .answer ≡ 0)
     × (step P8 (after (P8 ∷ []) new) .told ≡ [])
     × (bodies (step P8 (after (P8 ∷ []) new)) ≡ [])
     -- P9: no payload: no event, ack -1
@@ -171,15 +190,22 @@ bouts :
     × (P10 .after .clocks .«running_last_input_recv» ≡ 2000)
     × (bodies P10 ≡ [])
     -- P11: last request at 1000, act at 1200: nothing; 1201: a request
-    × (bodies (step (actAt 1200) (after (Call.synchronize 1000 1000 1 65536 ∷ []) new)) ≡ [])
-    × (bodies (step (actAt 1201) (after (Call.synchronize 1000 1000 1 65536 ∷ []) new)) ≡ SyncRequest 99 ∷ [])
+    × (step (actAt 1200) (after (starting ∷ []) new) .answer ≡ 0)
+    × (bodies (step (actAt 1200) (after (starting ∷ []) new)) ≡ [])
+    × (bodies (step (actAt 1201) (after (starting ∷ []) new)) ≡ SyncRequest 99 ∷ [])
     -- P12: disconnect at 1000, act at 6000: Disconnected; 6001: Shutdown
+    × (step (actAt 6000) (after (Call.disconnect 1000 ∷ []) new) .answer ≡ 0)
     × (after (Call.disconnect 1000 ∷ actAt 6000 ∷ []) new .phase ≡ Disconnected)
     × (after (Call.disconnect 1000 ∷ actAt 6001 ∷ []) new .phase ≡ Shutdown)
     -- P13: advantage 40,000 is reported as 32,767; -40,000 as -32,768
-    × (reportAfter (fr 40000) (fr 0) ≡ QualityReport (bias16 + 32767) (record { low = 2000; high = 0 }) ∷ [])
-    × (reportAfter (fr 0) (fr 40000) ≡ QualityReport (bias16 - 32768) (record { low = 2000; high = 0 }) ∷ [])
+    × (reportAfter (fr 40000) (fr 0) ≡ QualityReport (bias16 + 32767) (record { low = 72000; high = 0 }) ∷ [])
+    × (reportAfter (fr 0) (fr 40000) ≡ QualityReport (bias16 - 32768) (record { low = 72000; high = 0 }) ∷ [])
     -- P14: rtt 100, fps 60, newest 10, local 12: advantage 1
     × (after (hand pong 1100 0 ∷ advanced (fr 10) (fr 12)) new .quality .«local_frame_advantage» ≡ bias32 + 1)
 unfolding kept has without xors framesOf unpack pack decodableLength decodable zeros padded dropTo lastTo room blank highest newestOf foundIn atLine above numbered packetOf takenIn issued fits defaultStatus reported merged mergedAll freshStatuses hasRoom inputOf inputEntry announced badSetup anyAbove anyTwice inserted sorted termsWith made refused decided queueWire sizes done bufferFull isFull nonceIssued request started synchronized counted running replied onSyncReply droppedTo acknowledged pendingQueued referenceFrame taken receivedIf receive announcedEach discarded packetOverflows statusesMerged informed gotten inputTaken inputUnless onInput resent actReported keptAlive interrupted timedOut acted clamped reportQueued roundTrip roundTripNoted onQualityReply advantageOf advantageOverflows localAdvantage advantageUpdated fresh synchronizeStep filtered ignored resumed heard onBody messageStep actStep disconnectStep advantageStep step
-bouts = (refl, refl, refl, refl, refl, refl, refl, refl, refl, refl, refl, refl, refl, refl, refl, refl, refl, refl, refl, refl, refl, refl, refl, refl, refl)
+bouts = (refl, refl, refl, refl, refl, refl, refl, refl, refl, refl, refl, refl, refl, refl, refl, refl, refl, refl, refl, refl, refl, refl, refl, refl, refl, refl, refl, refl)
+
+-- after P3 and P4 the newest frame is 1
+pub newest-one : newestOf (after (P3 ∷ P3 ∷ []) new .carried .receiver .history) ≡ fr 1
+unfolding kept has without xors framesOf unpack pack decodableLength decodable zeros padded dropTo lastTo room blank highest newestOf foundIn atLine above numbered packetOf takenIn issued fits defaultStatus reported merged mergedAll freshStatuses hasRoom inputOf inputEntry announced badSetup anyAbove anyTwice inserted sorted termsWith made refused decided queueWire sizes done bufferFull isFull nonceIssued request started synchronized counted running replied onSyncReply droppedTo acknowledged pendingQueued referenceFrame taken receivedIf receive announcedEach discarded packetOverflows statusesMerged informed gotten inputTaken inputUnless onInput resent actReported keptAlive interrupted timedOut acted clamped reportQueued roundTrip roundTripNoted onQualityReply advantageOf advantageOverflows localAdvantage advantageUpdated fresh synchronizeStep filtered ignored resumed heard onBody messageStep actStep disconnectStep advantageStep step
+newest-one = refl

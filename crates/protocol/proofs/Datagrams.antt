@@ -1,15 +1,14 @@
 -- A datagram and the message that it is: its own fault comes before everything else, also before 8 and in Shutdown; without one it is the message.
 use mathlib.Core.List.{List, []}
-use mathlib.Core.Path.{_≡_, refl}
+use mathlib.Core.Path.{_≡_}
 use native.Mathlib.Omega.{arith}
-use Prim.Native.Nat.{ℕ, _≤_}
+use Prim.Native.Nat.{ℕ}
 use borrow.Author.Tests.{ne-eqb}
-use lib.Dec.{eqb}
 use lib.ListN.{length}
 use Rattle.base.specs.Little.{Bytes}
 use Rattle.codec.specs.Message.{Wire, Fits}
 use Rattle.codec.specs.Bytes.{bytes}
-use Rattle.codec.specs.Read.{Got, datagram}
+use Rattle.codec.specs.Read.{datagram}
 use Rattle.codec.specs.Read.Got.{got, fault}
 use Rattle.codec.proofs.Laws.{read-bytes, datagram-fault-range}
 use Rattle.protocol.specs.Seen.{Seen}

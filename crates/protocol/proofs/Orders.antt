@@ -2,10 +2,10 @@
 use mathlib.Core.Bool.{true, false}
 use mathlib.Core.List.{List, [], _∷_, map}
 use mathlib.Core.Path.{_≡_, refl}
-use Prim.Native.Nat.{ℕ, _+_, _^_}
-use lib.ListN.{length, replicate}
+use Prim.Native.Nat.{ℕ, _^_}
+use lib.ListN.{replicate}
 use Rattle.base.specs.Keyed.{kept, has, without}
-use Rattle.frame.specs.Bias.{bias32, nullFrame}
+use Rattle.frame.specs.Bias.{nullFrame}
 use Rattle.packing.specs.Packing.{xors, framesOf, unpack, pack, decodableLength, decodable}
 use Rattle.packing.specs.Pad.{zeros, padded}
 use Rattle.pending.specs.Pending.{dropTo, lastTo, firstFrame, lastFrame, room, payload}
@@ -13,8 +13,6 @@ use Rattle.history.specs.History.{blank, highest, newestOf, foundIn, atLine, ab
 use Rattle.nonces.specs.Nonces.{issued, fits}
 use Rattle.status.specs.Status.{defaultStatus, reported, merged}
 use Rattle.status.specs.Statuses.{mergedAll, fresh as freshStatuses}
-use Rattle.codec.specs.Message.{Wire}
-use Rattle.codec.specs.declared.MessageBody.{MessageBody}
 use Rattle.codec.specs.declared.MessageBody.the-variants.{SyncReply, Input, KeepAlive}
 use Rattle.events.specs.declared.Entry.{Entry}
 use Rattle.events.specs.declared.Event.{Event}
@@ -22,16 +20,17 @@ use Rattle.events.specs.declared.Event.the-variants as Event
 use Rattle.events.specs.Events.{hasRoom, inputOf, inputEntry, announced}
 use Rattle.protocol.specs.declared.Phase.the-variants.{Running, Shutdown}
 use Rattle.setup.specs.Setup.{badSetup, anyAbove, anyTwice, inserted, sorted, termsWith}
-use Rattle.protocol.specs.Seen.{Seen, made, withPhase}
+use Rattle.protocol.specs.Seen.{made, withPhase}
 use Rattle.outbox.specs.Outbox.{sizes, reportOf, pendingInput}
-use Rattle.protocol.specs.Did.{Did, refused, decided, queueWire, done}
+use Rattle.protocol.specs.Did.{refused, decided, queueWire, done}
 use Rattle.protocol.specs.Room.{bufferFull, isFull}
 use Rattle.protocol.specs.Handshake.{nonceIssued, request, started, synchronized, counted, running, replied, onSyncReply}
 use Rattle.protocol.specs.Sending.{droppedTo, acknowledged, badFrame, pendingQueued, accepted, tooMany, inputSent}
 use Rattle.protocol.specs.Receiving.{referenceFrame, taken, receivedIf, receive, announcedEach, discarded, packetOverflows, statusesMerged, informed, gotten, inputTaken, inputUnless, onInput}
+use Rattle.protocol.specs.Checksum.{checksumSent}
 use Rattle.protocol.specs.Call.{Call}
-use Rattle.protocol.specs.Step.{fresh, synchronizeStep, filtered, ignored, resumed, heard, onBody, messageStep, sendStep, disconnectStep, step}
-use Rattle.protocol.proofs.Bouts.{setupWith, new, fr, wire, none, hand, after, handshake, reply}
+use Rattle.protocol.specs.Step.{statsStep, statusStep, takeStep, checksumStep, fresh, synchronizeStep, filtered, ignored, resumed, heard, onBody, messageStep, sendStep, disconnectStep, step}
+use Rattle.protocol.proofs.Bouts.{P3, new, fr, wire, none, hand, after, starting, actAt, handshake, reply}
 
 -- a clock above its ceiling
 abbrev late : ℕ
@@ -42,6 +41,10 @@ send frame bytes now buffer = Call.sendInput frame bytes 2 (defaultStatus ∷ de
 
 abbrev events : List Entry → List Event
 events es = map (λ (x : Entry). x .event) es
+
+-- a reply with another magic
+abbrev stranger : (nonce next : ℕ) → Call
+stranger nonce next = hand (record { magic = 8; body = SyncReply nonce; reports = []; payload = [] }) 1000 next
 
 orders :
     -- 8 before 3, 3 before the silent return, the silent return before 4
@@ -55,17 +58,40 @@ orders :
     -- 2 before 5
     × (step (Call.synchronize 2000 2000 1 0) (withPhase Shutdown new) .answer ≡ 2)
     × (step (Call.synchronize 2000 2000 1 0) new .answer ≡ 5)
-    -- 12 for 130 frames at W 1, but not from another peer, nor discarded
-    × (step (hand (wire (Input false (fr 0) nullFrame) none (replicate 130 0)) 2000 0) new .answer ≡ 12)
+    -- 12 for 130 frames at W 1, also where nothing fits, but not from another peer, nor discarded
+    × (step (Call.message 3 2 (wire (Input false (fr 0) nullFrame) none (replicate 130 0)) 2000 2000 0 0) new .answer ≡ 12)
     × (step (Call.message 4 2 (wire (Input false (fr 0) nullFrame) none (replicate 130 0)) 2000 2000 0 0) new .answer ≡ 0)
     × (step (hand (wire (Input false nullFrame nullFrame) none (replicate 130 0)) 2000 0) new .answer ≡ 0)
-    -- 6 for the frame past the largest
-    × (step (hand (wire (Input false 0xFFFF_FFFF nullFrame) none (1 ∷ 2 ∷ [])) 2000 0) new .answer ≡ 6)
+    -- 6 for the frame past the largest, also where nothing fits
+    × (step (Call.message 3 2 (wire (Input false 0xFFFF_FFFF nullFrame) none (1 ∷ 2 ∷ [])) 2000 2000 0 0) new .answer ≡ 6)
+    -- synchronize a second time
+    × (step (Call.synchronize 2000 2000 1 65536) (after handshake new) .answer ≡ 2)
     -- the handshake's events; an equal nonce counts once
     × (events (after handshake new .events) ≡ Event.Synchronizing 5 1 ∷ Event.Synchronizing 5 2 ∷ Event.Synchronizing 5 3 ∷ Event.Synchronizing 5 4 ∷ Event.Synchronized ∷ [])
     × (after handshake new .phase ≡ Running)
-    × (after (Call.synchronize 1000 1000 1 65536 ∷ reply 1 1 ∷ reply 1 2 ∷ reply 1 3 ∷ []) new .sync .remaining ≡ 3)
+    × (after (starting ∷ reply 1 1 ∷ reply 1 2 ∷ reply 1 3 ∷ []) new .sync .remaining ≡ 3)
+    -- a reply outside Synchronizing does not count, though its nonce is outstanding
+    × (after (starting ∷ Call.disconnect 1000 ∷ reply 1 2 ∷ []) new .sync .remaining ≡ 5)
+    -- the magic of the fifth reply is the filter's, whatever the others had
+    × (after (starting ∷ stranger 1 2 ∷ stranger 2 3 ∷ stranger 3 4 ∷ stranger 4 5 ∷ reply 5 6 ∷ []) new .sync .remoteMagic ≡ 9)
+    -- 14 before 15, and 15 before a whole second has passed; 7 for a player that is not there
+    × (step (Call.networkStats 0) new .answer ≡ 14)
+    × (step (Call.networkStats 71999) (after handshake new) .answer ≡ 15)
+    × (step (Call.networkStats 72000) (after handshake new) .answer ≡ 0)
+    × (step (Call.peerConnectStatus 2) new .answer ≡ 7)
+    × (step (Call.peerConnectStatus 1) new .answer ≡ 0)
+    -- one request is queued: a buffer of 9 bytes is too short to take it, in Shutdown any will do
+    × (step (Call.takeMessages 9) (after (starting ∷ []) new) .answer ≡ 5)
+    × (step (Call.takeMessages 10) (after (starting ∷ []) new) .after .queued ≡ 0)
+    × (step (Call.takeMessages 0) (withPhase Shutdown (after (starting ∷ []) new)) .answer ≡ 0)
+    -- a checksum report is sent in every state
+    × (step (Call.sendChecksumReport (fr 0) (record { low = 1; high = 0 }) 2000 26) new .after .queued ≡ 26)
+    -- a packet whose reference is not held: its ack counts
+    × (after (send (fr 0) (5 ∷ []) 2000 65536 ∷ hand (wire (Input false (fr 4) (fr 0)) none (1 ∷ [])) 2000 0 ∷ []) (after (P3 ∷ []) (after handshake new)) .carried .sender .pending ≡ [])
+    -- Disconnected is told once
+    × (events (step (hand (wire (Input true (fr 0) nullFrame) [] []) 2000 0) new .told) ≡ Event.Disconnected ∷ [])
+    × (step (hand (wire (Input true (fr 0) nullFrame) [] []) 2000 0) (after (hand (wire (Input true (fr 0) nullFrame) [] []) 2000 0 ∷ []) new) .told ≡ [])
     -- from then on another magic is not heard
     × (step (Call.message 3 0 (record { magic = 8; body = KeepAlive; reports = []; payload = [] }) 2000 2000 0 0) (after handshake new) .after .clocks .«last_recv_time» ≡ 1000)
-unfolding kept has without xors framesOf unpack pack decodableLength decodable zeros padded dropTo lastTo firstFrame lastFrame room payload blank highest newestOf foundIn atLine above numbered packetOf takenIn issued fits defaultStatus reported merged mergedAll freshStatuses hasRoom inputOf inputEntry announced badSetup anyAbove anyTwice inserted sorted termsWith made refused decided queueWire sizes done bufferFull isFull nonceIssued request started synchronized counted running replied onSyncReply droppedTo acknowledged badFrame reportOf pendingInput pendingQueued accepted tooMany inputSent referenceFrame taken receivedIf receive announcedEach discarded packetOverflows statusesMerged informed gotten inputTaken inputUnless onInput fresh synchronizeStep filtered ignored resumed heard onBody messageStep sendStep disconnectStep step
-orders = (refl, refl, refl, refl, refl, refl, refl, refl, refl, refl, refl, refl, refl, refl, refl, refl)
+unfolding kept has without xors framesOf unpack pack decodableLength decodable zeros padded dropTo lastTo firstFrame lastFrame room payload blank highest newestOf foundIn atLine above numbered packetOf takenIn issued fits defaultStatus reported merged mergedAll freshStatuses hasRoom inputOf inputEntry announced badSetup anyAbove anyTwice inserted sorted termsWith made refused decided queueWire sizes done bufferFull isFull nonceIssued request started synchronized counted running replied onSyncReply droppedTo acknowledged badFrame reportOf pendingInput pendingQueued accepted tooMany inputSent referenceFrame taken receivedIf receive announcedEach discarded packetOverflows statusesMerged informed gotten inputTaken inputUnless onInput fresh synchronizeStep filtered ignored resumed heard onBody messageStep sendStep disconnectStep step statsStep statusStep takeStep checksumStep checksumSent
+orders = (refl, refl, refl, refl, refl, refl, refl, refl, refl, refl, refl, refl, refl, refl, refl, refl, refl, refl, refl, refl, refl, refl, refl, refl, refl, refl, refl, refl, refl, refl, refl)

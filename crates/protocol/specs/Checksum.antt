@@ -1,5 +1,4 @@
 -- Checksum reports, sent and received.
-use mathlib.Core.List.{List}
 use Prim.Native.Nat.{ℕ}
 use Rattle.checksums.specs.declared.Checksum.{Checksum}
 use Rattle.checksums.specs.Checksums.{overflows, fullAfter, reported}

@@ -1,5 +1,4 @@
 -- What a call does: its answer, the state after it, the messages that it queues, the events that it adds, the inputs that it accepts.
-use mathlib.Core.Bool.{Bool, true, false}
 use mathlib.Core.List.{List, [], _∷_, _++_}
 use Prim.Native.Nat.{ℕ, _+_}
 use lib.Dec.{eqb}

@@ -1,9 +1,8 @@
 -- The handshake: requests, and replies that count by their nonce; and what every message call is made of.
 use mathlib.Core.Bool.{Bool, true, false, not, _&&_}
-use mathlib.Core.List.{List, [], _∷_}
+use mathlib.Core.List.{List}
 use Prim.Native.Nat.{ℕ, _-_}
 use lib.Dec.{ltb}
-use Rattle.base.specs.Pick.{pick}
 use Rattle.nonces.specs.Nonces.{isOutstanding, spent, issued, fits}
 use Rattle.quality.specs.Quality.{startedAt}
 use Rattle.codec.specs.declared.MessageBody.the-variants.{SyncRequest, SyncReply}

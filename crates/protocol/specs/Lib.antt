@@ -11,4 +11,5 @@ pub mod Advantage
 pub mod Call
 pub mod Step
 pub mod Value
-pub mod Sound
+pub mod Runs
+pub mod Unusable

@@ -10,7 +10,6 @@ use Rattle.packing.specs.Packing.{frameCount, decodable}
 use Rattle.packing.specs.declared.input_bytes.InputBytes.{InputBytes}
 use Rattle.history.specs.History.{newestOf, foundIn, above, packetOf, takenIn}
 use Rattle.history.specs.declared.Found.{Found}
-use Rattle.status.specs.declared.ConnectionStatus.{ConnectionStatus}
 use Rattle.status.specs.Status.{reported}
 use Rattle.status.specs.Statuses.{mergedAll}
 use Rattle.codec.specs.declared.StatusReport.{StatusReport}

@@ -1,11 +1,8 @@
 -- Quality reports and replies, and what network_stats tells.
 use mathlib.Core.Bool.{Bool, not, _||_}
-use mathlib.Core.Path.{_≡_, refl}
-use Prim.Native.Nat.{ℕ, _+_, _-_}
-use lib.Dec.{ltb, eqb}
+use Prim.Native.Nat.{ℕ, _-_}
+use lib.Dec.{ltb}
 use lib.ListN.{length}
-use Rattle.base.specs.Pick.{pick}
-use Rattle.frame.specs.Bias.{bias32, bias16}
 use Rattle.codec.specs.declared.Wide.{Wide}
 use Rattle.codec.specs.declared.MessageBody.the-variants.{QualityReport, QualityReply}
 use Rattle.quality.specs.Quality.{clamped, roundTrip, remoteSet, tripNoted}

@@ -5,7 +5,6 @@ use Prim.Native.Nat.{ℕ, _+_}
 use lib.Dec.{ltb}
 use lib.ListN.{length}
 use Rattle.base.specs.Pick.{pick}
-use Rattle.codec.specs.Message.{Wire}
 use Rattle.events.specs.declared.Entry.{Entry}
 use Rattle.events.specs.Events.{hasRoom}
 use Rattle.outbox.specs.Outbox.{sizes}

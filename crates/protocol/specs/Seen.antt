@@ -2,8 +2,6 @@
 use mathlib.Core.Bool.{Bool, true, false}
 use mathlib.Core.List.{List, [], _∷_}
 use Prim.Native.Nat.{ℕ}
-use lib.ListN.{length}
-use Rattle.frame.specs.Bias.{bias32}
 use Rattle.packing.specs.declared.input_bytes.InputBytes.{InputBytes}
 use Rattle.history.specs.History.{blank}
 use Rattle.status.specs.declared.ConnectionStatus.{ConnectionStatus}

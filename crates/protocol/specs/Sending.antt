@@ -1,7 +1,6 @@
 -- Sending inputs: which frame is taken, what becomes pending, and the one Input of all that is pending.
-use mathlib.Core.Bool.{Bool, true, false, not, _&&_, _||_}
+use mathlib.Core.Bool.{Bool, not, _&&_, _||_}
 use mathlib.Core.List.{List, [], _∷_, _++_}
-use mathlib.Core.Path.{_≡_, refl}
 use Prim.Native.Nat.{ℕ, suc}
 use lib.Dec.{ltb, leb, eqb}
 use lib.ListN.{length}
@@ -16,7 +15,7 @@ use Rattle.codec.specs.Message.{Wire}
 use Rattle.outbox.specs.Outbox.{pendingInput}
 use Rattle.events.specs.declared.Event.the-variants as Event
 use Rattle.setup.specs.Setup.{sendingWidth}
-use Rattle.protocol.specs.Seen.{Seen, Sender, Carried, withCarried}
+use Rattle.protocol.specs.Seen.{Seen, Sender, withCarried}
 use Rattle.protocol.specs.Did.{Effect, change, queueWire, tell, keep}
 
 -- the newest frame received, -1 while there is none

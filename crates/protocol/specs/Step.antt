@@ -1,5 +1,5 @@
 -- What each call does. Its refusals are one list in document 01's order: 8, 1, 3, 7, the silent returns, 2, 4, 12, 6, 5; 14 before 15.
-use mathlib.Core.Bool.{Bool, true, false, not, _&&_, _||_}
+use mathlib.Core.Bool.{Bool, false, not, _&&_, _||_}
 use mathlib.Core.List.{List, [], _∷_}
 use Prim.Native.Nat.{ℕ, _+_}
 use lib.Dec.{ltb, leb, eqb}

@@ -1,3 +1,4 @@
 pub mod Merge
 pub mod MergeAll
 pub mod Held
+pub mod Settled

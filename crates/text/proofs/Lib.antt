@@ -3,3 +3,4 @@ pub mod DecimalLaws
 pub mod HexLaws
 pub mod NumeralLaws
 pub mod TenthLaws
+pub mod Settled

@@ -1,5 +1,5 @@
--- What holds of every endpoint that `new` made and calls brought on: `new` gives it and every call keeps it (the definition; the theorem is elsewhere).
-use mathlib.Core.Bool.{Bool, true, false, _||_}
+-- What holds of every endpoint that `new` made and calls brought on: `new` gives it and every call keeps it (laws `fresh-sound`, `step-sound`).
+use mathlib.Core.Bool.{true, false, _||_}
 use mathlib.Core.List.{List, [], _∷_}
 use mathlib.Core.Path.{_≡_}
 use mathlib.Core.Logic.{_⊎_}
@@ -16,40 +16,11 @@ use Rattle.status.specs.declared.ConnectionStatus.{ConnectionStatus}
 use Rattle.checksums.specs.declared.Checksum.{Checksum}
 use Rattle.timers.specs.declared.Clocks.{Clocks}
 use Rattle.quality.specs.declared.Quality.{Quality}
-use Rattle.setup.specs.declared.DesyncDetection.{DesyncDetection}
-use Rattle.setup.specs.declared.DesyncDetection.the-variants.{Off, On}
 use Rattle.protocol.specs.declared.Phase.{Phase}
-use Rattle.setup.specs.Setup.{Terms, sendingWidth, receivingWidth}
+use Rattle.setup.specs.Setup.{SoundSetup, sendingWidth, receivingWidth}
 use Rattle.protocol.specs.Seen.{Seen, Sender, Receiver, Sync, isInitializing, isSynchronizing, isRunning}
 use Rattle.protocol.specs.Sending.{lastAccepted}
-
-abbrev pub Between : (least greatest n : ℕ) → Type 0
-Between least greatest n = (least ≤ n) × (n ≤ greatest)
-
--- ---- the setup: document 01's ceilings
-
--- each above the one before it, and at most a greatest
-unfoldable pub Sorted : (low greatest : ℕ) → List ℕ → Type 0
-Sorted low greatest [] = Unit {0}
-Sorted low greatest (h ∷ hs) = Between low greatest h × Sorted (suc h) greatest hs
-
-abbrev pub SoundDesync : DesyncDetection → Type 0
-SoundDesync Off = Unit {0}
-SoundDesync (On interval) = Between 1 10000 interval
-
-pub record SoundSetup (t : Terms) : Type 0 where
-  pub players : Between 1 4 (t .players)
-  pub handles : Between 1 4 (length (t .handles))
-  pub sorted : Sorted 0 65535 (t .handles)
-  pub localPlayers : Between 1 (t .players) (t .localPlayers)
-  pub inputSize : Between 1 16 (t .inputSize)
-  pub maxPrediction : t .maxPrediction ≤ 16
-  pub disconnectTimeout : t .disconnectTimeout ≤ 2 ^ 31
-  pub notifyStart : t .notifyStart ≤ 2 ^ 31
-  pub fps : Between 1 240 (t .fps)
-  pub magic : Between 1 65535 (t .magic)
-  pub peer : t .peer < 2 ^ 32
-  pub desync : SoundDesync (t .choices .«desync_detection»)
+use Rattle.sound.specs.Each.{Each}
 
 -- ---- what carries inputs
 
@@ -59,10 +30,6 @@ pub record Kept (width : ℕ) (x : InputBytes) : Type 0 where
   pub size : length (x .bytes) ≡ 64
   pub past : drop width (x .bytes) ≡ replicate (64 - width) 0
   pub blank : x .frame ≡ nullFrame → x .bytes ≡ zeros
-
-unfoldable pub AllKept : (width : ℕ) → List InputBytes → Type 0
-AllKept width [] = Unit {0}
-AllKept width (x ∷ xs) = Kept width x × AllKept width xs
 
 -- frames one after the other
 unfoldable pub Consecutive : (first : ℕ) → List InputBytes → Type 0
@@ -81,35 +48,27 @@ pub record SoundSender (width : ℕ) (x : Sender) : Type 0 where
   pub first : bias32 ≤ firstFrame bias32 (x .pending)
   pub acked : nullFrame ≤ x .acked .frame
   pub last : lastAccepted x < 2 ^ 32
-  pub inputs : AllKept width (x .pending)
+  pub inputs : Each (Kept width) (x .pending)
   pub reference : Kept width (x .acked)
-
--- at or above the keep line
-unfoldable pub AllStay : (newest maxPrediction : ℕ) → List InputBytes → Type 0
-AllStay newest maxPrediction [] = Unit {0}
-AllStay newest maxPrediction (x ∷ xs) = (stays newest maxPrediction (x .frame) ≡ true) × AllStay newest maxPrediction xs
 
 pub record SoundReceiver (width maxPrediction : ℕ) (r : Receiver) : Type 0 where
   pub ascending : Ascending nullFrame (r .history)
   -- the newest is in it, for it is not empty; so it never gives 5
   pub some : 1 ≤ length (r .history)
   pub count : length (r .history) ≤ 2 * maxPrediction + 1
-  pub stay : AllStay (newestOf (r .history)) maxPrediction (r .history)
+  -- all are at or above the keep line
+  pub stay : Each (λ (x : InputBytes). stays (newestOf (r .history)) maxPrediction (x .frame) ≡ true) (r .history)
   pub newest : newestOf (r .history) < 2 ^ 32
   -- while nothing is received, the blank frame is held
   pub none : newestOf (r .history) ≡ nullFrame → r .history ≡ blank ∷ []
-  pub inputs : AllKept width (r .history)
+  pub inputs : Each (Kept width) (r .history)
 
 -- ---- the handshake
-
-unfoldable pub AllBelow : ℕ → List ℕ → Type 0
-AllBelow bound [] = Unit {0}
-AllBelow bound (x ∷ xs) = (x < bound) × AllBelow bound xs
 
 pub record SoundSync (phase : Phase) (x : Sync) : Type 0 where
   pub distinct : Distinct (λ n. n) (x .nonces)
   pub count : length (x .nonces) ≤ 256
-  pub nonces : AllBelow (2 ^ 32) (x .nonces)
+  pub nonces : Each (λ n. n < 2 ^ 32) (x .nonces)
   pub remaining : x .remaining ≤ 5
   pub magic : x .remoteMagic < 2 ^ 16
   -- before synchronize nothing is outstanding; until the fifth reply one at least is to come, and the filter is off; after it none is
@@ -135,13 +94,11 @@ pub record SoundQuality (q : Quality) : Type 0 where
   pub trip : q .«round_trip_time» < 2 ^ 62
   pub start : q .«stats_start_time» < 2 ^ 62
 
-unfoldable pub AllStatuses : List ConnectionStatus → Type 0
-AllStatuses [] = Unit {0}
-AllStatuses (x ∷ xs) = (x .«last_frame» < 2 ^ 32) × AllStatuses xs
+abbrev pub SoundStatus : ConnectionStatus → Type 0
+SoundStatus x = x .«last_frame» < 2 ^ 32
 
-unfoldable pub AllChecksums : List Checksum → Type 0
-AllChecksums [] = Unit {0}
-AllChecksums (x ∷ xs) = (x .frame < 2 ^ 32) × (x .low < 2 ^ 64) × (x .high < 2 ^ 64) × AllChecksums xs
+abbrev pub SoundChecksum : Checksum → Type 0
+SoundChecksum x = (x .frame < 2 ^ 32) × (x .low < 2 ^ 64) × (x .high < 2 ^ 64)
 
 pub record Sound (s : Seen) : Type 0 where
   pub setup : SoundSetup (s .setup)
@@ -153,7 +110,7 @@ pub record Sound (s : Seen) : Type 0 where
   pub notify : isInitializing (s .phase) || isSynchronizing (s .phase) ≡ true → s .flags .«disconnect_notify_sent» ≡ false
   pub quality : SoundQuality (s .quality)
   pub players : length (s .statuses) ≡ s .setup .players
-  pub statuses : AllStatuses (s .statuses)
+  pub statuses : Each SoundStatus (s .statuses)
   pub frames : Distinct (λ (x : Checksum). x .frame) (s .checksums)
-  pub checksums : (length (s .checksums) ≤ 64) × AllChecksums (s .checksums)
+  pub checksums : (length (s .checksums) ≤ 64) × Each SoundChecksum (s .checksums)
   pub events : length (s .events) ≤ 640

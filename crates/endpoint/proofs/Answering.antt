@@ -1,0 +1,75 @@
+-- The ways out of a message that is answered with one that has neither statuses nor payload, and changes the state beside being heard.
+use borrow.Author.Tests.{not-true, not-false}
+use mathlib.Core.Bool.{true, false}
+use mathlib.Core.List.{List, [], _∷_, _++_}
+use mathlib.Core.Path.{_≡_, refl, sym, _∙_}
+use Prim.Native.Nat.{ℕ, _<_}
+use lib.ListN.{length}
+use Rattle.codec.specs.Message.{Wire, tableSize}
+use Rattle.codec.specs.Read.{plain}
+use Rattle.codec.specs.declared.MessageBody.{MessageBody}
+use Rattle.answer.specs.declared.Answer.{Answer}
+use Rattle.answer.specs.declared.Answer.the-variants.{Done, Full}
+use Rattle.setup.specs.Setup.{termsWith}
+use Rattle.events.specs.declared.Entry.{Entry}
+use Rattle.outbox.specs.declared.Queued.{Queued}
+use Rattle.outbox.specs.Outbox.{QueuedAs}
+use Rattle.protocol.specs.declared.Flags.{Flags}
+use Rattle.protocol.specs.Seen.{Seen, withFlags, withEvents, withQueued, heardAt, sentAt}
+use Rattle.protocol.specs.Did.{Effect, change, queue, queueWire}
+use Rattle.protocol.specs.Handshake.{plainly}
+use Rattle.protocol.specs.Step.{heard, reacted}
+use Rattle.protocol.proofs.Laws.{hearing, by-hearing}
+use Rattle.endpoint.specs.declared.Endpoint.{Endpoint}
+use Rattle.endpoint.specs.declared.hearing.Heard.{Heard}
+use Rattle.endpoint.specs.Endpoint.{seen, DidAs}
+use Rattle.endpoint.specs.Heard.{HeardAs}
+use Rattle.endpoint.proofs.Ends.{refused-did, queued-did}
+use Rattle.endpoint.proofs.Rooms.{full-events, full-buffer, room-one, reacted-full, reacted-done}
+
+-- g: what it changes; it is not told of
+pub record Aside (g : Seen → Seen) : Type 0 where
+  pub setup : (s : Seen) → g s .setup ≡ s .setup
+  pub events : (s : Seen) → g s .events ≡ s .events
+  pub queued : (s : Seen) → g s .queued ≡ s .queued
+
+module _ (e : Endpoint) (buffer : List ℕ) (now : ℕ) (x : Heard) (body : MessageBody) (g : Seen → Seen) (aside : Aside g) where
+  abbrev Replies : Endpoint → Answer → List ℕ → Effect → Type 0
+  Replies n a b′ h = HeardAs e h x → DidAs e (reacted (length buffer) (seen e) (plainly (queue now body (change g h)))) buffer (record { answer = a; endpoint = n }) b′
+
+  abbrev Before : Flags → Seen
+  Before f = withFlags f (heardAt now (seen e))
+
+  abbrev Replying : Flags → List Entry → Effect
+  Replying f t = queue now body (change g (hearing now (seen e) f t))
+
+  abbrev Reply : Wire
+  Reply = plain (e .setup .magic) body
+
+  pub reply-untold : x .ok ≡ false → Replies e Full buffer (heard now (seen e))
+  unfolding queueWire seen
+  reply-untold k = by-hearing now (seen e) (Replies e Full buffer) (λ f t h.
+      refused-did e Full _ (reacted-full (length buffer) (seen e) _ refl refl (full-events buffer (Replying f t) (rw (aside .events (Before f)) (sym (h .ok) ∙ k)))) buffer)
+
+  module _ (q : Queued) (b′ : List ℕ) (eq : QueuedAs buffer (e .queued) Reply q b′) (some : 0 < tableSize Reply) where
+    only : (f : Flags) (t : List Entry) → Replying f t .out ≡ Reply ∷ []
+    unfolding queueWire seen termsWith
+    only f t = rw (aside .setup (Before f))
+
+    pub reply-full : q .ok ≡ false → Replies e Full b′ (heard now (seen e))
+    unfolding queueWire seen
+    reply-full k =
+        rw (rw k at (eq .lent)) (by-hearing now (seen e) (Replies e Full buffer) (λ f t h.
+        refused-did e Full _ (reacted-full (length buffer) (seen e) _ refl refl
+        (full-buffer buffer (Replying f t) Reply some (only f t) (rw (aside .queued (Before f)) (not-false _ (sym (eq .ok) ∙ k))))) buffer))
+
+    pub reply-done : (n : Endpoint) → x .ok ≡ true → q .ok ≡ true
+        → ((f : Flags) (t : List Entry) → HeardAs e (hearing now (seen e) f t) x
+        → seen n ≡ withEvents (g (Before f) .events ++ t) (withQueued (q .end) (sentAt now (g (Before f)))))
+        → Replies n Done b′ (heard now (seen e))
+    unfolding queueWire seen
+    reply-done n k ok after = by-hearing now (seen e) (Replies n Done b′) (λ f t h.
+        queued-did e n (Replying f t) _
+        (reacted-done (length buffer) (seen e) _ refl refl refl
+        (room-one buffer (Replying f t) Reply some (only f t) (rw (aside .events (Before f)) (sym (h .ok) ∙ k)) (rw (aside .queued (Before f)) (not-true _ (sym (eq .ok) ∙ ok)))))
+        Reply (only f t) buffer b′ q eq ok (aside .queued (Before f)) (after f t h))

@@ -1,0 +1,43 @@
+-- The ways out of `disconnect`.
+use borrow.Author.Tests.{leb-false}
+use native.Mathlib.Omega.{arith}
+use mathlib.Core.Bool.{true, false}
+use mathlib.Core.Path.{_≡_, refl}
+use Prim.Native.Nat.{ℕ, _+_, _^_, _<_}
+use Rattle.timers.specs.Timers.{badClock, shutdownAt}
+use Rattle.answer.specs.declared.Answer.the-variants.{Done, BadClock}
+use Rattle.timers.specs.declared.Clocks.{Clocks}
+use Rattle.protocol.specs.declared.Phase.{Phase}
+use Rattle.protocol.specs.declared.Phase.the-variants.{Disconnected}
+use Rattle.protocol.specs.Seen.{isShutdown}
+use Rattle.protocol.specs.Did.{decided}
+use Rattle.protocol.specs.Call.{Call}
+use Rattle.protocol.specs.Step.{step, disconnectStep}
+use Rattle.endpoint.specs.declared.Endpoint.{Endpoint}
+use Rattle.endpoint.specs.declared.Ended.{Ended}
+use Rattle.endpoint.specs.Endpoint.{seen, DoneAs}
+use Rattle.endpoint.proofs.Settles.{done-settled}
+use Rattle.endpoint.proofs.Ends.{remade, refused-done}
+
+pub low : (now : ℕ) → badClock now ≡ false → now < 2 ^ 62
+low now h = omega (arith, leb-false (2 ^ 62) now h)
+
+module _ (e : Endpoint) (now : ℕ) where
+  pub disconnect-clock : badClock now ≡ true → DoneAs e (step (Call.disconnect now) (seen e)) (record { answer = BadClock; endpoint = e })
+  unfolding step disconnectStep decided
+  disconnect-clock h = refused-done e BadClock (disconnectStep now (seen e)) (rw h)
+
+  module _ (good : badClock now ≡ false) where
+    pub disconnect-silent : isShutdown (e .phase) ≡ true → DoneAs e (step (Call.disconnect now) (seen e)) (record { answer = Done; endpoint = e })
+    unfolding step disconnectStep decided seen
+    disconnect-silent h = refused-done e Done (disconnectStep now (seen e)) (rw (good, h))
+
+    -- p and c: what the code sets
+    pub disconnect-done : (p : Phase) (c : Clocks) → isShutdown (e .phase) ≡ false → p ≡ Disconnected → c ≡ shutdownAt (now + 5000) (e .clocks)
+        → DoneAs e (step (Call.disconnect now) (seen e)) (record { answer = Done; endpoint = remade e (e .sender) (e .history) p (e .sync) c (e .flags) (e .quality) (e .statuses) (e .checksums) (e .events) (e .queued) })
+    unfolding step disconnectStep decided seen
+    disconnect-done p c h ep ec = rw (good, h, ep, ec) (record { answer = refl; after = refl; same = λ n. absurd (n refl) })
+
+pub disconnect-settled : (e : Endpoint) (now : ℕ) (r s : Ended) → DoneAs e (step (Call.disconnect now) (seen e)) r → DoneAs e (step (Call.disconnect now) (seen e)) s
+    → (r .answer ≡ s .answer) × (seen (r .endpoint) ≡ seen (s .endpoint))
+disconnect-settled e now = done-settled e (step (Call.disconnect now) (seen e))

@@ -1,0 +1,16 @@
+use Rattle.endpoint.proofs.Makes.{made-as}
+use borrow.Author.Needs.{needs}
+use Rattle.endpoint.proofs.Endpoint.new.Statement.{statement}
+use Rattle.endpoint.proofs.Endpoint.new.Tie as tie
+
+refusal-requires : tie.Need-refusal-requires
+refusal-requires c κs = search needs
+
+made-requires : tie.Need-made-requires
+made-requires c κs = search needs
+
+returns : tie.Need-returns
+returns c = made-as (c .before .before .args .setup) (c .before .before .args .now) (c .before .refusal .result) (c .made .result) (c .before .refusal .ensures) (c .made .ensures)
+
+pub new-spec : {M : Type 1} → statement M
+new-spec = tie.close (tie.spec refusal-requires made-requires returns)

@@ -1,0 +1,24 @@
+use borrow.Author.Tests.{not-true, not-false}
+use Rattle.endpoint.proofs.Acknowledges.{ack-full, ack-done}
+use borrow.Author.Needs.{needs}
+use Rattle.endpoint.proofs.Endpoint.on_input_ack.Statement.{statement}
+use Rattle.endpoint.proofs.Endpoint.on_input_ack.Tie as tie
+use Rattle.endpoint.proofs.Endpoint.on_input_ack.Reads as reads
+use Rattle.endpoint.proofs.Endpoint.on_input_ack.Lts as lts
+use Rattle.endpoint.proofs.Endpoint.hear.Reads as hear-reads
+use Rattle.endpoint.proofs.Sender.acknowledged.Reads as acknowledged-reads
+
+hear-requires : tie.Need-hear-requires
+hear-requires c κs = search needs
+
+returns : tie.Need-returns
+returns c = ack-full (c .before .before .before .args .self) (c .before .before .before .args .ack-frame) (c .before .before .before .args .now) (c .before .before .hear .result) (c .before .before .hear .ensures) (not-true _ (c .if1 .taken))
+
+acknowledged-requires : tie.Need-acknowledged-requires
+acknowledged-requires c κs = search needs
+
+returns-2 : tie.Need-returns-2
+returns-2 c = ack-done (c .before .before .before .before .before .before .before .before .before .before .before .before .before .args .self) (c .before .before .before .before .before .before .before .before .before .before .before .before .before .args .ack-frame) (c .before .before .before .before .before .before .before .before .before .before .before .before .before .args .now) (c .before .before .before .before .before .before .before .before .before .before .before .before .hear .result) (c .before .before .before .before .before .before .before .before .before .before .before .before .hear .ensures) (c .before .before .before .before .before .before .before .before .before .acknowledged .result) (not-false _ (c .before .before .before .before .before .before .before .before .before .before .if1 .left)) (c .before .before .before .before .before .before .before .before .before .acknowledged .ensures)
+
+pub on-input-ack-spec : {M : Type 1} → statement M
+on-input-ack-spec = tie.close (tie.spec hear-requires returns acknowledged-requires returns-2)

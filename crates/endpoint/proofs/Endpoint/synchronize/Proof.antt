@@ -1,0 +1,69 @@
+use borrow.Author.Tests.{not-true, not-false}
+use mathlib.Core.Logic.{⊎-elim}
+use mathlib.Core.Path.{refl, ap}
+use Rattle.protocol.specs.Seen.{isInitializing}
+use Rattle.endpoint.proofs.Phases.{not-initializing}
+use Rattle.endpoint.proofs.Lengths.{untold-room}
+use Rattle.endpoint.proofs.Asks.{synchronize-clocks, synchronize-state, synchronize-full, synchronize-done}
+use borrow.Author.Needs.{needs}
+use Rattle.endpoint.proofs.Endpoint.synchronize.Statement.{statement}
+use Rattle.endpoint.proofs.Endpoint.synchronize.Tie as tie
+use Rattle.endpoint.proofs.Endpoint.synchronize.Reads as reads
+use Rattle.endpoint.proofs.Endpoint.synchronize.Lts as lts
+use Rattle.endpoint.proofs.Sync.request.Reads as request-reads
+use Rattle.quality.proofs.Quality.started.Reads as started-reads
+use Rattle.timers.proofs.is_bad.Reads as is-bad-reads
+
+is-bad-requires : tie.Need-is-bad-requires
+is-bad-requires c κs = search needs
+
+is-bad-requires-2 : tie.Need-is-bad-requires-2
+is-bad-requires-2 c κs = search needs
+
+returns : tie.Need-returns
+returns c =
+    synchronize-clocks (c .before .before .before .args .self) (c .before .before .before .args .out .now) (c .before .before .before .args .now) (c .before .before .before .args .epoch) (c .before .before .before .args .nonce)
+    (⊎-elim (λ w. rw (← c .before .is-bad .ensures, w .taken)) (λ w. rw (← c .before .is-bad .ensures, w .0 .left, ← w .1 .ensures, w .2 .taken)) (c .if1 .came))
+
+enum-told : tie.Need-enum-told
+enum-told c = search needs
+
+returns-2 : tie.Need-returns-2
+returns-2 c =
+    synchronize-state (c .before .before .before .before .before .before .args .self) (c .before .before .before .before .before .before .args .out .now) (c .before .before .before .before .before .before .args .now) (c .before .before .before .before .before .before .args .epoch) (c .before .before .before .before .before .before .args .nonce) (rw (← c .before .before .before .before .is-bad .ensures, c .before .before .before .if1 .left, ← c .before .before .is-bad2 .ensures, c .before .if2 .left)) (not-initializing (c .before .before .before .before .before .before .args .self .phase) (c .match .keys2))
+
+request-requires : tie.Need-request-requires
+request-requires c κs = search needs
+
+same-length : tie.Need-same-length
+same-length c = search needs
+
+returns-3 : tie.Need-returns-3
+returns-3 c =
+    synchronize-full (c .before .before .before .before .before .before .before .before .before .before .before .before .before .before .args .self) (c .before .before .before .before .before .before .before .before .before .before .before .before .before .before .args .out .now) (c .before .before .before .before .before .before .before .before .before .before .before .before .before .before .args .now) (c .before .before .before .before .before .before .before .before .before .before .before .before .before .before .args .epoch) (c .before .before .before .before .before .before .before .before .before .before .before .before .before .before .args .nonce) (rw (← c .before .before .before .before .before .before .before .before .before .before .before .before .is-bad .ensures, c .before .before .before .before .before .before .before .before .before .before .before .if1 .left, ← c .before .before .before .before .before .before .before .before .before .before .is-bad2 .ensures, c .before .before .before .before .before .before .before .before .before .if2 .left)) (ap isInitializing (c .before .before .before .before .before .before .before .enum-told .given .1)) _ refl (c .before .before .before .before .request .result) (c .before .before .before .before .request .last .1 .1 .1 .1 .1 .0) (c .before .before .before .before .request .ensures) (not-true _ (c .if3 .taken))
+
+started-requires : tie.Need-started-requires
+started-requires c κs = search needs
+
+same-length-2 : tie.Need-same-length-2
+same-length-2 c = search needs
+
+returns-4 : tie.Need-returns-4
+returns-4 c =
+    synchronize-done (c .before .before .before .before .before .before .before .before .before .before .before .before .before .before .before .before .before .before .before .before .before .before .before .before .args .self) (c .before .before .before .before .before .before .before .before .before .before .before .before .before .before .before .before .before .before .before .before .before .before .before .before .args .out .now) (c .before .before .before .before .before .before .before .before .before .before .before .before .before .before .before .before .before .before .before .before .before .before .before .before .args .now) (c .before .before .before .before .before .before .before .before .before .before .before .before .before .before .before .before .before .before .before .before .before .before .before .before .args .epoch) (c .before .before .before .before .before .before .before .before .before .before .before .before .before .before .before .before .before .before .before .before .before .before .before .before .args .nonce) (rw (← c .before .before .before .before .before .before .before .before .before .before .before .before .before .before .before .before .before .before .before .before .before .before .is-bad .ensures, c .before .before .before .before .before .before .before .before .before .before .before .before .before .before .before .before .before .before .before .before .before .if1 .left, ← c .before .before .before .before .before .before .before .before .before .before .before .before .before .before .before .before .before .before .before .before .is-bad2 .ensures, c .before .before .before .before .before .before .before .before .before .before .before .before .before .before .before .before .before .before .before .if2 .left)) (ap isInitializing (c .before .before .before .before .before .before .before .before .before .before .before .before .before .before .before .before .before .enum-told .given .1)) _ refl (c .before .before .before .before .before .before .before .before .before .before .before .before .before .before .request .result) (c .before .before .before .before .before .before .before .before .before .before .before .before .before .before .request .last .1 .1 .1 .1 .1 .0) (c .before .before .before .before .before .before .before .before .before .before .before .before .before .before .request .ensures) (not-false _ (c .before .before .before .before .before .before .before .before .before .before .if3 .left)) (untold-room (c .before .before .before .before .before .before .before .before .before .before .before .before .before .before .before .before .before .before .before .before .before .before .before .before .args .self) _ (c .before .before .before .before .before .before .before .before .before .before .before .before .before .before .before .before .before .before .before .before .before .before .before .before .good .0)) (c .before .before .before .before .before .before .before .started .result) (c .before .before .before .before .before .before .before .started .ensures)
+
+pub synchronize-spec : {M : Type 1} → statement M
+synchronize-spec =
+    tie.close
+    (tie.spec
+    is-bad-requires
+    is-bad-requires-2
+    returns
+    enum-told
+    returns-2
+    request-requires
+    same-length
+    returns-3
+    started-requires
+    same-length-2
+    returns-4)

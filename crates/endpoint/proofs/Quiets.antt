@@ -1,0 +1,26 @@
+-- The ways out of `on_keep_alive`: a message that is only heard.
+use mathlib.Core.Bool.{true, false}
+use mathlib.Core.Path.{_≡_, refl}
+use Prim.Native.Nat.{ℕ}
+use Rattle.answer.specs.declared.Answer.{Answer}
+use Rattle.answer.specs.declared.Answer.the-variants.{Done, Full}
+use Rattle.protocol.specs.Handshake.{plainly}
+use Rattle.protocol.specs.Step.{heard, reacted}
+use Rattle.endpoint.specs.declared.Endpoint.{Endpoint}
+use Rattle.endpoint.specs.declared.hearing.Heard.{Heard}
+use Rattle.endpoint.specs.Endpoint.{seen, DoneAs}
+use Rattle.endpoint.specs.Heard.{HeardAs}
+use Rattle.endpoint.proofs.Ends.{remade}
+use Rattle.endpoint.proofs.Changes.{changes-full, changes-done}
+
+module _ (e : Endpoint) (now : ℕ) (x : Heard) where
+  abbrev Only : Endpoint → Answer → Type 0
+  Only n a = HeardAs e (heard now (seen e)) x → DoneAs e (reacted 0 (seen e) (plainly (heard now (seen e)))) (record { answer = a; endpoint = n })
+
+  pub only-full : x .ok ≡ false → Only e Full
+  only-full k = changes-full e now x (λ s. s) (λ s. refl) k
+
+  pub only-heard : x .ok ≡ true
+      → Only (remade e (e .sender) (e .history) (e .phase) (e .sync) (x .clocks) (x .flags) (e .quality) (e .statuses) (e .checksums) (x .events) (e .queued)) Done
+  unfolding seen
+  only-heard k = changes-done e now x (λ s. s) (λ s. refl) _ k (λ f t h. rw (h .clocks, h .flags, h .events, k))

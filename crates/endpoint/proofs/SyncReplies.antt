@@ -1,0 +1,124 @@
+-- The ways out of a SyncReply: ignored, one of the first that count, the last.
+use borrow.Author.Tests.{lt-ltb, le-ltb}
+use mathlib.Core.Bool.{Bool, true, false, _&&_}
+use mathlib.Core.List.{List, [], _∷_}
+use mathlib.Core.Path.{_≡_, refl, sym, _∙_, ap}
+use Prim.Native.Nat.{ℕ, _-_, _<_, _≤_}
+use lib.Dec.{ltb}
+use lib.ListN.{length, replicate}
+use Rattle.answer.specs.declared.Answer.{Answer}
+use Rattle.answer.specs.declared.Answer.the-variants.{Done, Full}
+use Rattle.setup.specs.Setup.{termsWith}
+use Rattle.timers.specs.declared.Clocks.{Clocks}
+use Rattle.timers.specs.Timers.{heardAt}
+use Rattle.nonces.specs.Nonces.{outstanding, isOutstanding, spent}
+use Rattle.events.specs.declared.Pushed.{Pushed}
+use Rattle.events.specs.declared.Event.the-variants as Event
+use Rattle.events.specs.Events.{held, hasRoom, PushedAs}
+use Rattle.protocol.specs.declared.Phase.the-variants.{Synchronizing, Running}
+use Rattle.protocol.specs.Seen.{Sync as SeenSync, isSynchronizing, isRunning, heardAt as heardSeen}
+use Rattle.protocol.specs.Did.{decided, begin, queueWire}
+use Rattle.protocol.specs.Handshake.{Reaction, plainly, nonceIssued, request, counted, running, replied, onSyncReply}
+use Rattle.protocol.specs.Step.{heard, reacted}
+use Rattle.protocol.proofs.Laws.{heard-quiet, by-hearing}
+use Rattle.endpoint.specs.declared.Endpoint.{Endpoint}
+use Rattle.endpoint.specs.declared.Ended.{Ended}
+use Rattle.endpoint.specs.declared.Sync.{Sync}
+use Rattle.endpoint.specs.declared.handshake.Requested.{Requested}
+use Rattle.endpoint.specs.Endpoint.{seen, DidAs, DoneAs}
+use Rattle.endpoint.specs.Handshaking.{syncOf, countedSync, RequestedAs}
+use Rattle.endpoint.proofs.Ends.{remade, refused-did, refused-done, queued-did, done-done}
+use Rattle.endpoint.proofs.Rooms.{full-events, room-none, reacted-full, reacted-done}
+use Rattle.endpoint.proofs.Hears.{not-resumes}
+use Rattle.endpoint.proofs.Unqueued.{unqueued}
+use Rattle.endpoint.proofs.Asks.{request-full, request-fits}
+
+and-false : (x : Bool) → x && false ≡ false
+and-false true = refl
+and-false false = refl
+
+module _ (e : Endpoint) (now nonce magic reply : ℕ) where
+  -- by whether more are to come
+  abbrev Counting : Bool → Reaction
+  Counting more = replied now nonce magic reply true more (begin (heardSeen now (seen e)))
+
+  -- y: the handshake with the reply counted
+  module _ (y : Sync) (ey : syncOf y ≡ countedSync reply (e .sync)) where
+    left : y .remaining ≡ e .sync .remaining - 1
+    left = ap (λ (x : SeenSync). x .remaining) ey
+
+    unspent : outstanding (y .nonces) ≡ spent reply (outstanding (e .sync .nonces))
+    unspent = ap (λ (x : SeenSync). x .nonces) ey
+
+    filter : y .«remote_magic» ≡ e .sync .«remote_magic»
+    filter = ap (λ (x : SeenSync). x .remoteMagic) ey
+
+    -- count: what is told
+    module _ (buffer : List ℕ) (count : ℕ) (ec : count ≡ 5 - y .remaining) (p : Pushed) (ep : PushedAs (e .events) (hasRoom (held (e .events)) 1) (record { event = Event.Synchronizing 5 count; input = replicate 16 0 } ∷ []) p) where
+      abbrev Early : Endpoint → Answer → List ℕ → Type 0
+      Early n a buffer′ = DidAs e (reacted (length buffer) (seen e) (Counting true)) buffer (record { answer = a; endpoint = n }) buffer′
+
+      pub early-untold : p .ok ≡ false → Early e Full buffer
+      unfolding replied request counted nonceIssued queueWire seen
+      early-untold k = refused-did e Full _ (reacted-full (length buffer) (seen e) (Counting true) refl refl (full-events buffer (Counting true .effect) (sym (ep .ok) ∙ k))) buffer
+
+      module _ (told : p .ok ≡ true) (d : Clocks) (ed : d ≡ heardAt now (e .clocks)) (r : Requested) (buffer′ : List ℕ) (er : RequestedAs y d (e .setup .magic) now nonce buffer (e .queued) r buffer′) where
+        pub early-choked : r .ok ≡ false → Early e Full buffer′
+        unfolding reacted decided replied request counted nonceIssued queueWire seen termsWith
+        early-choked k =
+            rw (er .same k) (refused-did e Full _
+            (rw (request-full buffer (e .setup .magic) nonce (spent reply (outstanding (e .sync .nonces))) (Counting true .effect) refl (r .ok) (rw unspent at (er .ok)) k)) buffer)
+
+        pub early-done : r .ok ≡ true
+            → Early (remade e (e .sender) (e .history) (e .phase) (r .sync) (r .clocks) (e .flags) (e .quality) (e .statuses) (e .checksums) (p .events) (r .end)) Done buffer′
+        unfolding reacted decided replied request counted nonceIssued queueWire seen termsWith
+        early-done k =
+            queued-did e _ (Counting true .effect) _
+            (rw (request-fits buffer (e .setup .magic) nonce (spent reply (outstanding (e .sync .nonces))) (Counting true .effect) refl (r .ok) (rw unspent at (er .ok)) k (sym (ep .ok) ∙ told)))
+            _ refl buffer buffer′ _ (er .queued k) refl refl
+            (rw (er .sync k, unspent, filter, er .clocks k, ed, rw (sym (ep .ok) ∙ told) at (ep .view), ec, left))
+
+    module _ (p : Pushed) (ep : PushedAs (e .events) (hasRoom (held (e .events)) 1) (record { event = Event.Synchronized; input = replicate 16 0 } ∷ []) p) where
+      abbrev Last : Endpoint → Answer → Type 0
+      Last n a = DoneAs e (reacted 0 (seen e) (Counting false)) (record { answer = a; endpoint = n })
+
+      pub last-untold : p .ok ≡ false → Last e Full
+      unfolding replied counted running seen
+      last-untold k = refused-done e Full _ (reacted-full 0 (seen e) (Counting false) refl refl (full-events [] (Counting false .effect) (sym (ep .ok) ∙ k)))
+
+      pub last-done : (d : Clocks) → p .ok ≡ true → d ≡ heardAt now (e .clocks)
+          → Last (remade e (e .sender) (e .history) Running (record { remaining = y .remaining; nonces = y .nonces; «remote_magic» = magic }) d (e .flags) (e .quality) (e .statuses) (e .checksums) (p .events) (e .queued)) Done
+      unfolding replied counted running seen
+      last-done d k ed =
+          done-done e _ (Counting false .effect) _ (reacted-done 0 (seen e) (Counting false) refl refl refl (room-none [] (Counting false .effect) refl (sym (ep .ok) ∙ k))) refl
+          (rw (unspent, left, ed, rw (sym (ep .ok) ∙ k) at (ep .view)))
+
+  -- which of them it is
+  module _ (buffer : List ℕ) where
+    abbrev Replies : Ended → List ℕ → Type 0
+    Replies = DidAs e (reacted (length buffer) (seen e) (onSyncReply now nonce magic reply (heard now (seen e)))) buffer
+
+    module _ (x : Ended) (d : DoneAs e (reacted 0 (seen e) (plainly (heard now (seen e)))) x) where
+      ignored : isSynchronizing (e .phase) && isOutstanding reply (outstanding (e .sync .nonces)) ≡ false → Replies x buffer
+      unfolding onSyncReply replied seen
+      ignored h =
+          rw (by-hearing now (seen e) (λ f. onSyncReply now nonce magic reply f ≡ plainly f) (λ f t. rw h))
+          (unqueued e (plainly (heard now (seen e))) (by-hearing now (seen e) (λ f. f .out ≡ []) (λ f t. refl)) buffer x d)
+
+      pub reply-elsewhere : isSynchronizing (e .phase) ≡ false → Replies x buffer
+      reply-elsewhere h = ignored (rw h)
+
+      pub reply-unknown : isOutstanding reply (outstanding (e .sync .nonces)) ≡ false → Replies x buffer
+      reply-unknown h = ignored (rw h (and-false (isSynchronizing (e .phase))))
+
+    module _ (phase : e .phase ≡ Synchronizing) (found : isOutstanding reply (outstanding (e .sync .nonces)) ≡ true) where
+      counting : onSyncReply now nonce magic reply (heard now (seen e)) ≡ Counting (ltb 1 (e .sync .remaining))
+      unfolding onSyncReply seen
+      counting = rw (heard-quiet now (seen e) (not-resumes e (ap isRunning phase)), phase, found)
+
+      pub reply-early : 1 < e .sync .remaining → (x : Ended) (buffer′ : List ℕ) → DidAs e (reacted (length buffer) (seen e) (Counting true)) buffer x buffer′ → Replies x buffer′
+      reply-early h x buffer′ d = rw (counting, lt-ltb 1 (e .sync .remaining) h) d
+
+      pub reply-last : e .sync .remaining ≤ 1 → (x : Ended) → DoneAs e (reacted 0 (seen e) (Counting false)) x → Replies x buffer
+      unfolding replied counted running
+      reply-last h x d = rw (counting, le-ltb 1 (e .sync .remaining) h) (unqueued e (Counting false) refl buffer x d)

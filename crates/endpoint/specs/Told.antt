@@ -1,0 +1,24 @@
+-- What a call that changes nothing tells: its number, and its value where that is 0; and how the two answers that may be refused show both.
+use Prim.Native.Nat.{ℕ}
+use lib.Dec.{eqb}
+use Rattle.base.specs.Pick.{pick}
+use Rattle.answer.specs.Number.{numberOf}
+use Rattle.protocol.specs.Seen.{Seen}
+use Rattle.protocol.specs.Call.{Call}
+use Rattle.protocol.specs.Step.{step}
+use Rattle.protocol.specs.Value.{Value, valueOf}
+use Rattle.endpoint.specs.declared.getters.StatusResult.{StatusResult}
+use Rattle.endpoint.specs.declared.getters.StatusResult.the-variants.{Status, BadHandle}
+use Rattle.endpoint.specs.declared.getters.StatsResult.{StatsResult}
+use Rattle.endpoint.specs.declared.getters.StatsResult.the-variants.{Stats, Refused}
+
+unfoldable pub told : Call → Seen → ℕ × Value
+told c s = (step c s .answer, pick (eqb (step c s .answer) 0) (valueOf c s) Value.nothing)
+
+abbrev pub shownStatus : StatusResult → ℕ × Value
+shownStatus (Status status) = (0, Value.status status)
+shownStatus BadHandle = (7, Value.nothing)
+
+abbrev pub shownStats : StatsResult → ℕ × Value
+shownStats (Stats stats) = (0, Value.stats stats)
+shownStats (Refused answer) = (numberOf answer, Value.nothing)

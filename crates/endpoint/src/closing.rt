@@ -1,0 +1,41 @@
+// The end of an endpoint: a disconnect that its owner asks for.
+ghost use Rattle.protocol.specs.Call.{Call};
+ghost use Rattle.protocol.specs.Step.{step};
+ghost use Rattle.endpoint.specs.Endpoint.{seen, DoneAs};
+use crate::Ended;
+use crate::Endpoint;
+use answer::Answer;
+use protocol::Phase;
+
+// How long a disconnected endpoint goes on answering.
+const UDP_SHUTDOWN_TIMER: u64 = 5000;
+
+impl Endpoint {
+    // Each time the wait begins again, except in Shutdown.
+    pub fn disconnect(self, now: u64) -> Ended
+        ensures { λ r. ⌜ DoneAs self (step (Call.disconnect now) (seen self)) r ⌝ }
+    {
+        if timers::is_bad(now) {
+            return Ended {
+                answer: Answer::BadClock,
+                endpoint: self,
+            };
+        }
+        let phase = self.phase;
+        if let Phase::Shutdown = phase {
+            return Ended {
+                answer: Answer::Done,
+                endpoint: self,
+            };
+        }
+        let clocks = self.clocks.shutting_down(now + UDP_SHUTDOWN_TIMER);
+        Ended {
+            answer: Answer::Done,
+            endpoint: Endpoint {
+                phase: Phase::Disconnected,
+                clocks,
+                ..self
+            },
+        }
+    }
+}

@@ -1,0 +1,63 @@
+// The peer endpoint of ggrs (protocol.rs): a state by value, clocks and nonces as arguments, the send queue in a lent buffer. Each call gives its
+// answer and the endpoint after it; on a refusal that is the very endpoint it was called on. What a call does is `step` of the crate `protocol`.
+mod acks;
+mod closing;
+mod getters;
+mod handshake;
+mod hearing;
+mod making;
+mod reports;
+mod taking;
+
+use answer::Answer;
+use checksums::Checksums;
+use events::Events;
+pub use getters::StatsResult;
+pub use getters::StatusResult;
+use history::History;
+use nonces::Nonces;
+use packing::InputBytes;
+use pending::Pending;
+use protocol::Flags;
+use protocol::Phase;
+use quality::Quality;
+use setup::Setup;
+use status::Statuses;
+pub use taking::TakenEvents;
+use timers::Clocks;
+
+// The inputs sent and not acknowledged, and the last acknowledged one, against which they are packed.
+pub struct Sender {
+    pub pending: Pending,
+    pub acked: InputBytes,
+}
+
+// The handshake: replies still to come, nonces outstanding, and the other end's magic, 0 while the filter is off.
+pub struct Sync {
+    pub remaining: u32,
+    pub nonces: Nonces,
+    pub remote_magic: u16,
+}
+
+// The setup, its handles ascending; what carries inputs; what the clocks and the handshake stand at; what was told and reported; the events that
+// wait to be taken, and how many bytes of the lent buffer are queued.
+pub struct Endpoint {
+    pub setup: Setup,
+    pub sender: Sender,
+    pub history: History,
+    pub phase: Phase,
+    pub sync: Sync,
+    pub clocks: Clocks,
+    pub flags: Flags,
+    pub quality: Quality,
+    pub statuses: Statuses,
+    pub checksums: Checksums,
+    pub events: Events,
+    pub queued: usize,
+}
+
+// What a call answers, with the endpoint after it.
+pub struct Ended {
+    pub answer: Answer,
+    pub endpoint: Endpoint,
+}

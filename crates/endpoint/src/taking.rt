@@ -1,0 +1,84 @@
+// Taking what waits: the events, and the messages in the lent buffer. The part of the buffer and the endpoint after it are two calls.
+ghost use mathlib.Core.Bool.{not, _&&_};
+ghost use mathlib.Core.Path.{_≡_};
+ghost use lib.Dec.{ltb};
+ghost use lib.ListN.{length, take};
+ghost use Rattle.base.specs.Pick.{pick};
+ghost use Rattle.protocol.specs.Seen.{isShutdown};
+ghost use Rattle.protocol.specs.Call.{Call};
+ghost use Rattle.protocol.specs.Step.{step};
+ghost use Rattle.endpoint.specs.Endpoint.{seen, DoneAs};
+ghost use Rattle.endpoint.specs.Taken.{handedBack, TakenAs};
+use crate::Ended;
+use crate::Endpoint;
+use answer::Answer;
+use events::Events;
+use protocol::Phase;
+
+pub struct TakenEvents {
+    pub events: Events,
+    pub endpoint: Endpoint,
+}
+
+// In Shutdown no buffer is too short.
+fn is_short(phase: Phase, queued: usize, room: usize) -> bool
+    ensures { λ r. ⌜ r ≡ not (isShutdown phase) && ltb room queued ⌝ }
+{
+    if let Phase::Shutdown = phase {
+        return false;
+    }
+    room < queued
+}
+
+// How many bytes are handed back.
+fn filled(phase: Phase, queued: usize, room: usize) -> usize
+    ensures { λ r. ⌜ r ≡ pick (isShutdown phase) 0 (pick (ltb room queued) 0 queued) ⌝ }
+{
+    if let Phase::Shutdown = phase {
+        return 0;
+    }
+    if room < queued {
+        return 0;
+    }
+    queued
+}
+
+impl Endpoint {
+    // The events held, and the endpoint without them.
+    pub fn take_events(self) -> TakenEvents
+        ensures { λ r. ⌜ TakenAs self r ⌝ }
+    {
+        let taken = self.events;
+        let events = self.events.take_all();
+        TakenEvents {
+            events: taken,
+            endpoint: Endpoint { events, ..self },
+        }
+    }
+
+    // The queue is emptied, where the buffer holds what is queued.
+    pub fn take_messages(self, out: &[u8]) -> Ended
+        ensures { λ r. ⌜ DoneAs self (step (Call.takeMessages (length (now (out .entry)))) (seen self)) r ⌝ }
+    {
+        let phase = self.phase;
+        if is_short(phase, self.queued, out.len()) {
+            return Ended {
+                answer: Answer::Full,
+                endpoint: self,
+            };
+        }
+        Ended {
+            answer: Answer::Done,
+            endpoint: Endpoint { queued: 0, ..self },
+        }
+    }
+
+    // The filled part of the buffer that `take_messages` takes: empty where it refuses, and in Shutdown.
+    pub fn messages(self, out: &[u8]) -> &[u8]
+        ensures { λ r. ⌜ now r ≡ take (handedBack (length (now (out .entry))) (seen self)) (now (out .entry)) ⌝ }
+    {
+        let phase = self.phase;
+        let end = filled(phase, self.queued, out.len());
+        &out[..end]
+    }
+}

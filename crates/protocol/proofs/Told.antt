@@ -1,0 +1,84 @@
+-- Over every run: the events taken and those still held are those that were held before it and those told in it, in order.
+use mathlib.Core.List.{List, [], _∷_, _++_, append-nil, append-assoc}
+use mathlib.Core.Path.{_≡_, refl, sym, _∙_, ap}
+use Prim.Native.Nat.{ℕ, _+_}
+use lib.Dec.{eqb}
+use Rattle.codec.specs.Message.{Wire}
+use Rattle.events.specs.declared.Entry.{Entry}
+use Rattle.protocol.specs.declared.Phase.the-variants.{Disconnected}
+use Rattle.protocol.specs.Seen.{Seen, withPhase, withQueued, shutdownAt}
+use Rattle.protocol.specs.Did.{Did, Effect, refused, decided, silent, begin, queueWire, done}
+use Rattle.protocol.specs.Handshake.{synchronized, started}
+use Rattle.protocol.specs.Checksum.{checksumSent}
+use Rattle.protocol.specs.Advantage.{bothKnown, localAdvantage, advantageUpdated}
+use Rattle.protocol.specs.Call.{Call}
+use Rattle.protocol.specs.Step.{changed, step, synchronizeStep, heard, messageStep, datagramStep, actStep, sendStep, disconnectStep, checksumStep, advantageStep, statsStep, statusStep, takeStep}
+use Rattle.protocol.specs.Runs.{ran, allTold, handed, allHanded}
+use Rattle.protocol.proofs.Leaves.{by-cases, booked, acted-leaves, sent-leaves, heard-leaves, body-leaves, request-leaves}
+
+-- ---- calls
+
+-- what holds of a refusal and of what is done holds of the call
+pub decided-both : (n : ℕ) (s : Seen) (d : Did) (P : Did → Type 0) → ((k : ℕ) → P (refused k s)) → P d → P (decided n s d)
+unfolding decided
+decided-both n s d P r h =
+    by-cases (eqb n 0) (P (decided n s d)) (λ e. rw e h) (λ e.
+    by-cases (eqb n silent) (P (decided n s d)) (λ f. rw (e, f) (r 0)) (λ f. rw (e, f) (r n)))
+
+-- a call other than taking the events puts what it tells behind what is held
+abbrev Tells : Seen → Did → Type 0
+Tells s d = d .after .events ≡ s .events ++ d .told
+
+refused-tells : (s : Seen) (k : ℕ) → Tells s (refused k s)
+unfolding refused
+refused-tells s k = sym (append-nil (s .events))
+
+done-tells : (s : Seen) (e : Effect) → booked (e .state) ≡ booked s → Tells s (done e)
+unfolding done
+done-tells s e h = rw (ap (λ (p : List Entry × ℕ). p .0) h)
+
+changed-tells : (s t : Seen) → t .events ≡ s .events → Tells s (changed t)
+changed-tells s t h = h ∙ sym (append-nil (s .events))
+
+message-tells : (from count : ℕ) (w : Wire) (now epoch nonce buffer : ℕ) (s : Seen) → Tells s (messageStep from count w now epoch nonce buffer s)
+unfolding messageStep
+message-tells from count w now epoch nonce buffer s =
+    decided-both _ s _ (Tells s) (refused-tells s) (done-tells s _ (body-leaves (w .body) count w now epoch nonce (heard now s) ∙ heard-leaves now s))
+
+updated : (f : ℕ) (s : Seen) → advantageUpdated f s .events ≡ s .events
+unfolding advantageUpdated localAdvantage
+updated f s = by-cases (bothKnown f s) (advantageUpdated f s .events ≡ s .events) (λ h. rw h) (λ h. rw h)
+
+-- with what it hands back, every call
+step-tells : (c : Call) (s : Seen) → handed c s ++ step c s .after .events ≡ s .events ++ step c s .told
+unfolding step synchronizeStep datagramStep actStep sendStep disconnectStep checksumStep checksumSent queueWire synchronized started advantageStep statsStep statusStep takeStep
+step-tells (Call.synchronize now epoch nonce buffer) s = decided-both _ s _ (Tells s) (refused-tells s) (done-tells s _ (request-leaves now nonce _))
+step-tells (Call.message from count w now epoch nonce buffer) s = message-tells from count w now epoch nonce buffer s
+step-tells (Call.datagram from bytes now epoch nonce buffer) s = decided-both _ s _ (Tells s) (refused-tells s) (message-tells from _ _ now epoch nonce buffer s)
+step-tells (Call.act count statuses now epoch nonce buffer) s = decided-both _ s _ (Tells s) (refused-tells s) (done-tells s _ (acted-leaves now (s .phase) epoch nonce statuses (begin s)))
+step-tells (Call.sendInput frame bytes count statuses now buffer) s = decided-both _ s _ (Tells s) (refused-tells s) (done-tells s _ (sent-leaves now frame bytes statuses (begin s)))
+step-tells (Call.disconnect now) s = decided-both _ s _ (Tells s) (refused-tells s) (changed-tells s (withPhase Disconnected (shutdownAt (now + 5000) s)) refl)
+step-tells (Call.sendChecksumReport frame checksum now buffer) s = decided-both _ s _ (Tells s) (refused-tells s) (done-tells s _ refl)
+step-tells (Call.updateLocalFrameAdvantage f) s = decided-both _ s _ (Tells s) (refused-tells s) (changed-tells s (advantageUpdated f s) (updated f s))
+step-tells (Call.networkStats epoch) s = decided-both _ s _ (Tells s) (refused-tells s) (changed-tells s s refl)
+step-tells (Call.peerConnectStatus handle) s = decided-both _ s _ (Tells s) (refused-tells s) (changed-tells s s refl)
+step-tells Call.takeEvents s = refl
+step-tells (Call.takeMessages buffer) s = decided-both _ s _ (Tells s) (refused-tells s) (changed-tells s (withQueued 0 s) refl)
+step-tells Call.handles s = changed-tells s s refl
+step-tells Call.isSynchronized s = changed-tells s s refl
+step-tells Call.isRunning s = changed-tells s s refl
+step-tells (Call.isHandlingMessage from) s = changed-tells s s refl
+step-tells Call.newestFrame s = changed-tells s s refl
+step-tells Call.state s = changed-tells s s refl
+step-tells Call.checksums s = changed-tells s s refl
+
+-- and every run
+pub run-tells : (cs : List Call) (s : Seen) → allHanded cs s ++ ran cs s .events ≡ s .events ++ allTold cs s
+unfolding ran allTold allHanded
+run-tells [] s = sym (append-nil (s .events))
+run-tells (c ∷ cs) s =
+    append-assoc (handed c s) (allHanded cs (step c s .after)) (ran cs (step c s .after) .events)
+    ∙ ap (λ l. handed c s ++ l) (run-tells cs (step c s .after))
+    ∙ sym (append-assoc (handed c s) (step c s .after .events) (allTold cs (step c s .after)))
+    ∙ ap (λ l. l ++ allTold cs (step c s .after)) (step-tells c s)
+    ∙ append-assoc (s .events) (step c s .told) (allTold cs (step c s .after))

@@ -1,0 +1,16 @@
+pub mod Choices
+pub mod Eaches
+pub mod Parts
+pub mod Padding
+pub mod Senders
+pub mod Receivers
+pub mod Fields
+pub mod Syncs
+pub mod Effects
+pub mod Outputs
+pub mod Requests
+pub mod Hearing
+pub mod Acts
+pub mod Sound
+pub mod Runs
+pub mod Examples
