@@ -19,3 +19,7 @@ pub mod Advantages
 pub mod Unqueued
 pub mod Asks
 pub mod SyncReplies
+pub mod Packets
+pub mod Informs
+pub mod Receives
+pub mod Arrives

@@ -7,7 +7,7 @@ use denote.Enum.Declared.{tagOf}
 use Rattle.base.proofs.Tags.{none-of}
 use Rattle.protocol.specs.declared.Phase.{Phase}
 use Rattle.protocol.specs.declared.Phase.the-variants.{Initializing, Synchronizing, Running, Disconnected, Shutdown}
-use Rattle.protocol.specs.Seen.{isInitializing, isSynchronizing, isRunning, isShutdown}
+use Rattle.protocol.specs.Seen.{isInitializing, isSynchronizing, isRunning, isDisconnected, isShutdown}
 use Rattle.protocol.proofs.Phase.{the-type}
 
 pub not-initializing : (p : Phase) → OneOf (1 ∷ 2 ∷ 3 ∷ 4 ∷ []) (tagOf the-type p) → isInitializing p ≡ false
@@ -37,3 +37,10 @@ not-shutdown Synchronizing h = refl
 not-shutdown Running h = refl
 not-shutdown Disconnected h = refl
 not-shutdown Shutdown h = absurd (none-of (0 ∷ 1 ∷ 2 ∷ 3 ∷ []) 4 tt h)
+
+pub not-disconnected : (p : Phase) → OneOf (0 ∷ 1 ∷ 2 ∷ 4 ∷ []) (tagOf the-type p) → isDisconnected p ≡ false
+not-disconnected Initializing h = refl
+not-disconnected Synchronizing h = refl
+not-disconnected Running h = refl
+not-disconnected Disconnected h = absurd (none-of (0 ∷ 1 ∷ 2 ∷ 4 ∷ []) 3 tt h)
+not-disconnected Shutdown h = refl

@@ -5,3 +5,6 @@ pub mod Told
 pub mod Taken
 pub mod Sent
 pub mod Handshaking
+pub mod Informed
+pub mod Readable
+pub mod News

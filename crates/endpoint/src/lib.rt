@@ -2,6 +2,9 @@
 // answer and the endpoint after it; on a refusal that is the very endpoint it was called on. What a call does is `step` of the crate `protocol`.
 mod acks;
 mod closing;
+mod informing;
+mod packet;
+mod receiving;
 mod getters;
 mod handshake;
 mod hearing;

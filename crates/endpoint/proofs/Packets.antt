@@ -1,0 +1,102 @@
+-- A packet's frames above the newest: those left when the known ones are skipped, announced one after another.
+use borrow.Author.Tests.{ltb-true, ltb-false, eq-eqb, ne-eqb}
+use mathlib.Core.Bool.{true, false}
+use mathlib.Core.List.{List, [], _∷_}
+use mathlib.Core.Path.{_≡_, refl}
+use Prim.Native.Nat.{ℕ, zero, suc, _+_, _-_, _*_, _^_, _≤_, min}
+use native.Mathlib.Omega.{arith}
+use native.Mathlib.Numerals.{add-one}
+use native.Mathlib.Nat.{mul-le-mul-right, div-mul-le-self}
+use lib.Dec.{ltb}
+use lib.ListN.{length, take, drop}
+use Rattle.base.specs.Pick.{pick}
+use Rattle.base.specs.Keyed.{kept}
+use Rattle.packing.specs.Packing.{xors, frameCount, framesOf}
+use Rattle.packing.specs.Pad.{padded}
+use Rattle.packing.specs.declared.input_bytes.InputBytes.{InputBytes}
+use Rattle.packing.proofs.Laws.{xors-length, frames-length, unpack-take, frames-drop}
+use Rattle.frame.specs.Bias.{nullFrame}
+use Rattle.history.specs.History.{newestOf, above, numbered, packetOf}
+use Rattle.events.specs.declared.Entry.{Entry}
+use Rattle.events.specs.declared.Event.the-variants.{Synchronized}
+use Rattle.events.specs.declared.Events.{Events}
+use Rattle.events.specs.declared.Pushed.{Pushed}
+use Rattle.events.specs.Events.{held, hasRoom, announcedAll, packetFits, PushedAs}
+use Rattle.events.proofs.Laws.{announced-padded, packet-fits, packet-length, not-pushed}
+use Rattle.protocol.specs.Receiving.{referenceFrame, announcedEach}
+
+-- k: how many are not above the newest
+above-numbered : (newest start : ℕ) (fs : List (List ℕ)) (k : ℕ) → k ≡ min (suc newest - start) (length fs)
+    → above newest (numbered start fs) ≡ numbered (start + k) (drop k fs)
+unfolding above kept numbered
+above-numbered newest start [] k e = let z : k ≡ 0 = omega arith in rw z
+above-numbered newest start (f ∷ fs) k e =
+    elim (ltb newest start) as
+    (λ b. ltb newest start ≡ b → pick b (record { frame = start; bytes = padded f } ∷ above newest (numbered (suc start) fs)) (above newest (numbered (suc start) fs)) ≡ numbered (start + k) (drop k (f ∷ fs))) [
+      | true ↦ λ t.
+          let z : k ≡ 0 = omega (arith, ltb-true newest start t) in
+          let i : above newest (numbered (suc start) fs) ≡ numbered (suc start + 0) (drop 0 fs) = above-numbered newest (suc start) fs 0 (omega (arith, ltb-true newest start t)) in
+          let n : start + 0 ≡ start = omega arith in
+          let m : suc start + 0 ≡ suc start = omega arith in
+          rw (z, i, n, m)
+      | false ↦ λ t.
+          let s : k ≡ suc (k - 1) = omega (arith, ltb-false newest start t) in
+          let m : start + suc (k - 1) ≡ suc start + (k - 1) = omega arith in
+          rw (s, m) (above-numbered newest (suc start) fs (k - 1) (omega (arith, ltb-false newest start t)))
+    ]
+    refl
+
+-- frames are stored with zeros after them, which changes nothing that is announced
+each-frames : (size : ℕ) (hs : List ℕ) (start w : ℕ) (r : List ℕ) (n : ℕ) (p : List ℕ) → length r ≤ 64
+    → announcedEach size hs (numbered start (framesOf w r n p)) ≡ announcedAll start size hs (framesOf w r n p)
+unfolding announcedEach announcedAll numbered framesOf
+each-frames size hs start w r zero p h = refl
+each-frames size hs start w r (suc n) p h =
+    let x = announced-padded start size (xors (take w p) r) hs (omega (arith, xors-length (take w p) r)) in
+    rw (x, add-one, each-frames size hs (suc start) w r n (drop w p) h)
+
+-- n: how many frames a packet has, each with a number
+module _ (start w n : ℕ) (r p : List ℕ) (counts : n ≡ frameCount w (length p)) (within : start + n ≤ 2 ^ 32) where
+  packet-is : packetOf start w r p ≡ numbered start (framesOf w r n p)
+  unfolding packetOf
+  packet-is =
+      let m : min (2 ^ 32 - start) (frameCount w (length p)) ≡ n = omega arith in
+      rw (unpack-take w r (2 ^ 32 - start) p, m)
+
+  module _ (newest k : ℕ) (skips : k ≡ min (suc newest - start) n) where
+    above-packet : above newest (packetOf start w r p) ≡ numbered (start + k) (framesOf w r (n - k) (drop (k * w) p))
+    above-packet = rw (packet-is, above-numbered newest start (framesOf w r n p) k (rw (frames-length w r n p) skips), frames-drop w r k n p)
+
+    -- the skipped bytes are bytes of the payload
+    pub skipped-within : k * w ≤ length p
+    skipped-within = omega (arith, mul-le-mul-right {m = k} {n = frameCount w (length p)} w (omega arith), div-mul-le-self (length p) w)
+
+    module _ (size : ℕ) (hs : List ℕ) (e : Events) where
+      abbrev News : List Entry
+      News = announcedEach size hs (above newest (packetOf start w r p))
+
+      pub nothing-new : k ≡ n → length (e .entries) ≡ 640 → PushedAs e (hasRoom (held e) (length News)) News (record { ok = true; events = e })
+      unfolding announcedEach numbered framesOf
+      nothing-new all long =
+          let z : n - k ≡ 0 = omega arith in
+          rw (above-packet, z) (not-pushed e false (record { event = Synchronized; input = [] }) refl long)
+
+      pub news-pushed : length r ≡ 64 → (q : Pushed)
+          → PushedAs e (packetFits (held e) (start + k) (n - k) hs) (announcedAll (start + k) size hs (framesOf w r (n - k) (drop (k * w) p))) q
+          → PushedAs e (hasRoom (held e) (length News)) News q
+      news-pushed h q a =
+          rw (
+            above-packet,
+            each-frames size hs (start + k) w r (n - k) (drop (k * w) p) (omega arith),
+            packet-length (start + k) size w r hs (drop (k * w) p) (n - k),
+            ← packet-fits (held e) (start + k) (n - k) hs (omega arith),
+          ) a
+
+-- the frame of the reference
+pub reference-blank : (start : ℕ) (l : List InputBytes) (newest : ℕ) → newest ≡ newestOf l → newest ≡ nullFrame → referenceFrame start l ≡ nullFrame
+unfolding referenceFrame
+reference-blank start l newest n e = rw (← n, eq-eqb newest nullFrame e)
+
+pub reference-before : (start : ℕ) (l : List InputBytes) (newest : ℕ) → newest ≡ newestOf l → (newest ≡ nullFrame → ⊥) → referenceFrame start l ≡ start - 1
+unfolding referenceFrame
+reference-before start l newest n e = rw (← n, ne-eqb newest nullFrame e)

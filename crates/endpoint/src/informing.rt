@@ -1,0 +1,124 @@
+// What an Input brings besides inputs: an acknowledgement, and either the other end's statuses or its request to disconnect.
+ghost use mathlib.Core.Path.{_≡_};
+ghost use mathlib.Core.Bool.{true, not, _&&_};
+ghost use mathlib.Core.List.{map};
+ghost use Rattle.base.specs.Pick.{pick};
+ghost use Rattle.status.specs.Status.{reported};
+ghost use Rattle.status.specs.Statuses.{held, mergedAll};
+ghost use Rattle.codec.specs.Message.{listed};
+ghost use Rattle.codec.specs.declared.StatusReport.{StatusReport};
+ghost use Rattle.protocol.specs.Seen.{isDisconnected};
+ghost use Rattle.protocol.specs.Did.{change};
+ghost use Rattle.protocol.specs.Sending.{acknowledged};
+ghost use Rattle.protocol.specs.Receiving.{informed};
+ghost use Rattle.protocol.specs.Step.{heard};
+ghost use Rattle.endpoint.specs.Endpoint.{seen};
+ghost use Rattle.endpoint.specs.Informed.{InformedAs};
+use crate::Endpoint;
+use crate::Sender;
+use codec::StatusReports;
+use events::Entry;
+use events::Event;
+use events::Events;
+use protocol::Flags;
+use protocol::Phase;
+use status::Statuses;
+use timers::Clocks;
+
+// The parts of an endpoint that an Input changes whatever inputs it brings; `ok` where its events fit.
+pub struct Informed {
+    pub ok: bool,
+    pub sender: Sender,
+    pub clocks: Clocks,
+    pub flags: Flags,
+    pub statuses: Statuses,
+    pub events: Events,
+}
+
+fn merge_reports(statuses: Statuses, reports: StatusReports) -> Statuses
+    ensures { λ r. ⌜ held r ≡ mergedAll (held statuses) (map (λ (x : StatusReport). reported (x .disconnected) (x .«last_frame»)) (listed reports)) ⌝ }
+{
+    let mut next = statuses;
+    let mut i = 0;
+    while i < 4 && i < reports.count {
+        let report = reports.list[i];
+        next = next.merge_report(i, report.disconnected, report.last_frame);
+        i += 1;
+    }
+    next
+}
+
+// An end that wants to disconnect reports nothing any more.
+fn informed_statuses(
+    statuses: Statuses,
+    disconnect_requested: bool,
+    reports: StatusReports,
+) -> Statuses
+    ensures { λ r. ⌜ held r ≡ pick «disconnect_requested» (held statuses) (mergedAll (held statuses) (map (λ (x : StatusReport). reported (x .disconnected) (x .«last_frame»)) (listed reports))) ⌝ }
+{
+    if disconnect_requested {
+        return statuses;
+    }
+    merge_reports(statuses, reports)
+}
+
+// A request is told once, and not by an endpoint that is disconnected already.
+fn tells_disconnect(disconnect_requested: bool, phase: Phase, flags: Flags) -> bool
+    ensures { λ r. ⌜ r ≡ («disconnect_requested» && (not (isDisconnected phase) && not (flags .«disconnect_event_sent»))) ⌝ }
+{
+    if !disconnect_requested {
+        return false;
+    }
+    if let Phase::Disconnected = phase {
+        return false;
+    }
+    !flags.disconnect_event_sent
+}
+
+fn told_flags(flags: Flags, tells: bool) -> Flags
+    ensures { λ r. ⌜ r ≡ pick tells (record { «disconnect_notify_sent» = flags .«disconnect_notify_sent»; «disconnect_event_sent» = true }) flags ⌝ }
+{
+    if tells {
+        return Flags {
+            disconnect_event_sent: true,
+            ..flags
+        };
+    }
+    flags
+}
+
+impl Endpoint {
+    pub(crate) fn inform(
+        self,
+        disconnect_requested: bool,
+        ack_frame: u32,
+        reports: StatusReports,
+        now: u64,
+    ) -> Informed
+        ensures { λ r. ⌜ InformedAs self (informed «disconnect_requested» (listed reports) (change (acknowledged «ack_frame») (heard now (seen self)))) r ⌝ }
+    {
+        let heard = self.hear(now);
+        let phase = self.phase;
+        let tells = tells_disconnect(disconnect_requested, phase, heard.flags);
+        let pushed = heard.events.push_if(
+            tells,
+            Entry {
+                event: Event::Disconnected,
+                input: [0u8; 16],
+            },
+        );
+        let sender = self.sender.acknowledged(ack_frame);
+        let clocks = heard.clocks;
+        let flags = told_flags(heard.flags, tells);
+        let statuses = informed_statuses(self.statuses, disconnect_requested, reports);
+        let events = pushed.events;
+        Informed {
+            ok: heard.ok & pushed.ok,
+            sender,
+            clocks,
+            flags,
+            statuses,
+            events,
+        }
+    }
+}
