@@ -17,3 +17,4 @@ pub mod Settled
 pub mod Examples
 pub mod Bouts
 pub mod Meant
+pub mod KindNumbers

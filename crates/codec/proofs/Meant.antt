@@ -49,6 +49,11 @@ module _ (m : Message) (payload : List ℕ) where
   unfolding meant isInput
   meant-reports d s a e = rw e
 
+  -- and the payload beside it
+  pub meant-payload : (d : Bool) (s a : ℕ) → m .body ≡ Input d s a → meant m payload .payload ≡ payload
+  unfolding meant isInput
+  meant-payload d s a e = rw e
+
   -- and no message has more than the array
   pub meant-few : length (meant m payload .reports) ≤ length (m .reports .list)
   unfolding meant

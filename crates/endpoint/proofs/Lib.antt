@@ -23,3 +23,11 @@ pub mod Packets
 pub mod Informs
 pub mod Receives
 pub mod Arrives
+pub mod Frames
+pub mod Sends
+pub mod Messages
+pub mod Datagrams
+pub mod Together
+pub mod Batches
+pub mod Runs
+pub mod Acts

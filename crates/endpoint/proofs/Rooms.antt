@@ -51,3 +51,13 @@ module _ (n : ℕ) (s : Seen) (r : Reaction) (short : r .tooLong ≡ false) (wit
   pub reacted-done : r .storeFull ≡ false → isFull n (r .effect) ≡ false → reacted n s r ≡ done (r .effect)
   unfolding reacted decided
   reacted-done k h = rw (short, within, k, h)
+
+-- several messages, or none
+module _ (buffer : List ℕ) (f : Effect) where
+  pub full-bytes : bufferFull (length buffer) (f .state .queued) (sizes (f .out)) ≡ true → isFull (length buffer) f ≡ true
+  unfolding isFull
+  full-bytes h = rw (h, or-true)
+
+  pub room-bytes : hasRoom (f .state .events) (length (f .told)) ≡ true → bufferFull (length buffer) (f .state .queued) (sizes (f .out)) ≡ false → isFull (length buffer) f ≡ false
+  unfolding isFull
+  room-bytes e h = rw (e, h)

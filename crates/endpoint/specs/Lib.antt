@@ -8,3 +8,8 @@ pub mod Handshaking
 pub mod Informed
 pub mod Readable
 pub mod News
+pub mod Frames
+pub mod Filter
+pub mod Due
+pub mod Batch
+pub mod Acts

@@ -1,15 +1,20 @@
 // The peer endpoint of ggrs (protocol.rs): a state by value, clocks and nonces as arguments, the send queue in a lent buffer. Each call gives its
 // answer and the endpoint after it; on a refusal that is the very endpoint it was called on. What a call does is `step` of the crate `protocol`.
 mod acks;
+mod acting;
+mod batch;
 mod closing;
-mod informing;
-mod packet;
-mod receiving;
+mod dispatch;
 mod getters;
 mod handshake;
 mod hearing;
+mod informing;
 mod making;
+mod packet;
+mod plan;
+mod receiving;
 mod reports;
+mod sending;
 mod taking;
 
 use answer::Answer;

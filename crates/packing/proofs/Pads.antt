@@ -1,11 +1,13 @@
 -- Laws of padded bytes: what a loop laid over zeros, and what padding gives back.
 use mathlib.Core.Path.{_≡_, refl}
-use mathlib.Core.List.{List, [], _++_}
-use Prim.Native.Nat.{ℕ, _-_, _≤_, min}
+use mathlib.Core.List.{List, [], _∷_, _++_}
+use Prim.Native.Nat.{ℕ, zero, suc, _-_, _≤_, min}
 use native.Mathlib.Omega.{arith}
-use lib.ListN.{length, take, drop, replicate, length-replicate, take-append-drop}
-use lib.Seq.{take-all, length-take-le}
+use lib.Bits.{xor-zero-l, xor-comm}
+use lib.ListN.{length, take, drop, replicate, length-replicate, length-take, take-append-drop}
+use lib.Seq.{take-all, take-take, length-take-le}
 use Rattle.base.proofs.Padded.{pad-length, pad-over}
+use Rattle.packing.specs.Packing.{xors}
 use Rattle.packing.specs.Pad.{zeros, padded}
 
 pub zeros-length : length zeros ≡ 64
@@ -32,3 +34,17 @@ unfolding padded
 padded-take width bytes h n z =
     let l : length (take width bytes) ≡ width = length-take-le width bytes (omega arith) in
     rw (take-all 64 (take width bytes) (omega arith), l, ← z) (take-append-drop width bytes)
+
+-- XOR zeros changes nothing, so that such a frame is its bytes, padded
+xors-zeros : (n : ℕ) (bytes : List ℕ) → xors bytes (replicate n 0) ≡ take n bytes
+unfolding xors
+xors-zeros zero [] = refl
+xors-zeros zero (x ∷ bytes) = refl
+xors-zeros (suc n) [] = refl
+xors-zeros (suc n) (x ∷ bytes) = rw (xor-comm x 0, xor-zero-l x, xors-zeros n bytes)
+
+pub padded-plain : (bytes : List ℕ) → padded (xors bytes (replicate 64 0)) ≡ padded bytes
+unfolding padded
+padded-plain bytes =
+    let n : 64 - length (take 64 bytes) ≡ 64 - length bytes = omega (arith, length-take 64 bytes) in
+    rw (xors-zeros, n, take-take 64 64 bytes (omega arith))

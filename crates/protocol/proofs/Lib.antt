@@ -6,3 +6,4 @@ pub mod Unusable
 pub mod Leaves
 pub mod Told
 pub mod Queue
+pub mod Timings

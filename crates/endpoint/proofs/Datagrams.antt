@@ -1,0 +1,64 @@
+-- The ways out of `datagram`: the reader's refusal, or what its message does.
+use mathlib.Core.List.{List}
+use mathlib.Core.Path.{_≡_, refl, sym, _∙_}
+use Prim.Native.Nat.{ℕ}
+use lib.ListN.{length}
+use Rattle.answer.specs.Number.{numberOf}
+use Rattle.answer.specs.declared.Answer.{Answer}
+use Rattle.answer.specs.declared.Answer.the-variants.{Done, BadSetup, WrongState, BadLength, BadFrame, Full, Overflow, BadHandle, BadClock, Short, BadKind, BadBool, TooLong, Extra, NotSynchronized, NotEnoughData, PredictionThreshold, SpectatorTooFarBehind}
+use Rattle.codec.specs.Message.{meant}
+use Rattle.codec.specs.Read.{datagram, numberIn}
+use Rattle.codec.specs.Calls.{ReadAs, PayloadAs}
+use Rattle.codec.specs.declared.Received.{Received}
+use Rattle.protocol.specs.Seen.{Seen}
+use Rattle.protocol.specs.Did.{Did, refused, decided}
+use Rattle.protocol.specs.Call.{Call}
+use Rattle.protocol.specs.Step.{datagramStep, step}
+use Rattle.endpoint.specs.declared.Endpoint.{Endpoint}
+use Rattle.endpoint.specs.declared.Ended.{Ended}
+use Rattle.endpoint.specs.Endpoint.{seen, DidAs}
+use Rattle.endpoint.proofs.Ends.{refused-did}
+use Rattle.endpoint.proofs.Settles.{did-settled}
+
+-- no answer has the number that stands for a silent return
+decided-refused : (a : Answer) (s : Seen) (d : Did) → (numberOf a ≡ 0 → ⊥) → decided (numberOf a) s d ≡ refused (numberOf a) s
+unfolding decided
+decided-refused Done s d n = absurd (n refl)
+decided-refused BadSetup s d n = refl
+decided-refused WrongState s d n = refl
+decided-refused BadLength s d n = refl
+decided-refused BadFrame s d n = refl
+decided-refused Full s d n = refl
+decided-refused Overflow s d n = refl
+decided-refused BadHandle s d n = refl
+decided-refused BadClock s d n = refl
+decided-refused Short s d n = refl
+decided-refused BadKind s d n = refl
+decided-refused BadBool s d n = refl
+decided-refused TooLong s d n = refl
+decided-refused Extra s d n = refl
+decided-refused NotSynchronized s d n = refl
+decided-refused NotEnoughData s d n = refl
+decided-refused PredictionThreshold s d n = refl
+decided-refused SpectatorTooFarBehind s d n = refl
+
+module _ (e : Endpoint) (from : ℕ) (bytes : List ℕ) (now epoch nonce : ℕ) (buffer : List ℕ) where
+  abbrev Does : Did
+  Does = step (Call.datagram from bytes now epoch nonce (length buffer)) (seen e)
+
+  module _ (r : Received) (read : ReadAs bytes r) where
+    pub datagram-refused : (numberOf (r .answer) ≡ 0 → ⊥) → DidAs e Does buffer (record { answer = r .answer; endpoint = e }) buffer
+    unfolding step datagramStep
+    datagram-refused n = refused-did e (r .answer) Does (rw (← read .answer) (decided-refused (r .answer) (seen e) _ n)) buffer
+
+    pub datagram-taken : (p : List ℕ) (x : Ended) (b′ : List ℕ) → numberOf (r .answer) ≡ 0 → PayloadAs bytes p
+        → DidAs e (step (Call.message from (r .message .reports .count) (meant (r .message) p) now epoch nonce (length buffer)) (seen e)) buffer x b′
+        → DidAs e Does buffer x b′
+    unfolding step datagramStep decided
+    datagram-taken p x b′ done payload d =
+        let none : numberIn (datagram bytes) ≡ 0 = sym (read .answer) ∙ done in
+        rw none (rw (payload .payload, read .message, read .count) at d)
+
+  pub datagram-settled : (r s : Ended) (b c : List ℕ) → DidAs e Does buffer r b → DidAs e Does buffer s c
+      → (r .answer ≡ s .answer) × (seen (r .endpoint) ≡ seen (s .endpoint)) × (b ≡ c)
+  datagram-settled = did-settled e Does buffer

@@ -1,0 +1,205 @@
+-- Act in Running: by what is due, and its ways out.
+use borrow.Author.Tests.{lt-ltb}
+use mathlib.Core.Bool.{Bool, true, false, not, _&&_, _||_}
+use mathlib.Core.List.{List, [], _∷_, _++_, append-nil}
+use mathlib.Core.Path.{_≡_, refl, sym, _∙_, ap}
+use native.Mathlib.Omega.{arith}
+use Prim.Native.Nat.{ℕ, _+_, _-_}
+use lib.Dec.{ltb}
+use lib.ListN.{length, replicate}
+use Rattle.base.specs.Pick.{pick}
+use Rattle.base.specs.Lay.{laidAt}
+use Rattle.packing.specs.declared.input_bytes.InputBytes.{InputBytes}
+use Rattle.status.specs.declared.ConnectionStatus.{ConnectionStatus}
+use Rattle.timers.specs.declared.Clocks.{Clocks}
+use Rattle.timers.specs.Timers.{passed}
+use Rattle.codec.specs.Message.{Wire}
+use Rattle.codec.specs.Read.{plain}
+use Rattle.codec.specs.declared.MessageBody.the-variants.{QualityReport, KeepAlive}
+use Rattle.quality.specs.Quality.{clamped}
+use Rattle.events.specs.declared.Entry.{Entry}
+use Rattle.events.specs.declared.Event.the-variants as Event
+use Rattle.setup.specs.Setup.{sendingWidth}
+use Rattle.protocol.specs.declared.Flags.{Flags}
+use Rattle.protocol.specs.declared.Phase.the-variants.{Running}
+use Rattle.protocol.specs.Seen.{Seen, withClocks, withFlags, inputAt}
+use Rattle.protocol.specs.Did.{Effect, begin, change, queueWire, queue, tell}
+use Rattle.protocol.specs.Sending.{newest, pendingIn, pendingQueued, queuePending}
+use Rattle.protocol.specs.Reports.{pingOf, reportQueued}
+use Rattle.protocol.specs.Act.{resendDue, reportDue, keepAliveDue, interruptionDue, disconnectDue, resent, reported, keptAlive, interrupted, timedOut, acted}
+use Rattle.endpoint.specs.declared.plan.Due.{Due}
+use Rattle.endpoint.specs.Due.{dueOf, clocksBy, flagsBy, toldBy}
+use Rattle.endpoint.specs.Batch.{batch}
+
+-- clocks set where they are due
+abbrev timed : (now : ℕ) → (resend report sends : Bool) → Clocks → Clocks
+timed now resend report sends c =
+    record {
+      «running_last_quality_report» = pick report now (c .«running_last_quality_report»);
+      «running_last_input_recv» = pick resend now (c .«running_last_input_recv»);
+      «last_send_time» = pick sends now (c .«last_send_time»);
+      «last_sync_request_time» = c .«last_sync_request_time»;
+      «last_recv_time» = c .«last_recv_time»;
+      «shutdown_timeout» = c .«shutdown_timeout»;
+    }
+
+either : (a b : Bool) (x y : ℕ) → pick b x (pick a x y) ≡ pick (a || b) x y
+either true true x y = refl
+either true false x y = refl
+either false b x y = refl
+
+-- flags set where their event is told
+abbrev flagged : (interruption disconnect : Bool) → Flags → Flags
+flagged interruption disconnect f =
+    record {
+      «disconnect_notify_sent» = interruption || f .«disconnect_notify_sent»;
+      «disconnect_event_sent» = disconnect || f .«disconnect_event_sent»;
+    }
+
+module _ (now : ℕ) (s : Seen) where
+  -- s with other clocks and flags, as the steps pass it on
+  abbrev going : Clocks → Flags → List Wire → List Entry → Effect
+  going c f out told = record { state = withFlags f (withClocks c s); out = out; told = told; kept = [] }
+
+  abbrev some : Bool
+  some = ltb 0 (length (s .carried .sender .pending))
+
+  abbrev report : (epoch : ℕ) → Wire
+  report epoch = plain (s .setup .magic) (QualityReport (clamped (s .quality .«local_frame_advantage»)) (pingOf epoch))
+
+  abbrev alive : Wire
+  alive = plain (s .setup .magic) KeepAlive
+
+  abbrev left : ℕ
+  left = s .setup .disconnectTimeout - s .setup .notifyStart
+
+  abbrev interruption : Entry
+  interruption = record { event = Event.NetworkInterrupted left; input = replicate 16 0 }
+
+  abbrev disconnection : Entry
+  disconnection = record { event = Event.Disconnected; input = replicate 16 0 }
+
+  -- each step, by whether it is due
+  module _ (c : Clocks) (f : Flags) (out : List Wire) (told : List Entry) where
+    abbrev before : Effect
+    before = going c f out told
+
+    module _ (statuses : List ConnectionStatus) where
+      abbrev resending : List InputBytes → List Wire
+      resending l = out ++ pick (ltb 0 (length l)) (pendingIn statuses s ∷ []) []
+
+      pending-is : (l : List InputBytes) → pendingQueued now statuses l before ≡ going (timed now false false (ltb 0 (length l)) c) f (resending l) told
+      unfolding pendingQueued queueWire
+      pending-is [] = rw append-nil
+      pending-is (x ∷ xs) = rw (lt-ltb 0 (length (x ∷ xs)) (omega arith))
+
+      resent-by : (b : Bool) (l : List InputBytes) → pick b (change (inputAt now) (pendingQueued now statuses l before)) before
+          ≡ going (timed now b false (b && ltb 0 (length l)) c) f (out ++ pick (b && ltb 0 (length l)) (pendingIn statuses s ∷ []) []) told
+      resent-by true l = rw pending-is
+      resent-by false l = rw append-nil
+
+      resent-is : (b : Bool) → b ≡ resendDue now (before .state)
+          → resent now statuses before ≡ going (timed now b false (b && some) c) f (out ++ pick (b && some) (pendingIn statuses s ∷ []) []) told
+      unfolding resent
+      resent-is b eb = rw (← eb) (resent-by b (s .carried .sender .pending))
+
+    reported-by : (epoch : ℕ) (b : Bool) → pick b (reportQueued now epoch before) before
+        ≡ going (timed now false b b c) f (out ++ pick b (report epoch ∷ []) []) told
+    unfolding reportQueued queueWire
+    reported-by epoch true = refl
+    reported-by epoch false = rw append-nil
+
+    kept-alive-by : (b : Bool) → pick b (queue now KeepAlive before) before ≡ going (timed now false false b c) f (out ++ pick b (alive ∷ []) []) told
+    unfolding queueWire
+    kept-alive-by true = refl
+    kept-alive-by false = rw append-nil
+
+    reported-is : (epoch : ℕ) (b : Bool) → b ≡ reportDue now (before .state) → reported now epoch before ≡ going (timed now false b b c) f (out ++ pick b (report epoch ∷ []) []) told
+    unfolding reported
+    reported-is epoch b eb = rw (← eb) (reported-by epoch b)
+
+    kept-alive-is : (b : Bool) → b ≡ keepAliveDue now (before .state) → keptAlive now before ≡ going (timed now false false b c) f (out ++ pick b (alive ∷ []) []) told
+    unfolding keptAlive
+    kept-alive-is b eb = rw (← eb) (kept-alive-by b)
+
+    interrupted-by : (b : Bool)
+        → pick b (tell (Event.NetworkInterrupted left) (change (λ x. withFlags (record { «disconnect_notify_sent» = true; «disconnect_event_sent» = x .flags .«disconnect_event_sent» }) x) before)) before
+        ≡ going c (flagged b false f) out (told ++ pick b (interruption ∷ []) [])
+    interrupted-by true = refl
+    interrupted-by false = rw append-nil
+
+    timed-out-by : (b : Bool)
+        → pick b (tell Event.Disconnected (change (λ x. withFlags (record { «disconnect_notify_sent» = x .flags .«disconnect_notify_sent»; «disconnect_event_sent» = true }) x) before)) before
+        ≡ going c (flagged false b f) out (told ++ pick b (disconnection ∷ []) [])
+    timed-out-by true = refl
+    timed-out-by false = rw append-nil
+
+    interrupted-is : (b : Bool) → b ≡ interruptionDue now (before .state) → interrupted now before ≡ going c (flagged b false f) out (told ++ pick b (interruption ∷ []) [])
+    unfolding interrupted
+    interrupted-is b eb = rw (← eb) (interrupted-by b)
+
+    timed-out-is : (b : Bool) → b ≡ disconnectDue now (before .state) → timedOut now before ≡ going c (flagged false b f) out (told ++ pick b (disconnection ∷ []) [])
+    unfolding timedOut
+    timed-out-is b eb = rw (← eb) (timed-out-by b)
+
+  -- all steps, by what is due
+  module _ (statuses : List ConnectionStatus) (epoch : ℕ) where
+    abbrev due : Due
+    due = dueOf now (s .clocks) (s .flags) (ltb 0 (length (s .carried .sender .pending))) (s .setup .notifyStart) (s .setup .disconnectTimeout)
+
+    abbrev pub ran : Due → Effect
+    ran d =
+        record {
+          state = withFlags (flagsBy d (s .flags)) (withClocks (clocksBy d now (s .clocks)) s);
+          out = batch d (s .setup .magic) (newest s) statuses (s .carried .sender .pending) (sendingWidth (s .setup)) (s .carried .sender .acked) (s .quality .«local_frame_advantage») epoch;
+          told = toldBy d (s .setup .disconnectTimeout - s .setup .notifyStart);
+          kept = [];
+        }
+
+    module _ (r q k i o : Bool) (er : r ≡ passed (s .clocks .«running_last_input_recv») 200 now) (eq : q ≡ passed (s .clocks .«running_last_quality_report») 200 now)
+        (ek : k ≡ passed (pick ((r && some) || q) now (s .clocks .«last_send_time»)) 200 now)
+        (ei : i ≡ not (s .flags .«disconnect_notify_sent») && passed (s .clocks .«last_recv_time») (s .setup .notifyStart) now)
+        (eo : o ≡ not (s .flags .«disconnect_event_sent») && passed (s .clocks .«last_recv_time») (s .setup .disconnectTimeout) now) where
+      abbrev c₁ : Clocks
+      c₁ = timed now r false (r && some) (s .clocks)
+
+      abbrev c₂ : Clocks
+      c₂ = timed now false q q c₁
+
+      abbrev c₃ : Clocks
+      c₃ = timed now false false k c₂
+
+      abbrev o₁ : List Wire
+      o₁ = pick (r && some) (pendingIn statuses s ∷ []) []
+
+      abbrev o₂ : List Wire
+      o₂ = o₁ ++ pick q (report epoch ∷ []) []
+
+      abbrev o₃ : List Wire
+      o₃ = o₂ ++ pick k (alive ∷ []) []
+
+      abbrev t₁ : List Entry
+      t₁ = pick i (interruption ∷ []) []
+
+      passes : (nonce : ℕ) → acted Running now epoch nonce statuses (begin s)
+          ≡ going c₃ (flagged false o (flagged i false (s .flags))) o₃ (t₁ ++ pick o (disconnection ∷ []) [])
+      unfolding acted
+      passes nonce =
+          rw (
+            resent-is (s .clocks) (s .flags) [] [] statuses r er,
+            reported-is c₁ (s .flags) o₁ [] epoch q eq,
+            kept-alive-is c₂ (s .flags) o₂ [] k (rw (either (r && some) q now (s .clocks .«last_send_time»)) ek),
+            interrupted-is c₃ (s .flags) o₃ [] i ei,
+            timed-out-is c₃ (flagged i false (s .flags)) o₃ t₁ o eo,
+          )
+
+      abbrev planned : Due
+      planned = record { resend = r; input = r && some; report = q; «keep_alive» = k; interruption = i; disconnect = o }
+
+      comes-to : going c₃ (flagged false o (flagged i false (s .flags))) o₃ (t₁ ++ pick o (disconnection ∷ []) []) ≡ ran planned
+      unfolding clocksBy flagsBy toldBy batch
+      comes-to = rw (either (r && some) q now (s .clocks .«last_send_time»), either ((r && some) || q) k now (s .clocks .«last_send_time»))
+
+    pub running-is : (nonce : ℕ) → acted Running now epoch nonce statuses (begin s) ≡ ran due
+    unfolding dueOf
+    running-is nonce = passes _ _ _ _ _ refl refl refl refl refl nonce ∙ comes-to _ _ _ _ _ refl refl refl refl refl

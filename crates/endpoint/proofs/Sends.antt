@@ -1,0 +1,188 @@
+-- The ways out of `send_input`.
+use borrow.Author.Tests.{not-true, not-false, eqb-true}
+use mathlib.Core.Bool.{Bool, true, false, not, _||_}
+use mathlib.Core.List.{List, [], _∷_, _++_}
+use mathlib.Core.Path.{_≡_, refl, sym, _∙_}
+use native.Mathlib.Omega.{arith}
+use Prim.Native.Nat.{ℕ, _<_}
+use lib.Dec.{leb, eqb}
+use lib.ListN.{length, take, drop, replicate}
+use lib.Seq.{take-length}
+use Rattle.base.specs.Pick.{pick}
+use Rattle.answer.specs.declared.Answer.{Answer}
+use Rattle.answer.specs.declared.Answer.the-variants.{Done, BadLength, BadFrame, Full, BadClock}
+use Rattle.packing.specs.Packing.{xors}
+use Rattle.packing.specs.Pad.{padded}
+use Rattle.packing.proofs.Pads.{padded-plain}
+use Rattle.packing.specs.declared.input_bytes.InputBytes.{InputBytes}
+use Rattle.pending.specs.Pending.{waiting, room, pushed, lastFrame, PushedAs}
+use Rattle.pending.specs.declared.Pushed.{Pushed}
+use Rattle.history.specs.History.{received, newestOf}
+use Rattle.status.specs.declared.ConnectionStatus.{ConnectionStatus}
+use Rattle.status.specs.declared.list.Statuses.{Statuses}
+use Rattle.status.specs.Statuses.{held as heldStatuses}
+use Rattle.events.specs.Events as Events
+use Rattle.events.specs.Events.{held, hasRoom}
+use Rattle.events.specs.declared.Entry.{Entry}
+use Rattle.events.specs.declared.Event.the-variants.{Disconnected}
+use Rattle.events.specs.declared.Pushed.{Pushed as Told}
+use Rattle.setup.specs.Setup.{termsOf, termsWith, sendingWidth}
+use Rattle.timers.specs.declared.Clocks.{Clocks}
+use Rattle.timers.specs.Timers as Timers
+use Rattle.timers.specs.Timers.{badClock}
+use Rattle.codec.specs.Message.{tableSize}
+use Rattle.outbox.specs.declared.Queued.{Queued}
+use Rattle.outbox.specs.Outbox.{pendingInput, QueuedAs}
+use Rattle.protocol.specs.Seen.{Seen, isRunning, sentAt}
+use Rattle.protocol.specs.Did.{Did, Effect, decided, begin, change, queueWire, tell, keep, done}
+use Rattle.protocol.specs.Room.{isFull}
+use Rattle.protocol.specs.Sending.{badStatuses, badBytes, badFrame, accepted, tooMany, inputSent, pendingIn, pendingQueued, queuePending}
+use Rattle.protocol.specs.Call.{Call}
+use Rattle.protocol.specs.Step.{step, sendStep}
+use Rattle.endpoint.specs.declared.Endpoint.{Endpoint}
+use Rattle.endpoint.specs.declared.Ended.{Ended}
+use Rattle.endpoint.specs.Endpoint.{seen, DidAs}
+use Rattle.endpoint.specs.Frames.{badAfter}
+use Rattle.endpoint.proofs.Ends.{remade, refused-did, queued-did}
+use Rattle.endpoint.proofs.Settles.{did-settled}
+use Rattle.endpoint.proofs.Rooms.{full-events, full-buffer, room-one}
+
+neither : (x y : Bool) → x || y ≡ false → y ≡ false
+neither true y h = cc
+neither false y h = h
+
+-- what sending an input does
+abbrev tellsIf : Bool → List Entry
+tellsIf b = pick b (record { event = Disconnected; input = replicate 16 0 } ∷ []) []
+
+abbrev tells : List InputBytes → List Entry
+tells l = tellsIf (leb 129 (length l))
+
+some-queued : (now : ℕ) (statuses : List ConnectionStatus) (l : List InputBytes) (x : InputBytes) (f : Effect)
+    → pendingQueued now statuses (l ++ x ∷ []) f ≡ queueWire now (pendingIn statuses (f .state)) f
+unfolding pendingQueued
+some-queued now statuses [] x f = refl
+some-queued now statuses (y ∷ l) x f = refl
+
+module _ (now frame : ℕ) (bytes : List ℕ) (statuses : List ConnectionStatus) (s : Seen) where
+  abbrev input : InputBytes
+  input = record { frame = frame; bytes = padded bytes }
+
+  abbrev Sent : List Entry → Effect
+  Sent told = record { state = sentAt now (accepted input s); out = pendingIn statuses (accepted input s) ∷ []; told = told; kept = input ∷ [] }
+
+  sends-if : (b : Bool) → let f : Effect = keep input (change (accepted input) (begin s)) in
+      queuePending now statuses (pick b (tell Disconnected f) f) ≡ Sent (tellsIf b)
+  unfolding accepted queueWire
+  sends-if true = some-queued now statuses (s .carried .sender .pending) input _
+  sends-if false = some-queued now statuses (s .carried .sender .pending) input _
+
+  sends : inputSent now frame bytes statuses (begin s) ≡ Sent (tells (s .carried .sender .pending ++ input ∷ []))
+  unfolding inputSent tooMany accepted
+  sends = sends-if (leb 129 (length (s .carried .sender .pending ++ input ∷ [])))
+
+module _ (e : Endpoint) (frame : ℕ) (bytes : List ℕ) (st : Statuses) (now : ℕ) (buffer : List ℕ) where
+  abbrev Does : Did
+  Does = step (Call.sendInput frame bytes (st .count) (heldStatuses st) now (length buffer)) (seen e)
+
+  abbrev Sends : Endpoint → Answer → List ℕ → Type 0
+  Sends n a b′ = DidAs e Does buffer (record { answer = a; endpoint = n }) b′
+
+  abbrev taken : InputBytes
+  taken = record { frame = frame; bytes = padded bytes }
+
+  abbrev before : List InputBytes
+  before = waiting (e .sender .pending)
+
+  abbrev Sending : Effect
+  Sending = Sent now frame bytes (heldStatuses st) (seen e) (tells (before ++ taken ∷ []))
+
+  pub send-clock : badClock now ≡ true → Sends e BadClock buffer
+  unfolding step sendStep decided
+  send-clock h = refused-did e BadClock _ (rw h) buffer
+
+  -- w: the width that the code has
+  module _ (good : badClock now ≡ false) (w : ℕ) (ew : w ≡ sendingWidth (termsOf (e .setup))) where
+    abbrev wrong : Bool
+    wrong = not (eqb (st .count) (e .setup .«num_players»)) || not (eqb (length bytes) w)
+
+    tested : badStatuses (st .count) (seen e) || badBytes bytes (seen e) ≡ wrong
+    unfolding seen termsWith
+    tested = rw ew
+
+    pub send-length : wrong ≡ true → Sends e BadLength buffer
+    unfolding step sendStep decided
+    send-length h = refused-did e BadLength _ (rw (good, tested, h)) buffer
+
+    module _ (right : wrong ≡ false) where
+      wide : length bytes ≡ w
+      wide = eqb-true (length bytes) w (not-false (eqb (length bytes) w) (neither (not (eqb (st .count) (e .setup .«num_players»))) _ right))
+
+      pub send-silent : isRunning (e .phase) ≡ false → Sends e Done buffer
+      unfolding step sendStep decided seen
+      send-silent h = refused-did e Done _ (rw (good, tested ∙ right, h)) buffer
+
+      module _ (running : isRunning (e .phase) ≡ true) where
+        pub send-frame : badAfter (lastFrame (e .sender .acked .frame) before) frame ≡ true → Sends e BadFrame buffer
+        unfolding step sendStep decided seen badFrame
+        send-frame h = refused-did e BadFrame _ (rw (good, tested ∙ right, running, h)) buffer
+
+        module _ (next : badAfter (lastFrame (e .sender .acked .frame) before) frame ≡ false) where
+          send-full : room before ≡ true → isFull (length buffer) Sending ≡ true → Sends e Full buffer
+          unfolding step sendStep decided seen badFrame
+          send-full k h = refused-did e Full _ (rw (good, tested ∙ right, running, next, k, sends now frame bytes (heldStatuses st) (seen e), h)) buffer
+
+          send-fits : room before ≡ true → isFull (length buffer) Sending ≡ false → Does ≡ done Sending
+          unfolding step sendStep decided seen badFrame
+          send-fits k h = rw (good, tested ∙ right, running, next, k, sends now frame bytes (heldStatuses st) (seen e), h)
+
+          -- what the code makes: the input, the store with it, whether that is told
+          module _ (b : List ℕ) (eb : b ≡ padded (xors (take w (drop 0 bytes)) (replicate 64 0))) (p : Pushed) (ep : PushedAs (e .sender .pending) (record { frame = frame; bytes = b }) p) where
+            pub send-crowded : p .ok ≡ false → Sends e Full buffer
+            unfolding step sendStep decided seen badFrame
+            send-crowded k = refused-did e Full _ (rw (good, tested ∙ right, running, next, sym (ep .ok) ∙ k)) buffer
+
+            module _ (ok : p .ok ≡ true) (n : ℕ) (en : n ≡ length (waiting (p .pending))) (t : Told)
+                (et : Events.PushedAs (e .events) (hasRoom (held (e .events)) (length (tellsIf (leb 129 n)))) (tellsIf (leb 129 n)) t) where
+              pends : waiting (p .pending) ≡ before ++ taken ∷ []
+              unfolding pushed
+              pends = ep .view ∙ rw (sym (ep .ok) ∙ ok, eb, ← wide, take-length, padded-plain bytes)
+
+              telling : tellsIf (leb 129 n) ≡ tells (before ++ taken ∷ [])
+              telling = rw (en, pends)
+
+              pub send-untold : t .ok ≡ false → Sends e Full buffer
+              unfolding seen accepted
+              send-untold k = send-full (sym (ep .ok) ∙ ok) (full-events buffer Sending (rw (← telling) (sym (et .ok) ∙ k)))
+
+              module _ (told : t .ok ≡ true) (a : ℕ) (ea : a ≡ newestOf (received (e .history)))
+                  (q : Queued) (b′ : List ℕ)
+                  (eq : QueuedAs buffer (e .queued) (pendingInput (e .setup .magic) a (heldStatuses st) (waiting (p .pending)) w (e .sender .acked)) q b′) where
+                wire : pendingInput (e .setup .magic) a (heldStatuses st) (waiting (p .pending)) w (e .sender .acked) ≡ pendingIn (heldStatuses st) (accepted taken (seen e))
+                unfolding seen accepted termsWith
+                wire = rw (ea, ew, pends)
+
+                some : 0 < tableSize (pendingIn (heldStatuses st) (accepted taken (seen e)))
+                unfolding pendingInput
+                some = omega arith
+
+                queued : QueuedAs buffer (e .queued) (pendingIn (heldStatuses st) (accepted taken (seen e))) q b′
+                queued = rw (← wire) eq
+
+                pub send-choked : q .ok ≡ false → Sends e Full b′
+                unfolding seen accepted
+                send-choked k =
+                    rw (rw k at (queued .lent))
+                    (send-full (sym (ep .ok) ∙ ok) (full-buffer buffer Sending _ some refl (not-false _ (sym (queued .ok) ∙ k))))
+
+                pub send-done : (c : Clocks) → q .ok ≡ true → c ≡ Timers.sentAt now (e .clocks)
+                    → Sends (remade e (record { pending = p .pending; acked = e .sender .acked }) (e .history) (e .phase) (e .sync) c (e .flags) (e .quality) (e .statuses) (e .checksums) (t .events) (q .end)) Done b′
+                unfolding seen accepted
+                send-done c k ec =
+                    queued-did e _ Sending Does
+                    (send-fits (sym (ep .ok) ∙ ok) (room-one buffer Sending _ some refl (rw (← telling) (sym (et .ok) ∙ told)) (not-true _ (sym (queued .ok) ∙ k))))
+                    _ refl buffer b′ q queued k refl (rw (ec, pends, et .view, sym (et .ok) ∙ told, telling))
+
+  pub send-input-settled : (r s : Ended) (b c : List ℕ) → DidAs e Does buffer r b → DidAs e Does buffer s c
+      → (r .answer ≡ s .answer) × (seen (r .endpoint) ≡ seen (s .endpoint)) × (b ≡ c)
+  send-input-settled = did-settled e Does buffer

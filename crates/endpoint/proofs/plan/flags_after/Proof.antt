@@ -1,0 +1,11 @@
+use mathlib.Core.Path.{_≡_, refl}
+use Rattle.endpoint.specs.Due.{flagsBy}
+use Rattle.endpoint.proofs.plan.flags_after.Statement.{statement}
+use Rattle.endpoint.proofs.plan.flags_after.Tie as tie
+
+returns : tie.Need-returns
+unfolding flagsBy
+returns c = refl
+
+pub flags-after-spec : {M : Type 1} → statement M
+flags-after-spec = tie.close (tie.spec returns)

@@ -1,0 +1,134 @@
+// What is due in Running, told before any of it is done; and what it does to the clocks, the flags and the events.
+ghost use mathlib.Core.Path.{_≡_};
+ghost use Prim.Native.Nat.{_-_};
+ghost use lib.Dec.{ltb};
+ghost use lib.ListN.{length};
+ghost use Rattle.base.specs.Pick.{pick};
+ghost use Rattle.events.specs.Events.{held, hasRoom, PushedAs};
+ghost use Rattle.endpoint.specs.Due.{dueOf, clocksBy, flagsBy, toldBy};
+use events::Entry;
+use events::Event;
+use events::Events;
+use events::Pushed;
+use protocol::Flags;
+use timers::Clocks;
+
+const RUNNING_RETRY_INTERVAL: u64 = 200;
+
+const QUALITY_REPORT_INTERVAL: u64 = 200;
+
+const KEEP_ALIVE_INTERVAL: u64 = 200;
+
+// A resend restarts its clock also where it has no input to send.
+pub struct Due {
+    pub resend: bool,
+    pub input: bool,
+    pub report: bool,
+    pub keep_alive: bool,
+    pub interruption: bool,
+    pub disconnect: bool,
+}
+
+// A clock after a step that sets it where it is due.
+fn time_if(due: bool, now: u64, last: u64) -> u64
+    ensures { λ r. ⌜ r ≡ pick due now last ⌝ }
+{
+    if due {
+        return now;
+    }
+    last
+}
+
+// The keepalive looks at the send time as the messages before it leave it.
+pub(crate) fn due_at(
+    now: u64,
+    clocks: Clocks,
+    flags: Flags,
+    pending: usize,
+    notify_start: u64,
+    disconnect_timeout: u64,
+) -> Due
+    ensures { λ r. ⌜ r ≡ dueOf now clocks flags (ltb 0 pending) «notify_start» «disconnect_timeout» ⌝ }
+{
+    let resend = timers::passed(clocks.running_last_input_recv, RUNNING_RETRY_INTERVAL, now);
+    let input = resend & (0 < pending);
+    let report = timers::passed(
+        clocks.running_last_quality_report,
+        QUALITY_REPORT_INTERVAL,
+        now,
+    );
+    let sent = time_if(input | report, now, clocks.last_send_time);
+    let keep_alive = timers::passed(sent, KEEP_ALIVE_INTERVAL, now);
+    let quiet = timers::passed(clocks.last_recv_time, notify_start, now);
+    let silent = timers::passed(clocks.last_recv_time, disconnect_timeout, now);
+    Due {
+        resend,
+        input,
+        report,
+        keep_alive,
+        interruption: !flags.disconnect_notify_sent & quiet,
+        disconnect: !flags.disconnect_event_sent & silent,
+    }
+}
+
+pub(crate) fn clocks_after(due: Due, now: u64, clocks: Clocks) -> Clocks
+    ensures { λ r. ⌜ r ≡ clocksBy due now clocks ⌝ }
+{
+    let sends = due.input | due.report | due.keep_alive;
+    Clocks {
+        running_last_quality_report: time_if(due.report, now, clocks.running_last_quality_report),
+        running_last_input_recv: time_if(due.resend, now, clocks.running_last_input_recv),
+        last_send_time: time_if(sends, now, clocks.last_send_time),
+        ..clocks
+    }
+}
+
+pub(crate) fn flags_after(due: Due, flags: Flags) -> Flags
+    ensures { λ r. ⌜ r ≡ flagsBy due flags ⌝ }
+{
+    Flags {
+        disconnect_notify_sent: due.interruption | flags.disconnect_notify_sent,
+        disconnect_event_sent: due.disconnect | flags.disconnect_event_sent,
+    }
+}
+
+// What is left of the disconnect timeout at an interruption.
+fn left_of(disconnect_timeout: u64, notify_start: u64) -> u64
+    ensures { λ r. ⌜ r ≡ «disconnect_timeout» - «notify_start» ⌝ }
+{
+    if disconnect_timeout < notify_start {
+        return 0;
+    }
+    disconnect_timeout - notify_start
+}
+
+// Both events in their order; where not all that is due fits, unchanged.
+pub(crate) fn tell(events: Events, due: Due, disconnect_timeout: u64, notify_start: u64) -> Pushed
+    ensures { λ r. ⌜ PushedAs events (hasRoom (held events) (length (toldBy due («disconnect_timeout» - «notify_start»)))) (toldBy due («disconnect_timeout» - «notify_start»)) r ⌝ }
+{
+    let left = left_of(disconnect_timeout, notify_start);
+    let first = events.push_if(
+        due.interruption,
+        Entry {
+            event: Event::NetworkInterrupted {
+                disconnect_timeout: left,
+            },
+            input: [0u8; 16],
+        },
+    );
+    if !first.ok {
+        return Pushed { ok: false, events };
+    }
+    let interrupted = first.events;
+    let second = interrupted.push_if(
+        due.disconnect,
+        Entry {
+            event: Event::Disconnected,
+            input: [0u8; 16],
+        },
+    );
+    if !second.ok {
+        return Pushed { ok: false, events };
+    }
+    second
+}

@@ -1,0 +1,125 @@
+// Inputs sent: each pends until it is acknowledged, and all that pend go out as one Input.
+ghost use mathlib.Core.Path.{_≡_};
+ghost use lib.ListN.{length};
+ghost use Rattle.status.specs.Statuses.{held};
+ghost use Rattle.protocol.specs.Call.{Call};
+ghost use Rattle.protocol.specs.Step.{step};
+ghost use Rattle.endpoint.specs.Endpoint.{seen, DidAs};
+ghost use Rattle.endpoint.specs.Frames.{badAfter};
+use crate::Ended;
+use crate::Endpoint;
+use crate::Sender;
+use answer::Answer;
+use events::Entry;
+use events::Event;
+use frame::BIAS32;
+use packing::InputBytes;
+use pending::MOST_PENDING;
+use protocol::Phase;
+use status::Statuses;
+
+// A negative frame is none: no frame to send, and no last one to follow.
+fn is_bad_frame(frame: u32, last: u32) -> bool
+    ensures { λ r. ⌜ r ≡ badAfter last frame ⌝ }
+{
+    if frame < BIAS32 {
+        return true;
+    }
+    BIAS32 <= last && frame - 1 != last
+}
+
+impl Endpoint {
+    // Outside Running nothing is sent. The 129th pending input is kept and told as a disconnect, which is not marked as told.
+    pub fn send_input(
+        self,
+        frame: u32,
+        bytes: &[u8],
+        statuses: Statuses,
+        now: u64,
+        out: &mut [u8],
+    ) -> Ended
+        ensures { λ r. ⌜ DidAs self (step (Call.sendInput frame (bytes .entry .now) (statuses .count) (held statuses) now (length (out .entry .now))) (seen self)) (out .entry .now) r (out .exit .now) ⌝ }
+    {
+        if timers::is_bad(now) {
+            return Ended {
+                answer: Answer::BadClock,
+                endpoint: self,
+            };
+        }
+        let width = self.setup.sending_width();
+        if (statuses.count != (self.setup.num_players as usize)) | (bytes.len() != width) {
+            return Ended {
+                answer: Answer::BadLength,
+                endpoint: self,
+            };
+        }
+        let phase = self.phase;
+        let Phase::Running = phase else {
+            return Ended {
+                answer: Answer::Done,
+                endpoint: self,
+            };
+        };
+        let acked = self.sender.acked;
+        if is_bad_frame(frame, self.sender.pending.last_frame(acked.frame)) {
+            return Ended {
+                answer: Answer::BadFrame,
+                endpoint: self,
+            };
+        }
+        // XOR zeros is the input itself, with zeros after it.
+        let padded = packing::frame_at(bytes, 0, width, [0u8; 64]);
+        let pushed = self.sender.pending.push(InputBytes {
+            frame,
+            bytes: padded,
+        });
+        if !pushed.ok {
+            return Ended {
+                answer: Answer::Full,
+                endpoint: self,
+            };
+        }
+        let pending = pushed.pending;
+        let told = self.events.push_if(
+            MOST_PENDING <= pending.count(),
+            Entry {
+                event: Event::Disconnected,
+                input: [0u8; 16],
+            },
+        );
+        if !told.ok {
+            return Ended {
+                answer: Answer::Full,
+                endpoint: self,
+            };
+        }
+        let queued = outbox::pending_input(
+            out,
+            self.queued,
+            self.setup.magic,
+            self.history.newest(),
+            statuses,
+            pending,
+            width,
+            acked,
+        );
+        if !queued.ok {
+            return Ended {
+                answer: Answer::Full,
+                endpoint: self,
+            };
+        }
+        let clocks = self.clocks.sent(now);
+        let events = told.events;
+        Ended {
+            answer: Answer::Done,
+            endpoint: Endpoint {
+                sender: Sender { pending, acked },
+                clocks,
+                events,
+                queued: queued.end,
+                ..self
+            },
+        }
+    }
+}
