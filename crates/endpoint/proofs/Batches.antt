@@ -1,20 +1,19 @@
 -- Messages written one after another into a buffer that has room for all are one queue; and how long it is.
 use borrow.Author.Tests.{ltb-false, lt-ltb, le-ltb}
-use mathlib.Core.Bool.{Bool, true, false, not}
-use mathlib.Core.List.{List, [], _∷_, _++_, map, flatten, append-nil, append-assoc}
-use mathlib.Core.Logic.{_⊎_, inl, inr}
+use mathlib.Core.Bool.{Bool, true, false}
+use mathlib.Core.List.{List, [], _∷_, _++_, flatten, append-nil, append-assoc}
+use mathlib.Core.Logic.{inl, inr}
 use mathlib.Core.Path.{_≡_, refl, sym, _∙_}
 use native.Mathlib.Omega.{arith}
 use native.Mathlib.Nat.{add-zero, add-assoc}
 use Prim.Native.Nat.{ℕ, zero, suc, _+_, _<_, _≤_}
-use lib.Dec.{ltb}
 use lib.ListN.{length, length-append}
 use Rattle.base.specs.Pick.{pick}
 use Rattle.base.specs.Lay.{laidAt}
 use Rattle.base.proofs.Lay.{laid-none, laid-length, laid-join}
 use Rattle.base.proofs.Digits.{below-or-not}
 use Rattle.codec.specs.Message.{Wire, bodySize, tableSize}
-use Rattle.codec.specs.Bytes.{bytes, queueOf}
+use Rattle.codec.specs.Bytes.{queueOf}
 use Rattle.codec.specs.declared.MessageBody.{MessageBody}
 use Rattle.codec.specs.declared.MessageBody.the-variants.{SyncRequest, SyncReply, Input, InputAck, QualityReport, QualityReply, ChecksumReport, KeepAlive}
 use Rattle.outbox.specs.declared.Queued.{Queued}

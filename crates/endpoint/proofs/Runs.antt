@@ -1,14 +1,13 @@
--- Act in Running: by what is due, and its ways out.
+-- Act in Running does what is due: the steps one after the other come to one effect.
 use borrow.Author.Tests.{lt-ltb}
 use mathlib.Core.Bool.{Bool, true, false, not, _&&_, _||_}
 use mathlib.Core.List.{List, [], _∷_, _++_, append-nil}
-use mathlib.Core.Path.{_≡_, refl, sym, _∙_, ap}
+use mathlib.Core.Path.{_≡_, refl, _∙_}
 use native.Mathlib.Omega.{arith}
 use Prim.Native.Nat.{ℕ, _+_, _-_}
 use lib.Dec.{ltb}
 use lib.ListN.{length, replicate}
 use Rattle.base.specs.Pick.{pick}
-use Rattle.base.specs.Lay.{laidAt}
 use Rattle.packing.specs.declared.input_bytes.InputBytes.{InputBytes}
 use Rattle.status.specs.declared.ConnectionStatus.{ConnectionStatus}
 use Rattle.timers.specs.declared.Clocks.{Clocks}
@@ -22,39 +21,20 @@ use Rattle.events.specs.declared.Event.the-variants as Event
 use Rattle.setup.specs.Setup.{sendingWidth}
 use Rattle.protocol.specs.declared.Flags.{Flags}
 use Rattle.protocol.specs.declared.Phase.the-variants.{Running}
-use Rattle.protocol.specs.Seen.{Seen, withClocks, withFlags, inputAt}
-use Rattle.protocol.specs.Did.{Effect, begin, change, queueWire, queue, tell}
-use Rattle.protocol.specs.Sending.{newest, pendingIn, pendingQueued, queuePending}
+use Rattle.protocol.specs.Seen.{Seen, withClocks, withFlags}
+use Rattle.protocol.specs.Did.{Effect, begin, queueWire}
+use Rattle.protocol.specs.Sending.{newest, pendingIn, pendingQueued}
 use Rattle.protocol.specs.Reports.{pingOf, reportQueued}
 use Rattle.protocol.specs.Act.{resendDue, reportDue, keepAliveDue, interruptionDue, disconnectDue, resent, reported, keptAlive, interrupted, timedOut, acted}
 use Rattle.endpoint.specs.declared.plan.Due.{Due}
-use Rattle.endpoint.specs.Due.{dueOf, clocksBy, flagsBy, toldBy}
+use Rattle.endpoint.specs.Due.{dueOf, timed, clocksBy, flagged, flagsBy, toldBy}
 use Rattle.endpoint.specs.Batch.{batch}
 
--- clocks set where they are due
-abbrev timed : (now : ℕ) → (resend report sends : Bool) → Clocks → Clocks
-timed now resend report sends c =
-    record {
-      «running_last_quality_report» = pick report now (c .«running_last_quality_report»);
-      «running_last_input_recv» = pick resend now (c .«running_last_input_recv»);
-      «last_send_time» = pick sends now (c .«last_send_time»);
-      «last_sync_request_time» = c .«last_sync_request_time»;
-      «last_recv_time» = c .«last_recv_time»;
-      «shutdown_timeout» = c .«shutdown_timeout»;
-    }
-
+-- a clock set by one of two
 either : (a b : Bool) (x y : ℕ) → pick b x (pick a x y) ≡ pick (a || b) x y
 either true true x y = refl
 either true false x y = refl
 either false b x y = refl
-
--- flags set where their event is told
-abbrev flagged : (interruption disconnect : Bool) → Flags → Flags
-flagged interruption disconnect f =
-    record {
-      «disconnect_notify_sent» = interruption || f .«disconnect_notify_sent»;
-      «disconnect_event_sent» = disconnect || f .«disconnect_event_sent»;
-    }
 
 module _ (now : ℕ) (s : Seen) where
   -- s with other clocks and flags, as the steps pass it on
@@ -84,78 +64,53 @@ module _ (now : ℕ) (s : Seen) where
     abbrev before : Effect
     before = going c f out told
 
-    module _ (statuses : List ConnectionStatus) where
-      abbrev resending : List InputBytes → List Wire
-      resending l = out ++ pick (ltb 0 (length l)) (pendingIn statuses s ∷ []) []
+    pending-is : (statuses : List ConnectionStatus) (l : List InputBytes)
+        → pendingQueued now statuses l before ≡ going (timed now false false (ltb 0 (length l)) c) f (out ++ pick (ltb 0 (length l)) (pendingIn statuses s ∷ []) []) told
+    unfolding pendingQueued queueWire
+    pending-is statuses [] = rw append-nil
+    pending-is statuses (x ∷ xs) = rw (lt-ltb 0 (length (x ∷ xs)) (omega arith))
 
-      pending-is : (l : List InputBytes) → pendingQueued now statuses l before ≡ going (timed now false false (ltb 0 (length l)) c) f (resending l) told
-      unfolding pendingQueued queueWire
-      pending-is [] = rw append-nil
-      pending-is (x ∷ xs) = rw (lt-ltb 0 (length (x ∷ xs)) (omega arith))
-
-      resent-by : (b : Bool) (l : List InputBytes) → pick b (change (inputAt now) (pendingQueued now statuses l before)) before
-          ≡ going (timed now b false (b && ltb 0 (length l)) c) f (out ++ pick (b && ltb 0 (length l)) (pendingIn statuses s ∷ []) []) told
-      resent-by true l = rw pending-is
-      resent-by false l = rw append-nil
-
-      resent-is : (b : Bool) → b ≡ resendDue now (before .state)
-          → resent now statuses before ≡ going (timed now b false (b && some) c) f (out ++ pick (b && some) (pendingIn statuses s ∷ []) []) told
-      unfolding resent
-      resent-is b eb = rw (← eb) (resent-by b (s .carried .sender .pending))
-
-    reported-by : (epoch : ℕ) (b : Bool) → pick b (reportQueued now epoch before) before
-        ≡ going (timed now false b b c) f (out ++ pick b (report epoch ∷ []) []) told
-    unfolding reportQueued queueWire
-    reported-by epoch true = refl
-    reported-by epoch false = rw append-nil
-
-    kept-alive-by : (b : Bool) → pick b (queue now KeepAlive before) before ≡ going (timed now false false b c) f (out ++ pick b (alive ∷ []) []) told
-    unfolding queueWire
-    kept-alive-by true = refl
-    kept-alive-by false = rw append-nil
+    resent-is : (statuses : List ConnectionStatus) (b : Bool) → b ≡ resendDue now (before .state)
+        → resent now statuses before ≡ going (timed now b false (b && some) c) f (out ++ pick (b && some) (pendingIn statuses s ∷ []) []) told
+    unfolding resent
+    resent-is statuses true eb = rw (← eb, pending-is statuses (s .carried .sender .pending))
+    resent-is statuses false eb = rw (← eb, append-nil)
 
     reported-is : (epoch : ℕ) (b : Bool) → b ≡ reportDue now (before .state) → reported now epoch before ≡ going (timed now false b b c) f (out ++ pick b (report epoch ∷ []) []) told
-    unfolding reported
-    reported-is epoch b eb = rw (← eb) (reported-by epoch b)
+    unfolding reported reportQueued queueWire
+    reported-is epoch true eb = rw (← eb)
+    reported-is epoch false eb = rw (← eb, append-nil)
 
     kept-alive-is : (b : Bool) → b ≡ keepAliveDue now (before .state) → keptAlive now before ≡ going (timed now false false b c) f (out ++ pick b (alive ∷ []) []) told
-    unfolding keptAlive
-    kept-alive-is b eb = rw (← eb) (kept-alive-by b)
-
-    interrupted-by : (b : Bool)
-        → pick b (tell (Event.NetworkInterrupted left) (change (λ x. withFlags (record { «disconnect_notify_sent» = true; «disconnect_event_sent» = x .flags .«disconnect_event_sent» }) x) before)) before
-        ≡ going c (flagged b false f) out (told ++ pick b (interruption ∷ []) [])
-    interrupted-by true = refl
-    interrupted-by false = rw append-nil
-
-    timed-out-by : (b : Bool)
-        → pick b (tell Event.Disconnected (change (λ x. withFlags (record { «disconnect_notify_sent» = x .flags .«disconnect_notify_sent»; «disconnect_event_sent» = true }) x) before)) before
-        ≡ going c (flagged false b f) out (told ++ pick b (disconnection ∷ []) [])
-    timed-out-by true = refl
-    timed-out-by false = rw append-nil
+    unfolding keptAlive queueWire
+    kept-alive-is true eb = rw (← eb)
+    kept-alive-is false eb = rw (← eb, append-nil)
 
     interrupted-is : (b : Bool) → b ≡ interruptionDue now (before .state) → interrupted now before ≡ going c (flagged b false f) out (told ++ pick b (interruption ∷ []) [])
     unfolding interrupted
-    interrupted-is b eb = rw (← eb) (interrupted-by b)
+    interrupted-is true eb = rw (← eb)
+    interrupted-is false eb = rw (← eb, append-nil)
 
     timed-out-is : (b : Bool) → b ≡ disconnectDue now (before .state) → timedOut now before ≡ going c (flagged false b f) out (told ++ pick b (disconnection ∷ []) [])
     unfolding timedOut
-    timed-out-is b eb = rw (← eb) (timed-out-by b)
+    timed-out-is true eb = rw (← eb)
+    timed-out-is false eb = rw (← eb, append-nil)
 
   -- all steps, by what is due
   module _ (statuses : List ConnectionStatus) (epoch : ℕ) where
     abbrev due : Due
-    due = dueOf now (s .clocks) (s .flags) (ltb 0 (length (s .carried .sender .pending))) (s .setup .notifyStart) (s .setup .disconnectTimeout)
+    due = dueOf now (s .clocks) (s .flags) some (s .setup .notifyStart) (s .setup .disconnectTimeout)
 
     abbrev pub ran : Due → Effect
     ran d =
         record {
           state = withFlags (flagsBy d (s .flags)) (withClocks (clocksBy d now (s .clocks)) s);
           out = batch d (s .setup .magic) (newest s) statuses (s .carried .sender .pending) (sendingWidth (s .setup)) (s .carried .sender .acked) (s .quality .«local_frame_advantage») epoch;
-          told = toldBy d (s .setup .disconnectTimeout - s .setup .notifyStart);
+          told = toldBy d left;
           kept = [];
         }
 
+    -- r, q, k, i, o: whether each step is due; what it leaves to the next
     module _ (r q k i o : Bool) (er : r ≡ passed (s .clocks .«running_last_input_recv») 200 now) (eq : q ≡ passed (s .clocks .«running_last_quality_report») 200 now)
         (ek : k ≡ passed (pick ((r && some) || q) now (s .clocks .«last_send_time»)) 200 now)
         (ei : i ≡ not (s .flags .«disconnect_notify_sent») && passed (s .clocks .«last_recv_time») (s .setup .notifyStart) now)

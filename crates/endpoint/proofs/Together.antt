@@ -1,13 +1,12 @@
 -- Events told one part after the other are told together: all of them, or none where they do not fit.
 use borrow.Author.Tests.{leb-false, lt-leb}
-use mathlib.Core.Bool.{Bool, true, false}
+use mathlib.Core.Bool.{true, false}
 use mathlib.Core.List.{List, _++_, append-assoc}
 use mathlib.Core.Path.{_≡_, refl, sym, _∙_}
 use native.Mathlib.Omega.{arith}
 use native.Mathlib.Nat.{add-assoc}
 use Prim.Native.Nat.{ℕ, _+_}
 use lib.ListN.{length, length-append}
-use Rattle.base.specs.Pick.{pick}
 use Rattle.events.specs.declared.Entry.{Entry}
 use Rattle.events.specs.declared.Events.{Events}
 use Rattle.events.specs.declared.Pushed.{Pushed}

@@ -25,23 +25,31 @@ dueOf now c f pending notifyStart disconnectTimeout =
       disconnect = not (f .«disconnect_event_sent») && passed (c .«last_recv_time») disconnectTimeout now;
     }
 
-unfoldable pub clocksBy : Due → (now : ℕ) → Clocks → Clocks
-clocksBy d now c =
+-- clocks restarted, each where its test holds
+abbrev pub timed : (now : ℕ) → (resend report sends : Bool) → Clocks → Clocks
+timed now resend report sends c =
     record {
-      «running_last_quality_report» = pick (d .report) now (c .«running_last_quality_report»);
-      «running_last_input_recv» = pick (d .resend) now (c .«running_last_input_recv»);
-      «last_send_time» = pick ((d .input || d .report) || d .«keep_alive») now (c .«last_send_time»);
+      «running_last_quality_report» = pick report now (c .«running_last_quality_report»);
+      «running_last_input_recv» = pick resend now (c .«running_last_input_recv»);
+      «last_send_time» = pick sends now (c .«last_send_time»);
       «last_sync_request_time» = c .«last_sync_request_time»;
       «last_recv_time» = c .«last_recv_time»;
       «shutdown_timeout» = c .«shutdown_timeout»;
     }
 
-unfoldable pub flagsBy : Due → Flags → Flags
-flagsBy d f =
+unfoldable pub clocksBy : Due → (now : ℕ) → Clocks → Clocks
+clocksBy d now c = timed now (d .resend) (d .report) ((d .input || d .report) || d .«keep_alive») c
+
+-- a flag is set with its event
+abbrev pub flagged : (interruption disconnect : Bool) → Flags → Flags
+flagged interruption disconnect f =
     record {
-      «disconnect_notify_sent» = d .interruption || f .«disconnect_notify_sent»;
-      «disconnect_event_sent» = d .disconnect || f .«disconnect_event_sent»;
+      «disconnect_notify_sent» = interruption || f .«disconnect_notify_sent»;
+      «disconnect_event_sent» = disconnect || f .«disconnect_event_sent»;
     }
+
+unfoldable pub flagsBy : Due → Flags → Flags
+flagsBy d f = flagged (d .interruption) (d .disconnect) f
 
 -- left: of the disconnect timeout
 unfoldable pub toldBy : Due → (left : ℕ) → List Entry

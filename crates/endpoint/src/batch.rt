@@ -1,7 +1,6 @@
 // The messages of one act, written one after another where there is room for all of them.
 ghost use mathlib.Core.Path.{_≡_};
 ghost use mathlib.Core.List.{[], _∷_};
-ghost use lib.ListN.{length};
 ghost use Rattle.base.specs.Pick.{pick};
 ghost use Rattle.status.specs.Statuses.{held};
 ghost use Rattle.codec.specs.Read.{plain};

@@ -12,6 +12,7 @@ ghost use Rattle.endpoint.specs.Endpoint.{seen, DidAs, DoneAs};
 ghost use Rattle.endpoint.specs.Handshaking.{RequestedAs, CountedAs, syncOf, countedSync};
 use crate::Ended;
 use crate::Endpoint;
+use crate::NUM_SYNC_PACKETS;
 use crate::Sync;
 use answer::Answer;
 use codec::MessageBody;
@@ -19,9 +20,6 @@ use events::Entry;
 use events::Event;
 use protocol::Phase;
 use timers::Clocks;
-
-// How many replies complete a handshake.
-const NUM_SYNC_PACKETS: u32 = 5;
 
 // The parts of an endpoint that a request changes; where it does not fit, as they were and told so.
 pub struct Requested {

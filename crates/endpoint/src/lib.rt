@@ -34,6 +34,9 @@ use status::Statuses;
 pub use taking::TakenEvents;
 use timers::Clocks;
 
+// How many replies complete a handshake.
+const NUM_SYNC_PACKETS: u32 = 5;
+
 // The inputs sent and not acknowledged, and the last acknowledged one, against which they are packed.
 pub struct Sender {
     pub pending: Pending,

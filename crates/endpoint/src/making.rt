@@ -7,6 +7,7 @@ ghost use Rattle.endpoint.specs.Endpoint.{seen};
 ghost use Rattle.endpoint.specs.Made.{MadeAs};
 use crate::Ended;
 use crate::Endpoint;
+use crate::NUM_SYNC_PACKETS;
 use crate::Sender;
 use crate::Sync;
 use answer::Answer;
@@ -23,9 +24,6 @@ use quality::Quality;
 use setup::Setup;
 use status::Statuses;
 use timers::Clocks;
-
-// How many replies the handshake waits for.
-const NUM_SYNC_PACKETS: u32 = 5;
 
 fn refusal(setup: Setup, now: u64) -> Answer
     ensures { λ r. ⌜ numberOf r ≡ fresh setup now .0 ⌝ }

@@ -1,8 +1,7 @@
 -- Worked examples of act in Running, which no bout of document 01 shows: what goes out together, which clocks restart, what is told in which order.
-use mathlib.Core.Bool.{true, false}
-use mathlib.Core.List.{List, [], _∷_, _++_, map}
+use mathlib.Core.List.{List, [], _∷_, map}
 use mathlib.Core.Path.{_≡_, refl}
-use Prim.Native.Nat.{ℕ, _+_}
+use Prim.Native.Nat.{ℕ}
 use Rattle.base.specs.Keyed.{kept, has, without}
 use Rattle.frame.specs.Bias.{bias16}
 use Rattle.history.specs.History.{blank, highest, newestOf}

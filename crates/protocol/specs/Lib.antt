@@ -11,5 +11,4 @@ pub mod Advantage
 pub mod Call
 pub mod Step
 pub mod Value
-pub mod Runs
 pub mod Unusable

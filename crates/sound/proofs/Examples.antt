@@ -5,7 +5,7 @@ use native.Mathlib.Omega.{arith}
 use Rattle.base.specs.Keyed.{has}
 use Rattle.setup.specs.Setup.{badSetup, anyAbove, anyTwice}
 use Rattle.protocol.specs.Step.{fresh}
-use Rattle.protocol.specs.Runs.{ran}
+use Rattle.sound.specs.Runs.{ran}
 use Rattle.protocol.proofs.Bouts.{setupWith, new, handshake, reply}
 use Rattle.sound.specs.Each.{Each}
 use Rattle.sound.specs.Typed.{Typed, TypedSetup}

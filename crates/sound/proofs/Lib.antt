@@ -1,3 +1,6 @@
+pub mod Leaves
+pub mod Told
+pub mod Queue
 pub mod Choices
 pub mod Eaches
 pub mod Parts

@@ -9,8 +9,8 @@ use Rattle.setup.specs.declared.Setup.{Setup}
 use Rattle.protocol.specs.Seen.{Seen, made}
 use Rattle.protocol.specs.Call.{Call}
 use Rattle.protocol.specs.Step.{fresh, step}
-use Rattle.protocol.specs.Runs.{ran, lentTo, Lent, lentRan, allGone, allOut}
-use Rattle.protocol.proofs.Queue.{run-queues}
+use Rattle.sound.specs.Runs.{ran, lentTo, Lent, lentRan, allGone, allOut}
+use Rattle.sound.proofs.Queue.{run-queues}
 use Rattle.sound.specs.Each.{Each}
 use Rattle.sound.specs.Typed.{Typed, TypedSetup}
 use Rattle.sound.specs.Sound.{Sound}

@@ -1,3 +1,4 @@
 pub mod Each
+pub mod Runs
 pub mod Typed
 pub mod Sound

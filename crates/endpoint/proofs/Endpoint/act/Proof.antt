@@ -1,5 +1,5 @@
+-- `act` tests clocks and count, and hands over to its phase.
 use mathlib.Core.Logic.{⊎-elim}
-use mathlib.Core.Path.{_≡_}
 use Rattle.endpoint.proofs.Lengths.{untold-room}
 use Rattle.endpoint.proofs.Acts.{act-clocks, act-count, act-synchronizing, act-running, act-disconnected, act-idle}
 use borrow.Author.Needs.{needs}

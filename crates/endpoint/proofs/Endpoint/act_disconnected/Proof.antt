@@ -1,3 +1,4 @@
+-- `act_disconnected` waits, or shuts down.
 use Rattle.endpoint.proofs.Lengths.{untold-room}
 use Rattle.endpoint.proofs.Acts.{disconnected-idle, disconnected-over}
 use Rattle.endpoint.proofs.Endpoint.act_disconnected.Statement.{statement}

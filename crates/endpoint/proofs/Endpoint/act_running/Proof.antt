@@ -1,3 +1,4 @@
+-- `act_running` ends where what is told or queued does not fit, or does all of it.
 use mathlib.Core.Logic.{⊎-elim}
 use borrow.Author.Tests.{not-true, not-false}
 use Rattle.endpoint.proofs.Acts.{running-untold, running-full, running-done}

@@ -1,3 +1,4 @@
+-- `act_synchronizing` waits, or makes a request that fits or not.
 use borrow.Author.Tests.{not-true, not-false}
 use mathlib.Core.Path.{sym, _∙_}
 use Rattle.endpoint.proofs.Lengths.{untold-room}

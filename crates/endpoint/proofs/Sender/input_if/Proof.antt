@@ -1,3 +1,4 @@
+-- `input_if` writes one Input or none.
 use Rattle.endpoint.proofs.Batches.{written-none, written-one}
 use borrow.Author.Needs.{needs}
 use Rattle.endpoint.proofs.Sender.input_if.Statement.{statement}

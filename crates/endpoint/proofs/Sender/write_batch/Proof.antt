@@ -1,3 +1,4 @@
+-- `write_batch` writes three times, each time where the last message ends.
 use Rattle.endpoint.specs.Batch.{batch}
 use Rattle.endpoint.proofs.Batches.{written-then}
 use borrow.Author.Needs.{needs}

@@ -1,6 +1,5 @@
-use borrow.Author.Needs.{needs}
+-- `is_full` compares by a difference, since a sum may leave usize.
 use borrow.Author.Tests.{lt-ltb}
-use mathlib.Core.Path.{_≡_, refl, _∙_, sym}
 use native.Mathlib.Omega.{arith}
 use Prim.Native.Nat.{_+_, _-_}
 use Rattle.base.proofs.Orders.{same-test}

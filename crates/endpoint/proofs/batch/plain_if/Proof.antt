@@ -1,3 +1,4 @@
+-- `plain_if` writes one message or none.
 use Rattle.codec.specs.Read.{plain}
 use Rattle.endpoint.proofs.Batches.{written-none, written-one}
 use borrow.Author.Needs.{needs}

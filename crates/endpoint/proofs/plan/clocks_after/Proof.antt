@@ -1,3 +1,4 @@
+-- `clocks_after` sets each clock where its step is due.
 use Rattle.endpoint.specs.Due.{clocksBy}
 use borrow.Author.Needs.{needs}
 use Rattle.endpoint.proofs.plan.clocks_after.Statement.{statement}

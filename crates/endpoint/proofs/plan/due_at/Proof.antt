@@ -1,3 +1,4 @@
+-- `due_at` makes the definition's tests.
 use Rattle.endpoint.specs.Due.{dueOf}
 use borrow.Author.Needs.{needs}
 use Rattle.endpoint.proofs.plan.due_at.Statement.{statement}

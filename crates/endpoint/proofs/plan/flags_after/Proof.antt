@@ -1,4 +1,5 @@
-use mathlib.Core.Path.{_≡_, refl}
+-- `flags_after` sets each flag where its event is due.
+use mathlib.Core.Path.{refl}
 use Rattle.endpoint.specs.Due.{flagsBy}
 use Rattle.endpoint.proofs.plan.flags_after.Statement.{statement}
 use Rattle.endpoint.proofs.plan.flags_after.Tie as tie

@@ -1,5 +1,5 @@
+-- `tell` pushes one event after the other.
 use Rattle.endpoint.proofs.Together.{first-untold, second-untold, both-told}
-use mathlib.Core.Path.{_≡_}
 use borrow.Author.Tests.{not-true, not-false}
 use Rattle.endpoint.specs.Due.{toldBy}
 use borrow.Author.Needs.{needs}

@@ -15,25 +15,25 @@ use Rattle.base.specs.First.{firstOf}
 use Rattle.base.specs.Lay.{laidAt}
 use Rattle.base.proofs.Lay.{laid-none, laid-front, laid-length}
 use Rattle.timers.specs.Timers.{badClock, badClocks}
 use Rattle.protocol.specs.declared.Phase.the-variants.{Disconnected}
 use Rattle.codec.specs.Message.{Wire, FitAll}
 use Rattle.codec.specs.Bytes.{bytes, queueOf}
 use Rattle.events.specs.declared.Entry.{Entry}
 use Rattle.outbox.specs.Outbox.{sizes}
 use Rattle.outbox.proofs.Laws.{queue-size}
 use Rattle.protocol.specs.Seen.{Seen, isRunning, withPhase, withEvents, withQueued, shutdownAt}
 use Rattle.protocol.specs.Did.{Did, Effect, refused, decided, silent, begin, queueWire, done}
 use Rattle.protocol.specs.Room.{eventsFull, bufferFull, isFull}
 use Rattle.protocol.specs.Call.{Call}
 use Rattle.protocol.specs.Handshake.{Reaction, noncesFull, synchronized, started}
 use Rattle.protocol.specs.Sending.{badStatuses, badBytes, badFrame, pendingFull, inputSent}
 use Rattle.protocol.specs.Act.{acted, requestChoked}
 use Rattle.protocol.specs.Checksum.{checksumSent}
 use Rattle.protocol.specs.Advantage.{bothKnown, localAdvantage, advantageUpdated}
 use Rattle.protocol.specs.Step.{changed, shortBuffer, wrongState, ignored, heard, onBody, step, synchronizeStep, messageStep, datagramStep, actStep, sendStep, disconnectStep, checksumStep, advantageStep, statsStep, statusStep, takeStep}
-use Rattle.protocol.specs.Runs.{ran, lentTo, Lent, lentAfter, lentRan, gone, allGone, allOut}
-use Rattle.protocol.proofs.Leaves.{by-cases, booked, acted-leaves, sent-leaves, heard-leaves, body-leaves, request-leaves}
-use Rattle.protocol.proofs.Told.{decided-both}
+use Rattle.sound.specs.Runs.{ran, lentTo, Lent, lentAfter, lentRan, gone, allGone, allOut}
+use Rattle.sound.proofs.Leaves.{by-cases, booked, acted-leaves, sent-leaves, heard-leaves, body-leaves, request-leaves}
+use Rattle.sound.proofs.Told.{decided-both}
 
 updated : (f : ℕ) (s : Seen) → advantageUpdated f s .queued ≡ s .queued
 unfolding advantageUpdated localAdvantage

@@ -5,16 +5,16 @@ use Prim.Native.Nat.{ℕ, _+_}
 use lib.Dec.{eqb}
 use Rattle.codec.specs.Message.{Wire}
 use Rattle.events.specs.declared.Entry.{Entry}
 use Rattle.protocol.specs.declared.Phase.the-variants.{Disconnected}
 use Rattle.protocol.specs.Seen.{Seen, withPhase, withQueued, shutdownAt}
 use Rattle.protocol.specs.Did.{Did, Effect, refused, decided, silent, begin, queueWire, done}
 use Rattle.protocol.specs.Handshake.{synchronized, started}
 use Rattle.protocol.specs.Checksum.{checksumSent}
 use Rattle.protocol.specs.Advantage.{bothKnown, localAdvantage, advantageUpdated}
 use Rattle.protocol.specs.Call.{Call}
 use Rattle.protocol.specs.Step.{changed, step, synchronizeStep, heard, messageStep, datagramStep, actStep, sendStep, disconnectStep, checksumStep, advantageStep, statsStep, statusStep, takeStep}
-use Rattle.protocol.specs.Runs.{ran, allTold, handed, allHanded}
-use Rattle.protocol.proofs.Leaves.{by-cases, booked, acted-leaves, sent-leaves, heard-leaves, body-leaves, request-leaves}
+use Rattle.sound.specs.Runs.{ran, allTold, handed, allHanded}
+use Rattle.sound.proofs.Leaves.{by-cases, booked, acted-leaves, sent-leaves, heard-leaves, body-leaves, request-leaves}
 
 -- ---- calls
 
