@@ -1,0 +1,68 @@
+#!/usr/bin/env python3
+"""compare.py REPLAY DIR: runs DIR's scripts on the program REPLAY and holds what it writes against DIR's answers, call by call.
+
+The spectator is not built. Left out are the calls of object 2 once a script uses it, and all calls of an endpoint from the first
+on that carries bytes from there."""
+
+import struct
+import subprocess
+import sys
+from pathlib import Path
+
+HEADER, RECORD, ANSWER = 8, 64, 12
+CARRY, BUFFER, SPECTATOR = 3, 15, 2
+DIGEST = 1
+
+
+def records(script):
+    """Each record's call and object, and the object that it carries from."""
+    at = HEADER
+    while at < len(script):
+        call, thing = script[at], script[at + 1]
+        (length,) = struct.unpack_from("<I", script, at + 4)
+        source = struct.unpack_from("<I", script, at + RECORD)[0] if call == CARRY else None
+        yield call, thing, source
+        at += RECORD + length
+
+
+def compared(script):
+    """For each record whether its answer counts."""
+    foreign = set()
+    for call, thing, source in records(script):
+        if thing == SPECTATOR and call != BUFFER or source in foreign:
+            foreign.add(thing)
+        yield thing not in foreign
+
+
+def difference(script, expected, got):
+    """The first call that differs, or None."""
+    if script[5] != DIGEST:
+        return None if got == expected else "somewhere"
+    for k, counts in enumerate(compared(script)):
+        part = slice(ANSWER * k, ANSWER * (k + 1))
+        if counts and got[part] != expected[part]:
+            return f"call {k}: expected {expected[part].hex()}, found {got[part].hex()}"
+    return None if len(got) == len(expected) else "in length"
+
+
+def main(replay, folder):
+    calls = left_out = faults = 0
+    scripts = sorted(Path(folder).glob("*.script"))
+    for path in scripts:
+        script, expected = path.read_bytes(), path.with_suffix(".answers").read_bytes()
+        got = subprocess.run([replay], input=script, stdout=subprocess.PIPE, check=False).stdout
+        found = difference(script, expected, got)
+        if found:
+            faults += 1
+            print(f"{path.name}: {found}")
+        counts = list(compared(script))
+        calls += sum(counts)
+        left_out += len(counts) - sum(counts)
+    print(f"{len(scripts)} scripts: {calls} calls compared, {left_out} of the spectator left out, {faults} scripts differ")
+    return 1 if faults or not scripts else 0
+
+
+if __name__ == "__main__":
+    if len(sys.argv) != 3:
+        sys.exit(__doc__)
+    sys.exit(main(sys.argv[1], sys.argv[2]))

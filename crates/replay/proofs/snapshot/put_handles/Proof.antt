@@ -1,0 +1,65 @@
+-- `put_handles` reads inside its list, and the buffer keeps its length.
+use borrow.Author.Needs.{needs}
+use native.Mathlib.Omega.{arith}
+use mathlib.Core.Path.{_≡_, refl, _∙_}
+use Prim.Native.Nat.{_-_, _≤_}
+use lib.ListN.{length}
+use Rattle.replay.proofs.snapshot.put_handles.Statement.{statement}
+use Rattle.replay.proofs.snapshot.put_handles.Tie as tie
+
+abbrev Inv-loop : tie.InvT-loop
+Inv-loop out₀ at handles n to₀ i₀ out to i = (n ≤ 4) × (length out ≡ length out₀)
+
+abbrev μ-loop : tie.MeasureT-loop
+μ-loop out₀ at handles n to₀ i₀ out to i = n - i
+
+least-requires : tie.Need-least-requires Inv-loop μ-loop
+least-requires c κs = search needs
+
+put-count-requires : tie.Need-put-count-requires Inv-loop μ-loop
+put-count-requires c κs = search needs
+
+loop-holds : tie.Need-loop-holds Inv-loop μ-loop
+loop-holds c = (omega arith, omega arith)
+
+mul-handle : tie.Need-mul-handle Inv-loop μ-loop
+mul-handle c = omega arith
+
+element-copy-out-handle : tie.Need-element-copy-out-handle Inv-loop μ-loop
+element-copy-out-handle c = omega arith
+
+put-u32-requires : tie.Need-put-u32-requires Inv-loop μ-loop
+put-u32-requires c κs = search needs
+
+add-i : tie.Need-add-i Inv-loop μ-loop
+add-i c = omega arith
+
+loop-less : tie.Need-loop-less Inv-loop μ-loop
+loop-less c = omega arith
+
+loop-again : tie.Need-loop-again Inv-loop μ-loop
+loop-again c = (omega arith, omega arith)
+
+same-length : tie.Need-same-length Inv-loop μ-loop
+same-length c = search needs
+
+returns : tie.Need-returns Inv-loop μ-loop
+returns c = search needs
+
+pub put-handles-spec : {M : Type 1} → statement M
+put-handles-spec =
+    tie.close
+    (tie.spec
+    Inv-loop
+    μ-loop
+    least-requires
+    put-count-requires
+    loop-holds
+    mul-handle
+    element-copy-out-handle
+    put-u32-requires
+    add-i
+    loop-less
+    loop-again
+    same-length
+    returns)

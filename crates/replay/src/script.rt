@@ -1,0 +1,156 @@
+// Reading a script: its header, and one record after the other with its payload part.
+use crate::little::front;
+use crate::little::put_bytes;
+use crate::little::u32_at;
+use crate::record::CARRY;
+use crate::record::Record;
+use crate::value::is_checksum;
+use crate::value::is_message;
+use crate::value::is_setup;
+use libc::STDERR_FILENO;
+use libc::STDIN_FILENO;
+
+// How the answers are written.
+pub enum Mode {
+    Whole,
+    Digest,
+    None,
+}
+
+// A record, or the end of what can be read.
+pub struct Next {
+    pub more: bool,
+    pub record: Record,
+}
+
+// A datagram that is carried: whether there is one, and its length.
+struct Carried {
+    sound: bool,
+    length: usize,
+}
+
+pub fn complain(line: &[u8]) {
+    io::write_all(STDERR_FILENO, line);
+}
+
+pub fn read_mode() -> Mode {
+    let mut header = [0u8; 8];
+    let n = io::read_full(STDIN_FILENO, &mut header);
+    if n < 8 {
+        return Mode::None;
+    }
+    mode_of(&header)
+}
+
+// `GGSC`, version 1, the mode, and two zeros.
+fn mode_of(header: &[u8]) -> Mode {
+    if u32_at(header, 0) != 0x4353_4747 {
+        return Mode::None;
+    }
+    match u32_at(header, 4) {
+        0x0001 => Mode::Whole,
+        0x0101 => Mode::Digest,
+        _ => Mode::None,
+    }
+}
+
+// The next record; its payload part, or the datagram that it carries, stands at the start of `payload`.
+pub fn next_record(payload: &mut [u8], a: &[u8], b: &[u8]) -> Next {
+    let mut head = [0u8; 64];
+    let n = io::read_full(STDIN_FILENO, &mut head);
+    let record = Record::read(&head);
+    if n == 0 {
+        return Next {
+            more: false,
+            record,
+        };
+    }
+    if n < 64 || record.is_bad() {
+        complain(b"replay: no record of a script\n");
+        return Next {
+            more: false,
+            record,
+        };
+    }
+    let length = record.length;
+    // A record with a longer payload part was refused.
+    if payload.len() < length {
+        return Next {
+            more: false,
+            record,
+        };
+    }
+    if io::read_full(STDIN_FILENO, &mut payload[..length]) < length {
+        complain(b"replay: the script ends inside a payload part\n");
+        return Next {
+            more: false,
+            record,
+        };
+    }
+    Next {
+        more: true,
+        record: looked_at(record, payload, a, b),
+    }
+}
+
+// The record with what its payload part is to its call.
+fn looked_at(record: Record, payload: &mut [u8], a: &[u8], b: &[u8]) -> Record {
+    let length = record.length;
+    if record.call == CARRY {
+        let carried = carry(payload, length, a, b);
+        return Record {
+            length: carried.length,
+            sound: carried.sound,
+            ..record
+        };
+    }
+    Record {
+        sound: is_sound(record.call, front(payload, length)),
+        ..record
+    }
+}
+
+fn is_sound(call: u8, payload: &[u8]) -> bool {
+    match call {
+        0 => is_setup(payload),
+        4 => is_message(payload),
+        8 => is_checksum(payload),
+        _ => true,
+    }
+}
+
+// The bytes at a place of an object's array, in the place of the twelve that name them. The spectator's array is zero.
+fn carry(payload: &mut [u8], length: usize, a: &[u8], b: &[u8]) -> Carried {
+    if length != 12 {
+        return Carried {
+            sound: false,
+            length: 0,
+        };
+    }
+    let object = u32_at(payload, 0);
+    let at = u32_at(payload, 4) as usize;
+    let count = u32_at(payload, 8) as usize;
+    match object {
+        0 => carry_part(payload, a, at, count),
+        1 => carry_part(payload, b, at, count),
+        2 => carry_part(payload, &io::large_buffer(), at, count),
+        _ => Carried {
+            sound: false,
+            length: 0,
+        },
+    }
+}
+
+fn carry_part(payload: &mut [u8], array: &[u8], at: usize, count: usize) -> Carried {
+    if array.len() < at || array.len() - at < count || payload.len() < count {
+        return Carried {
+            sound: false,
+            length: 0,
+        };
+    }
+    put_bytes(payload, 0, &array[at..], count);
+    Carried {
+        sound: true,
+        length: count,
+    }
+}
