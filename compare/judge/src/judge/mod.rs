@@ -2,6 +2,7 @@
 
 pub mod answers;
 pub mod audit;
+pub mod bench;
 pub mod beyond;
 pub mod canon;
 pub mod compare;
@@ -38,6 +39,7 @@ judge find DIR                          the first difference alone; fails if the
 judge sample DIR                        write the stored sample
 judge show SCRIPT [ANSWERS]             both as text (without ANSWERS: the crate's, whole)
 judge beyond                            what the crate does outside document 01's limits
+judge bench ITEM COUNT                  repeat an item: nanoseconds of one, and a sum
 judge check FIRST COUNT [DIR]           generate COUNT scripts, check and count; write them to DIR";
 
 pub fn main() {
@@ -53,6 +55,7 @@ pub fn main() {
         ["show", script] => show::text(script, None),
         ["show", script, answers] => show::text(script, Some(answers)),
         ["beyond"] => beyond::print(),
+        ["bench", item, count] => bench::run(item, number(count) as u32),
         ["check", first, count] => check(number(first), number(count), None),
         ["check", first, count, dir] => check(number(first), number(count), Some(dir)),
         _ => Err(USAGE.to_owned()),

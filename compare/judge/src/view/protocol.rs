@@ -74,6 +74,22 @@ impl<T: Config> UdpProtocol<T> {
         }
         bytes
     }
+
+    /// For timing: how many events and bytes wait, added up.
+    pub(crate) fn waiting(&self) -> u64 {
+        (self.event_queue.len() + self.queued_bytes().len()) as u64
+    }
+
+    /// For timing: both queues are emptied.
+    pub(crate) fn empty(&mut self) {
+        self.event_queue.clear();
+        self.send_queue.clear();
+    }
+
+    /// For timing: the input sent last was not sent.
+    pub(crate) fn forget_last_input(&mut self) {
+        self.pending_output.pop_back();
+    }
 }
 
 impl UdpProtocol<Cfg> {

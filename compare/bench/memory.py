@@ -1,0 +1,87 @@
+#!/usr/bin/env python3
+"""memory.py BENCH: what our calls copy, and the stack that they need.
+
+Copies: `copies.c` is loaded before the C library and counts memcpy by size; a run of 200 less one of 100 is that of 100 calls. Stack: the frames
+in the disassembly, added up along the deepest chain of calls; and the smallest stack in which a run ends well."""
+import pathlib, re, resource, subprocess, sys, tempfile
+from items import CALLS
+
+# The bytes of an endpoint: docs/SPEED.md adds them up.
+STATE = 34416
+REPEATED = 100
+
+
+def copied(program, counter, item, count):
+    """How often each size was copied."""
+    run = subprocess.run([program], input=item.record(count), capture_output=True, check=True, env={"LD_PRELOAD": counter})
+    return {int(size): int(times) for size, times in (line.split() for line in run.stderr.decode().splitlines())}
+
+
+def copies(program):
+    print(f"| {'item':48} | copies | bytes copied | in states |\n|{'-' * 50}|-------:|-------------:|----------:|")
+    with tempfile.TemporaryDirectory() as folder:
+        counter = f"{folder}/copies.so"
+        source = pathlib.Path(__file__).with_name("copies.c")
+        subprocess.run(["cc", "-O2", "-shared", "-fPIC", "-fno-builtin", "-o", counter, source], check=True)
+        for item in CALLS:
+            once, twice = copied(program, counter, item, REPEATED), copied(program, counter, item, 2 * REPEATED)
+            each = {size: (twice[size] - once.get(size, 0)) / REPEATED for size in twice}
+            total = sum(size * times for size, times in each.items())
+            print(f"| {item.label:48} | {sum(each.values()):6.1f} | {total:12,.0f} | {total / STATE:9.1f} |")
+
+
+def frames(program):
+    """Each function's frame in bytes, and what it calls."""
+    text = subprocess.run(["objdump", "-d", "-C", "--no-show-raw-insn", program], capture_output=True, text=True, check=True).stdout
+    frame, calls = {}, {}
+    for block in re.split(r"\n\n", text):
+        head = re.match(r"[0-9a-f]+ <(.*)>:\n", block)
+        if not head:
+            continue
+        name = head.group(1)
+        calls[name] = set(re.findall(r"\bcall +[0-9a-f]+ <([^>+]*)>", block))
+        pushed = len(re.findall(r"\bpush\b", "".join(block.splitlines()[:10])))
+        # A large frame is probed page by page: in a loop up to r11, or one by one. Steps of 8 are for a call's arguments.
+        looped = re.search(r"sub +\$0x([0-9a-f]+),%r11", block)
+        steps = [int(n, 16) for n in re.findall(r"sub +\$0x([0-9a-f]+),%rsp", block)]
+        steps = [n for n in steps if n > 8 and not (looped and n == 4096)]
+        frame[name] = 8 * pushed + (int(looped.group(1), 16) if looped else 0) + sum(steps)
+    return frame, calls
+
+
+def deepest(name, frame, calls):
+    return frame.get(name, 0) + 8 + max((deepest(called, frame, calls) for called in calls.get(name, ()) if called in frame), default=0)
+
+
+def ends_within(program, item, kib):
+    def limit():
+        resource.setrlimit(resource.RLIMIT_STACK, (kib * 1024, kib * 1024))
+
+    run = subprocess.run([program], input=item.record(REPEATED), capture_output=True, preexec_fn=limit)
+    return run.returncode == 0
+
+
+def least_stack(program, item):
+    low, high = 16, 8192
+    while high - low > 4:
+        middle = (low + high) // 2
+        low, high = (low, middle) if ends_within(program, item, middle) else (middle, high)
+    return high
+
+
+def stack(program):
+    frame, calls = frames(program)
+    print(f"\n| {'function':32} | its frame | with what it calls |\n|{'-' * 34}|----------:|-------------------:|")
+    for name in sorted(frame):
+        if name.startswith("endpoint::Endpoint::"):
+            print(f"| {name:32} | {frame[name]:9,} | {deepest(name, frame, calls):18,} |")
+    print(f"\nthe exchange ends well with a stack of {least_stack(program, CALLS[-1])} KiB, and not with 4 KiB less")
+
+
+def main():
+    program = sys.argv[1]
+    copies(program)
+    stack(program)
+
+
+main()
