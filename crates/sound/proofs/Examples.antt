@@ -35,11 +35,11 @@ setup-taken : fresh (setupWith 1) 1000 .0 ≡ 0
 unfolding fresh badSetup anyAbove anyTwice has
 setup-taken = refl
 
-reply-typed : (nonce : ℕ) → nonce < 100 → Typed (reply nonce (nonce + 1))
+pub reply-typed : (nonce : ℕ) → nonce < 100 → Typed (reply nonce (nonce + 1))
 reply-typed nonce h =
     (omega arith, omega arith, record { magic = omega arith; body = omega arith; frames = λ i d b. absurd (omega arith); bytes = λ i. omega arith }, (omega arith, omega arith, omega arith, omega arith))
 
-handshake-typed : Each Typed handshake
+pub handshake-typed : Each Typed handshake
 unfolding Each
 handshake-typed =
     ((omega arith, omega arith, omega arith, omega arith), (reply-typed 1 (omega arith), (reply-typed 2 (omega arith), (reply-typed 3 (omega arith), (reply-typed 4 (omega arith), (reply-typed 5 (omega arith), tt))))))

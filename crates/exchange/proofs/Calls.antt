@@ -1,0 +1,326 @@
+-- Every call on an end keeps both directions in order.
+use mathlib.Core.Bool.{Bool, true, false, not, _&&_, _||_}
+use mathlib.Core.List.{List, [], _∷_, _++_, append-nil}
+use mathlib.Core.Path.{_≡_, refl, _∙_}
+use Prim.Native.Nat.{ℕ, _^_, _<_}
+use native.Mathlib.Omega.{arith}
+use lib.Dec.{eqb}
+use lib.ListN.{length}
+use borrow.Author.Tests.{eqb-true, not-false}
+use Rattle.base.specs.Pick.{pick}
+use Rattle.base.specs.First.{firstOf}
+use Rattle.base.specs.Keyed.{kept}
+use Rattle.packing.specs.Pad.{padded}
+use Rattle.packing.specs.declared.input_bytes.InputBytes.{InputBytes}
+use Rattle.status.specs.declared.ConnectionStatus.{ConnectionStatus}
+use Rattle.codec.specs.Message.{Wire}
+use Rattle.codec.specs.Read.{plain, datagram, wireIn}
+use Rattle.codec.specs.declared.StatusReport.{StatusReport}
+use Rattle.codec.specs.declared.MessageBody.{MessageBody}
+use Rattle.codec.specs.declared.MessageBody.the-variants.{SyncRequest, SyncReply, Input, InputAck, QualityReport, QualityReply, ChecksumReport, KeepAlive}
+use Rattle.outbox.specs.Outbox.{pendingInput}
+use Rattle.setup.specs.Setup.{receivingWidth, sendingWidth}
+use Rattle.setup.proofs.Laws.{receiving-within}
+use Rattle.timers.specs.Timers.{badClock}
+use Rattle.protocol.specs.Seen.{Seen, isRunning, withCarried}
+use Rattle.protocol.specs.Did.{Did, Effect, refused, decided, silent, begin, done}
+use Rattle.protocol.specs.Room.{isFull}
+use Rattle.protocol.specs.Handshake.{synchronized}
+use Rattle.protocol.specs.Sending.{droppedTo, badFrame, badStatuses, badBytes, pendingFull, pendingIn, inputSent}
+use Rattle.protocol.specs.Act.{acted}
+use Rattle.protocol.specs.Checksum.{checksumSent}
+use Rattle.protocol.specs.Receiving.{Got, receive, announcedEach, discarded, inputTaken, inputUnless, onInput, onInputAck}
+use Rattle.protocol.specs.Advantage.{bothKnown, localAdvantage, advantageUpdated}
+use Rattle.protocol.specs.Call.{Call}
+use Rattle.protocol.specs.Step.{changed, heard, onBody, step, synchronizeStep, messageStep, datagramStep, actStep, sendStep, disconnectStep, checksumStep, advantageStep, statsStep, statusStep, takeStep}
+use Rattle.sound.specs.Each.{Each}
+use Rattle.sound.specs.Sound.{Sound}
+use Rattle.sound.specs.Typed.{Typed}
+use Rattle.sound.proofs.Choices.{or-none, passes, by-pick}
+use Rattle.sound.proofs.Eaches.{each-also}
+use Rattle.sound.proofs.Leaves.{by-cases}
+use Rattle.exchange.specs.Frames.{Frame, acceptedBy}
+use Rattle.exchange.specs.Runs.{End, carries, Allowed, Meet}
+use Rattle.exchange.proofs.Lists.{Mem}
+use Rattle.exchange.proofs.Wires.{OnInput, OnAck, quiet-input, quiet-ack, each-mem}
+use Rattle.exchange.proofs.Tape.{Tape, Packet, Ack, Packets, Acks}
+use Rattle.exchange.proofs.Moves.{Dir, queues, acked, hears, tells, sends, resends, newest-ack, gets, took}
+use Rattle.exchange.proofs.Effects.{Does, starting, checking, others, taking, acts, sending}
+use Rattle.exchange.proofs.Effects as Effects
+
+-- what is sent from one end to the other
+abbrev pub Way : End → End → Type 0
+Way a b =
+    Dir (receivingWidth (b .state .setup)) (b .state .setup .inputSize) (b .state .setup .handles) (a .state .carried .sender) (b .state .carried .receiver)
+    (a .queued) (b .queued) (a .accepted) (b .told)
+
+pub record Both (a b : End) : Type 0 where
+  pub goes : Way a b
+  pub comes : Way b a
+
+-- an end after something was done
+abbrev pub onto : End → Did → List Frame → End
+onto a d acc = record { state = d .after; queued = a .queued ++ d .out; told = a .told ++ d .told; accepted = a .accepted ++ acc }
+
+-- what was done keeps both directions, and the setup
+pub record Kept (a b : End) (d : Did) (acc : List Frame) : Type 0 where
+  pub both : Both (onto a d acc) b
+  pub setup : d .after .setup ≡ a .state .setup
+
+kept-as : {a b : End} {d : Did} {acc : List Frame} → d .after .setup ≡ a .state .setup → Both (onto a d acc) b → Kept a b d acc
+kept-as e h = record { both = h; setup = e }
+
+-- a call that is refused, silently returns, or is done
+by-decided : (n : ℕ) (s : Seen) (d : Did) (Q : Did → Type 0) → (n ≡ 0 → Q d) → (n ≡ silent → Q (refused 0 s)) → (eqb n 0 ≡ false → Q (refused n s)) → Q (decided n s d)
+unfolding decided
+by-decided n s d Q f g h =
+    by-pick Q (eqb n 0) d _ (λ e. f (eqb-true n 0 e)) (λ e. by-pick Q (eqb n silent) (refused 0 s) (refused n s) (λ k. g (eqb-true n silent k)) (λ _. h e))
+
+-- both at once, of a message that an end queues
+abbrev Sent : {w v : ℕ} → (t : Tape w) → (n : ℕ) → (u : Tape v) → (m : ℕ) → Wire → Type 0
+Sent t n u m x = OnInput (Packet t n (x .payload)) (x .body) × OnAck (Ack u m) (x .body)
+
+module _ {w v : ℕ} (t : Tape w) (n : ℕ) (u : Tape v) (m : ℕ) where
+  quiet-sent : (magic : ℕ) (b : MessageBody) → carries b ≡ false → Sent t n u m (plain magic b)
+  quiet-sent magic b q = (quiet-input (Packet t n []) b q, quiet-ack (Ack u m) b q)
+
+  packets-of : (l : List Wire) → Each (Sent t n u m) l → Packets t n l
+  packets-of l h = each-also (Sent t n u m) (λ (x : Wire). OnInput (Packet t n (x .payload)) (x .body)) (λ x p. p .0) l h
+
+  acks-of : (l : List Wire) → Each (Sent t n u m) l → Acks u m l
+  acks-of l h = each-also (Sent t n u m) (λ (x : Wire). OnAck (Ack u m) (x .body)) (λ x p. p .1) l h
+
+module _ (a b : End) (both : Both a b) (meet : Meet (a .state) (b .state)) (soundA : Sound (a .state)) (soundB : Sound (b .state)) where
+  abbrev s : Seen
+  s = a .state
+
+  abbrev Ok : Wire → Type 0
+  Ok = Sent (both .goes .tape) (both .goes .reached) (both .comes .tape) (both .comes .reached)
+
+  abbrev quiet : (magic : ℕ) (m : MessageBody) → carries m ≡ false → Ok (plain magic m)
+  quiet = quiet-sent (both .goes .tape) (both .goes .reached) (both .comes .tape) (both .comes .reached)
+
+  -- nothing carried changes
+  still : (d : Did) → Does s (s .carried) [] Ok (d .after) (d .out) (d .told) → Kept a b d []
+  still d h =
+      kept-as (h .setup) (rw (h .setup, h .carried, append-nil (a .accepted)) (record {
+        goes = queues (both .goes) (d .out) (packets-of _ _ _ _ (d .out) (h .out));
+        comes = tells (acked (both .comes) (d .out) (acks-of _ _ _ _ (d .out) (h .out))) (d .told) (h .told);
+      }))
+
+  refuses : (k : ℕ) → Kept a b (refused k s) []
+  unfolding refused Each kept
+  refuses k = still (refused k s) (record { setup = refl; carried = refl; out = tt; told = refl })
+
+  changes : (t : Seen) → t .setup ≡ s .setup → t .carried ≡ s .carried → Kept a b (changed t) []
+  unfolding Each kept
+  changes t p q = still (changed t) (record { setup = p; carried = q; out = tt; told = refl })
+
+  finished : (e : Effect) → Does s (s .carried) [] Ok (e .state) (e .out) (e .told) → Kept a b (done e) []
+  unfolding done
+  finished e h = still (done e) (record { setup = h .setup; carried = h .carried; out = h .out; told = h .told })
+
+  -- ---- messages
+
+  -- an ack of the other end's is heard
+  heeds : (ack : ℕ) → Ack (both .goes .tape) (both .goes .reached) ack → (d : Did) → Does s (Effects.droppedIn Ok quiet s ack) [] Ok (d .after) (d .out) (d .told) → Kept a b d []
+  heeds ack k d h =
+      kept-as (h .setup) (rw (h .setup, h .carried, append-nil (a .accepted)) (record {
+        goes = hears (both .goes) ack k (d .out) (packets-of _ _ _ _ (d .out) (h .out));
+        comes = tells (acked (both .comes) (d .out) (acks-of _ _ _ _ (d .out) (h .out))) (d .told) (h .told);
+      }))
+
+  -- an Input of the other end's is taken in
+  module _ (start ack : ℕ) (payload : List ℕ) (p : Packet (both .comes .tape) (both .comes .reached) payload start) (k : Ack (both .goes .tape) (both .goes .reached) ack) where
+    abbrev got : Got
+    got = receive (s .setup) start payload (s .carried .receiver)
+
+    abbrev Then : ℕ → Wire → Type 0
+    Then n = Sent (both .goes .tape) (both .goes .reached) (both .comes .tape) n
+
+    abbrev TakesIn : ℕ → Did → Type 0
+    TakesIn n d =
+        Does s (record { sender = droppedTo ack (s .carried .sender); receiver = got .receiver }) (announcedEach (s .setup .inputSize) (s .setup .handles) (got .news)) (Then n)
+        (d .after) (d .out) (d .told)
+
+    takes-in : (d : Did) → ((n : ℕ) → Each (Ack (both .comes .tape) n) (got .acks) → TakesIn n d) → Kept a b d []
+    takes-in d f =
+        let t = took (s .setup) (soundA .setup) (both .comes) (soundA .receiver) start payload p in
+        let h : TakesIn (t .count) d = f (t .count) (t .acks) in
+        kept-as (h .setup) (rw (h .setup, h .carried, append-nil (a .accepted)) (record {
+          goes = hears (both .goes) ack k (d .out) (packets-of _ _ _ _ (d .out) (h .out));
+          comes =
+              gets (s .setup) (soundA .setup) (both .comes) (soundA .receiver) start payload p (d .told) (h .told) (d .out)
+              (λ n q. acks-of (both .goes .tape) (both .goes .reached) (both .comes .tape) n (d .out) (f n q .out));
+        }))
+
+    input-done : (now : ℕ) (d : Bool) (reports : List StatusReport) → Kept a b (done (inputTaken now d start ack reports payload (heard now s))) []
+    unfolding done
+    input-done now d reports =
+        takes-in (done (inputTaken now d start ack reports payload (heard now s))) (λ n q.
+        let h = taking (Then n) (quiet-sent (both .goes .tape) (both .goes .reached) (both .comes .tape) n) s start payload now ack d reports
+        (each-also (Ack (both .comes .tape) n) (λ x. (magic : ℕ) → Then n (plain magic (InputAck x))) (λ x k magic. (tt, k)) (got .acks) q) in
+        record { setup = h .setup; carried = h .carried; out = h .out; told = h .told })
+
+  ack-done : (ack : ℕ) → Ack (both .goes .tape) (both .goes .reached) ack → (now : ℕ) → Kept a b (done (onInputAck ack (heard now s) .effect)) []
+  unfolding done
+  ack-done ack k now =
+      let h = Effects.acked Ok quiet s ack now in
+      heeds ack k (done (onInputAck ack (heard now s) .effect)) (record { setup = h .setup; carried = h .carried; out = h .out; told = h .told })
+
+  quietly : (w : Wire) → carries (w .body) ≡ false → (count now epoch nonce : ℕ) → Kept a b (done (onBody (w .body) count w now epoch nonce (heard now s) .effect)) []
+  quietly w q count now epoch nonce = finished (onBody (w .body) count w now epoch nonce (heard now s) .effect) (others Ok quiet s (w .body) q count w now epoch nonce)
+
+  abbrev wireOf : ℕ → MessageBody → List StatusReport → List ℕ → Wire
+  wireOf magic m reports payload = record { magic = magic; body = m; reports = reports; payload = payload }
+
+  -- a message by its body, where it carries inputs one that the other end queued
+  body-done : (magic : ℕ) (m : MessageBody) (reports : List StatusReport) (payload : List ℕ)
+      → (carries m ≡ true → Mem (wireOf magic m reports payload) (b .queued)) → (count now epoch nonce : ℕ)
+      → Kept a b (done (onBody m count (wireOf magic m reports payload) now epoch nonce (heard now s) .effect)) []
+  unfolding onBody onInput inputUnless
+  body-done magic (SyncRequest n) reports payload q count now epoch nonce = quietly (wireOf magic (SyncRequest n) reports payload) refl count now epoch nonce
+  body-done magic (SyncReply n) reports payload q count now epoch nonce = quietly (wireOf magic (SyncReply n) reports payload) refl count now epoch nonce
+  body-done magic (Input d start ack) reports payload q count now epoch nonce = go (discarded d count start (heard now s .state))
+    where
+      p : Packet (both .comes .tape) (both .comes .reached) payload start
+      p = each-mem (λ (x : Wire). OnInput (Packet (both .comes .tape) (both .comes .reached) (x .payload)) (x .body)) (b .queued) (both .comes .link .packets) (q refl)
+
+      k : Ack (both .goes .tape) (both .goes .reached) ack
+      k = each-mem (λ (x : Wire). OnAck (Ack (both .goes .tape) (both .goes .reached)) (x .body)) (b .queued) (both .goes .link .acks) (q refl)
+
+      go : (x : Bool) → Kept a b (done (inputUnless x now d start ack reports payload (heard now s) .effect)) []
+      go true = finished (heard now s) (Effects.hearing Ok quiet s now)
+      go false = input-done start ack payload p k now d reports
+  body-done magic (InputAck ack) reports payload q count now epoch nonce =
+      ack-done ack (each-mem (λ (x : Wire). OnAck (Ack (both .goes .tape) (both .goes .reached)) (x .body)) (b .queued) (both .goes .link .acks) (q refl)) now
+  body-done magic (QualityReport advantage ping) reports payload q count now epoch nonce = quietly (wireOf magic (QualityReport advantage ping) reports payload) refl count now epoch nonce
+  body-done magic (QualityReply pong) reports payload q count now epoch nonce = quietly (wireOf magic (QualityReply pong) reports payload) refl count now epoch nonce
+  body-done magic (ChecksumReport checksum frame) reports payload q count now epoch nonce = quietly (wireOf magic (ChecksumReport checksum frame) reports payload) refl count now epoch nonce
+  body-done magic KeepAlive reports payload q count now epoch nonce = quietly (wireOf magic KeepAlive reports payload) refl count now epoch nonce
+
+  message-both : (from count : ℕ) (w : Wire) (now epoch nonce buffer : ℕ) → (carries (w .body) ≡ true → Mem w (b .queued)) → Kept a b (messageStep from count w now epoch nonce buffer s) []
+  unfolding messageStep
+  message-both from count w now epoch nonce buffer q =
+      by-decided _ s _ (λ d. Kept a b d []) (λ _. body-done (w .magic) (w .body) (w .reports) (w .payload) q count now epoch nonce) (λ _. refuses 0) (λ _. refuses _)
+
+  -- ---- the other calls
+
+  -- the Input of all that is pending, with the newest frame received for an ack
+  pending-ok : (statuses : List ConnectionStatus) (x : InputBytes) (xs : List InputBytes) → s .carried .sender .pending ≡ x ∷ xs → Ok (pendingIn statuses s)
+  unfolding pendingInput
+  pending-ok statuses x xs e =
+      let w = receiving-within (b .state .setup) (soundB .setup) in
+      (resends (both .goes) (sendingWidth (s .setup)) (meet .there) (w .1) x xs e, newest-ack (both .comes))
+
+  act-both : (count : ℕ) (statuses : List ConnectionStatus) (now epoch nonce buffer : ℕ) → Kept a b (actStep count statuses now epoch nonce buffer s) []
+  unfolding actStep
+  act-both count statuses now epoch nonce buffer =
+      by-decided _ s _ (λ d. Kept a b d []) (λ _. finished (acted (s .phase) now epoch nonce statuses (begin s)) (acts Ok quiet s statuses (pending-ok statuses) (s .phase) now epoch nonce))
+      (λ _. refuses 0) (λ _. refuses _)
+
+  -- an input is accepted: the Input of all that is pending then has it
+  module _ (frame : ℕ) (bytes : List ℕ) (small : frame < 2 ^ 32) (long : length bytes ≡ sendingWidth (s .setup)) (right : badFrame frame (s .carried .sender) ≡ false) where
+    abbrev new : InputBytes
+    new = record { frame = frame; bytes = padded bytes }
+
+    abbrev frameOf : Frame
+    frameOf = record { number = frame; bytes = bytes }
+
+    abbrev later : Seen
+    later = withCarried (record { sender = record { pending = s .carried .sender .pending ++ new ∷ []; acked = s .carried .sender .acked }; receiver = s .carried .receiver }) s
+
+    abbrev way : Way (record { state = later; queued = a .queued; told = a .told; accepted = a .accepted ++ frameOf ∷ [] }) b
+    way = sends (both .goes) frame bytes small (long ∙ meet .there) right
+
+    abbrev Ok′ : Wire → Type 0
+    Ok′ = Sent (way .tape) (way .reached) (both .comes .tape) (both .comes .reached)
+
+    some-pending : (l : List InputBytes) → (x : InputBytes) × (xs : List InputBytes) × (l ++ new ∷ [] ≡ x ∷ xs)
+    some-pending [] = (new, [], refl)
+    some-pending (y ∷ l) = (y, l ++ new ∷ [], refl)
+
+    new-ok : (statuses : List ConnectionStatus) → Ok′ (pendingIn statuses later)
+    unfolding pendingInput
+    new-ok statuses =
+        let w = receiving-within (b .state .setup) (soundB .setup) in
+        let l = some-pending (s .carried .sender .pending) in
+        (resends way (sendingWidth (s .setup)) (meet .there) (w .1) (l .0) (l .1) (l .2), newest-ack (both .comes))
+
+    sent-done : (now : ℕ) (statuses : List ConnectionStatus) → Kept a b (done (inputSent now frame bytes statuses (begin s))) (frameOf ∷ [])
+    unfolding done
+    sent-done now statuses =
+        let h = sending Ok′ (quiet-sent (way .tape) (way .reached) (both .comes .tape) (both .comes .reached)) s now frame bytes statuses (new-ok statuses) in
+        let e : Effect = inputSent now frame bytes statuses (begin s) in
+        kept-as (h .setup) (rw (h .setup, h .carried) (record {
+          goes = queues way (e .out) (packets-of _ _ _ _ (e .out) (h .out));
+          comes = tells (acked (both .comes) (e .out) (acks-of _ _ _ _ (e .out) (h .out))) (e .told) (h .told);
+        }))
+
+  -- a send is accepted in Running if it is not refused; its number 0 alone does not tell, for outside Running it silently returns
+  not-silent : (c l f r : Bool) → firstOf ((c, 8) ∷ (l, 3) ∷ (false, silent) ∷ (f, 4) ∷ (r, 5) ∷ []) ≡ silent → ⊥
+  not-silent true l f r e = omega arith
+  not-silent false true f r e = omega arith
+  not-silent false false true r e = omega arith
+  not-silent false false false true e = omega arith
+  not-silent false false false false e = omega arith
+
+  send-both : (frame : ℕ) (bytes : List ℕ) (count : ℕ) (statuses : List ConnectionStatus) (now buffer : ℕ) → frame < 2 ^ 32
+      → Kept a b (sendStep frame bytes count statuses now buffer s)
+      (pick (isRunning (s .phase) && eqb (sendStep frame bytes count statuses now buffer s .answer) 0) (record { number = frame; bytes = bytes } ∷ []) [])
+  unfolding sendStep done refused
+  send-both frame bytes count statuses now buffer small = go (isRunning (s .phase)) refl
+    where
+      number : Bool → ℕ
+      number run =
+          firstOf ((badClock now, 8) ∷ (badStatuses count s || badBytes bytes s, 3) ∷ (not run, silent) ∷ (badFrame frame (s .carried .sender), 4)
+          ∷ (pendingFull s || isFull buffer (inputSent now frame bytes statuses (begin s)), 5) ∷ [])
+
+      go : (run : Bool) → isRunning (s .phase) ≡ run
+          → Kept a b (decided (number run) s (done (inputSent now frame bytes statuses (begin s))))
+          (pick (run && eqb (decided (number run) s (done (inputSent now frame bytes statuses (begin s))) .answer) 0) (record { number = frame; bytes = bytes } ∷ []) [])
+      go false q = by-decided (number false) s (done (inputSent now frame bytes statuses (begin s))) (λ d. Kept a b d []) (λ z.
+          let c = passes (badClock now) 7 _ z in
+          let l = passes (badStatuses count s || badBytes bytes s) 2 _ (c .1) in
+          absurd (omega (arith, l .1))) (λ _. refuses 0) (λ _. refuses (number false))
+      go true q =
+          by-decided (number true) s (done (inputSent now frame bytes statuses (begin s))) (λ d. Kept a b d (pick (eqb (d .answer) 0) (record { number = frame; bytes = bytes } ∷ []) []))
+          (λ z.
+          let c = passes (badClock now) 7 _ z in
+          let l = passes (badStatuses count s || badBytes bytes s) 2 _ (c .1) in
+          let f = passes (badFrame frame (s .carried .sender)) 3 _ (l .1) in
+          let long : length bytes ≡ sendingWidth (s .setup) = eqb-true _ _ (not-false _ (or-none (badStatuses count s) _ (l .0) .1)) in
+          sent-done frame bytes small long (f .0) now statuses)
+          (λ z. absurd (not-silent (badClock now) (badStatuses count s || badBytes bytes s) (badFrame frame (s .carried .sender))
+          (pendingFull s || isFull buffer (inputSent now frame bytes statuses (begin s))) z))
+          (λ z. rw z (refuses (number true)))
+
+  updated : (f : ℕ) → Kept a b (changed (advantageUpdated f s)) []
+  unfolding advantageUpdated localAdvantage
+  updated f = by-cases (bothKnown f s) (Kept a b (changed (advantageUpdated f s)) []) (λ h. rw h (changes _ refl refl)) (λ h. rw h (changes s refl refl))
+
+  -- every call
+  pub call-kept : (c : Call) → Typed c → Allowed c (b .queued) → Kept a b (step c s) (acceptedBy c s)
+  unfolding step synchronizeStep datagramStep disconnectStep checksumStep advantageStep statsStep statusStep takeStep
+  call-kept (Call.synchronize now epoch nonce buffer) t q =
+      by-decided _ s _ (λ d. Kept a b d []) (λ _. finished (synchronized now epoch nonce (begin s)) (starting Ok quiet s now epoch nonce)) (λ _. refuses 0) (λ _. refuses _)
+  call-kept (Call.message from count w now epoch nonce buffer) t q = message-both from count w now epoch nonce buffer q
+  call-kept (Call.datagram from bytes now epoch nonce buffer) t q =
+      by-decided _ s _ (λ d. Kept a b d []) (λ z. message-both from (length (wireIn (datagram bytes) .reports)) (wireIn (datagram bytes)) now epoch nonce buffer (q z)) (λ _. refuses 0) (λ _. refuses _)
+  call-kept (Call.act count statuses now epoch nonce buffer) t q = act-both count statuses now epoch nonce buffer
+  call-kept (Call.sendInput frame bytes count statuses now buffer) t q = send-both frame bytes count statuses now buffer (t .0)
+  call-kept (Call.disconnect now) t q = by-decided _ s _ (λ d. Kept a b d []) (λ _. changes _ refl refl) (λ _. refuses 0) (λ _. refuses _)
+  call-kept (Call.sendChecksumReport frame checksum now buffer) t q =
+      by-decided _ s _ (λ d. Kept a b d []) (λ _. finished (checksumSent now frame checksum (begin s)) (checking Ok quiet s now frame checksum)) (λ _. refuses 0) (λ _. refuses _)
+  call-kept (Call.updateLocalFrameAdvantage f) t q = by-decided _ s _ (λ d. Kept a b d []) (λ _. updated f) (λ _. refuses 0) (λ _. refuses _)
+  call-kept (Call.networkStats epoch) t q = by-decided _ s _ (λ d. Kept a b d []) (λ _. changes s refl refl) (λ _. refuses 0) (λ _. refuses _)
+  call-kept (Call.peerConnectStatus handle) t q = by-decided _ s _ (λ d. Kept a b d []) (λ _. changes s refl refl) (λ _. refuses 0) (λ _. refuses _)
+  call-kept Call.takeEvents t q = changes _ refl refl
+  call-kept (Call.takeMessages buffer) t q = by-decided _ s _ (λ d. Kept a b d []) (λ _. changes _ refl refl) (λ _. refuses 0) (λ _. refuses _)
+  call-kept Call.handles t q = changes s refl refl
+  call-kept Call.isSynchronized t q = changes s refl refl
+  call-kept Call.isRunning t q = changes s refl refl
+  call-kept (Call.isHandlingMessage from) t q = changes s refl refl
+  call-kept Call.newestFrame t q = changes s refl refl
+  call-kept Call.state t q = changes s refl refl
+  call-kept Call.checksums t q = changes s refl refl

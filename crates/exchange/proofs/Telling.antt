@@ -1,0 +1,95 @@
+-- The frames that events announce are those that were told: read off them event by event, they come out as they went in.
+use mathlib.Core.List.{List, [], _∷_, _++_, map}
+use mathlib.Core.Path.{_≡_, refl, ap, _∙_}
+use Prim.Native.Nat.{ℕ, suc, _+_, _-_, _*_, _≤_, _<_}
+use native.Mathlib.Omega.{arith}
+use native.Mathlib.Nat.{suc-mul}
+use lib.ListN.{length, take, drop, replicate, length-drop}
+use lib.Seq.{take-all, take-at, take-add, length-take-le}
+use borrow.Author.Tests.{ne-eqb, eq-eqb}
+use Rattle.base.specs.Keyed.{kept}
+use Rattle.packing.specs.Packing.{Wide}
+use Rattle.packing.specs.Pad.{padded}
+use Rattle.packing.proofs.Pads.{padded-length}
+use Rattle.history.specs.History.{numbered}
+use Rattle.events.specs.declared.Entry.{Entry}
+use Rattle.events.specs.declared.Event.{Event}
+use Rattle.events.specs.declared.Event.the-variants as Event
+use Rattle.events.specs.Events.{announced, inputEntry, inputOf}
+use Rattle.protocol.specs.Receiving.{announcedEach}
+use Rattle.exchange.specs.Frames.{Told, joined, read, announcedIn, toldTo}
+use Rattle.exchange.proofs.Lists.{take-padded}
+use Rattle.exchange.proofs.Tape.{framed}
+use Rattle.exchange.proofs.Moves.{inputsIn}
+
+-- other events announce no frame
+pub of-inputs : (size : ℕ) (l : List Entry) → announcedIn size l ≡ announcedIn size (inputsIn l)
+unfolding announcedIn kept
+of-inputs size [] = refl
+of-inputs size (e ∷ l) = go (e .event) (e .input) (of-inputs size l)
+  where
+    go : (v : Event) (input : List ℕ) → announcedIn size l ≡ announcedIn size (inputsIn l)
+        → read size v input (announcedIn size l) ≡ announcedIn size (inputsIn (record { event = v; input = input } ∷ l))
+    go (Event.Synchronizing total count) input h = h
+    go Event.Synchronized input h = h
+    go (Event.Input frame player) input h = rw h
+    go Event.Disconnected input h = h
+    go (Event.NetworkInterrupted timeout) input h = h
+    go Event.NetworkResumed input h = h
+
+-- the next frame is another one
+unfoldable Other : ℕ → List Told → Type 0
+Other f [] = Unit {0}
+Other f (x ∷ l) = f ≡ x .number → ⊥
+
+joined-other : (x : Told) (l : List Told) → Other (x .number) l → joined x l ≡ x ∷ l
+unfolding joined Other
+joined-other x [] h = refl
+joined-other x (y ∷ l) h = rw (ne-eqb _ _ h)
+
+joined-same : (f : ℕ) (ps qs b c : List ℕ) (l : List Told)
+    → joined (record { number = f; players = ps; bytes = b }) (record { number = f; players = qs; bytes = c } ∷ l) ≡ record { number = f; players = ps ++ qs; bytes = b ++ c } ∷ l
+unfolding joined
+joined-same f ps qs b c l = rw (eq-eqb f f refl)
+
+module _ (size : ℕ) (few : size ≤ 16) where
+  -- a player's input, as it stands in an event
+  input-back : (b : List ℕ) → size ≤ length b → take size (inputOf (take size b)) ≡ take size b
+  unfolding inputOf
+  input-back b h =
+      let l : length (take size b) ≡ size = length-take-le size b h in
+      rw (take-all 16 (take size b) (omega arith)) (take-at (take size b) (replicate (16 - length (take size b)) 0) size l)
+
+  -- one frame for its players, before other frames
+  frame-back : (f : ℕ) (b : List ℕ) (h : ℕ) (hs : List ℕ) (rest : List Entry) → length (h ∷ hs) * size ≤ length b → Other f (announcedIn size rest)
+      → announcedIn size (announced f size b (h ∷ hs) ++ rest) ≡ record { number = f; players = h ∷ hs; bytes = take (length (h ∷ hs) * size) b } ∷ announcedIn size rest
+  unfolding announcedIn announced inputEntry
+  frame-back f b h [] rest n o = let e : 1 * size ≡ size = omega arith in rw (e, input-back b (omega arith)) (joined-other _ _ o)
+  frame-back f b h (g ∷ hs) rest n o =
+      let m = suc-mul (length (g ∷ hs)) size in
+      let k : length (g ∷ hs) * size ≤ length (drop size b) = omega (arith, length-drop size b) in
+      let e : length (h ∷ g ∷ hs) * size ≡ size + length (g ∷ hs) * size = omega arith in
+      ap (joined (record { number = f; players = h ∷ []; bytes = take size (inputOf (take size b)) })) (frame-back f (drop size b) g hs rest k o)
+      ∙ rw (input-back b (omega arith), e, take-add size (length (g ∷ hs) * size) b) (joined-same f (h ∷ []) (g ∷ hs) (take size b) (take (length (g ∷ hs) * size) (drop size b)) (announcedIn size rest))
+
+  -- frames one after the other, each of all the players' width
+  module _ (h : ℕ) (hs : List ℕ) (w : ℕ) (wide : w ≡ length (h ∷ hs) * size) (narrow : w ≤ 64) where
+    frames-other : (f g : ℕ) (bs : List (List ℕ)) → f < g → Other f (map (toldTo (h ∷ hs)) (framed g bs))
+    unfolding Other
+    frames-other f g [] l = tt
+    frames-other f g (b ∷ bs) l = λ e. omega arith
+
+    pub frames-back : (f : ℕ) (bs : List (List ℕ)) → Wide w bs → announcedIn size (announcedEach size (h ∷ hs) (numbered f bs)) ≡ map (toldTo (h ∷ hs)) (framed f bs)
+    unfolding announcedEach numbered Wide announcedIn
+    frames-back f [] a = refl
+    frames-back f (b ∷ bs) a =
+        let ih = frames-back (suc f) bs (a .1) in
+        let back : take (length (h ∷ hs) * size) (padded b) ≡ b = rw (← wide) (take-padded w b narrow (a .0)) in
+        frame-back f (padded b) h hs (announcedEach size (h ∷ hs) (numbered (suc f) bs)) (omega (arith, padded-length b)) (rw ih (frames-other f (suc f) bs (omega arith)))
+        ∙ rw (ih, back)
+
+  -- for any players, of whom there is one at least
+  pub frames-told : (hs : List ℕ) → 1 ≤ length hs → length hs * size ≤ 64 → (f : ℕ) (bs : List (List ℕ)) → Wide (length hs * size) bs
+      → announcedIn size (announcedEach size hs (numbered f bs)) ≡ map (toldTo hs) (framed f bs)
+  frames-told [] some narrow f bs a = absurd (omega arith)
+  frames-told (h ∷ hs) some narrow f bs a = frames-back h hs (length (h ∷ hs) * size) refl narrow f bs a
