@@ -71,7 +71,7 @@ pub fn setup_of(bytes: &[u8]) -> Setup {
     }
 }
 
-pub fn wide_at(bytes: &[u8], at: usize) -> Wide
+pub(crate) fn wide_at(bytes: &[u8], at: usize) -> Wide
     requires { ⌜ at < 100 ⌝ }
 {
     Wide {
