@@ -1,5 +1,5 @@
 -- What hearing a message does, and the ways out of a call that does nothing else.
-use mathlib.Core.Bool.{Bool, true, false}
+use mathlib.Core.Bool.{Bool, true, false, _&&_}
 use mathlib.Core.List.{[], _∷_}
 use mathlib.Core.Path.{_≡_, refl, sym}
 use Prim.Native.Nat.{ℕ}
@@ -27,12 +27,8 @@ module _ (e : Endpoint) where
   unfolding seen
   not-resumes h = rw h
 
-  pub resumes-flag : isRunning (e .phase) ≡ true → resumes (seen e) ≡ e .flags .«disconnect_notify_sent»
-  unfolding seen
-  resumes-flag h = rw h
-
   -- b: whether it resumes
-  pub hears : (now : ℕ) (b : Bool) (f : Flags) (c : Clocks) (p : Pushed) → b ≡ resumes (seen e)
+  pub hears : (now : ℕ) (b : Bool) (f : Flags) (c : Clocks) (p : Pushed) → b ≡ (isRunning (e .phase) && e .flags .«disconnect_notify_sent»)
       → f ≡ pick b (record { «disconnect_notify_sent» = false; «disconnect_event_sent» = e .flags .«disconnect_event_sent» }) (e .flags)
       → c ≡ heardAt now (e .clocks)
       → PushedAs (e .events) (hasRoom (held (e .events)) (length (pick b (resumption ∷ []) []))) (pick b (resumption ∷ []) []) p

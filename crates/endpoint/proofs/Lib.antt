@@ -27,7 +27,6 @@ pub mod Frames
 pub mod Sends
 pub mod Messages
 pub mod Datagrams
-pub mod Together
 pub mod Batches
 pub mod Runs
 pub mod Acts

@@ -1,14 +1,14 @@
 -- A packet's frames above the newest: those left when the known ones are skipped, announced one after another.
-use borrow.Author.Tests.{ltb-true, ltb-false, eq-eqb, ne-eqb}
+use borrow.Author.Tests.{lt-ltb, ltb-true, ltb-false, eq-eqb, ne-eqb}
 use mathlib.Core.Bool.{true, false}
-use mathlib.Core.List.{List, [], _∷_}
+use mathlib.Core.List.{List, [], _∷_, _++_}
 use mathlib.Core.Path.{_≡_, refl}
 use Prim.Native.Nat.{ℕ, zero, suc, _+_, _-_, _*_, _^_, _≤_, min}
 use native.Mathlib.Omega.{arith}
 use native.Mathlib.Numerals.{add-one}
 use native.Mathlib.Nat.{mul-le-mul-right, div-mul-le-self}
 use lib.Dec.{ltb}
-use lib.ListN.{length, take, drop}
+use lib.ListN.{length, take, drop, length-append}
 use Rattle.base.specs.Pick.{pick}
 use Rattle.base.specs.Keyed.{kept}
 use Rattle.packing.specs.Packing.{xors, frameCount, framesOf}
@@ -18,11 +18,10 @@ use Rattle.packing.proofs.Laws.{xors-length, frames-length, unpack-take, frames
 use Rattle.frame.specs.Bias.{nullFrame}
 use Rattle.history.specs.History.{newestOf, above, numbered, packetOf}
 use Rattle.events.specs.declared.Entry.{Entry}
-use Rattle.events.specs.declared.Event.the-variants.{Synchronized}
 use Rattle.events.specs.declared.Events.{Events}
 use Rattle.events.specs.declared.Pushed.{Pushed}
 use Rattle.events.specs.Events.{held, hasRoom, announcedAll, packetFits, PushedAs}
-use Rattle.events.proofs.Laws.{announced-padded, packet-fits, packet-length, not-pushed}
+use Rattle.events.proofs.Laws.{announced-padded, packet-fits, packet-length}
 use Rattle.protocol.specs.Receiving.{referenceFrame, announcedEach}
 
 -- k: how many are not above the newest
@@ -71,26 +70,35 @@ module _ (start w n : ℕ) (r p : List ℕ) (counts : n ≡ frameCount w (length
     pub skipped-within : k * w ≤ length p
     skipped-within = omega (arith, mul-le-mul-right {m = k} {n = frameCount w (length p)} w (omega arith), div-mul-le-self (length p) w)
 
-    module _ (size : ℕ) (hs : List ℕ) (e : Events) where
+    -- m: how many are above, f: the first of them, A: what is told ahead of them
+    module _ (size : ℕ) (hs : List ℕ) (e : Events) (A : List Entry) (m f : ℕ) (em : m ≡ n - k) (ef : f ≡ pick (ltb 0 m) (start + k) start) (hr : length r ≡ 64) where
       abbrev News : List Entry
       News = announcedEach size hs (above newest (packetOf start w r p))
 
-      pub nothing-new : k ≡ n → length (e .entries) ≡ 640 → PushedAs e (hasRoom (held e) (length News)) News (record { ok = true; events = e })
-      unfolding announcedEach numbered framesOf
-      nothing-new all long =
-          let z : n - k ≡ 0 = omega arith in
-          rw (above-packet, z) (not-pushed e false (record { event = Synchronized; input = [] }) refl long)
+      at-first : (j g : ℕ) → g ≡ pick (ltb 0 j) (start + k) start
+          → announcedAll (start + k) size hs (framesOf w r j (drop (k * w) p)) ≡ announcedAll g size hs (framesOf w r j (drop (k * w) p))
+      unfolding announcedAll framesOf
+      at-first zero g eg = refl
+      at-first (suc j) g eg = rw (eg, lt-ltb 0 (suc j) (omega arith))
 
-      pub news-pushed : length r ≡ 64 → (q : Pushed)
-          → PushedAs e (packetFits (held e) (start + k) (n - k) hs) (announcedAll (start + k) size hs (framesOf w r (n - k) (drop (k * w) p))) q
-          → PushedAs e (hasRoom (held e) (length News)) News q
-      news-pushed h q a =
-          rw (
-            above-packet,
-            each-frames size hs (start + k) w r (n - k) (drop (k * w) p) (omega arith),
-            packet-length (start + k) size w r hs (drop (k * w) p) (n - k),
-            ← packet-fits (held e) (start + k) (n - k) hs (omega arith),
-          ) a
+      news-are : News ≡ announcedAll f size hs (framesOf w r m (drop (k * w) p))
+      news-are = rw (above-packet, ← em, each-frames size hs (start + k) w r m (drop (k * w) p) (omega arith)) (at-first m f ef)
+
+      within-first : f + m ≤ 2 ^ 32
+      within-first =
+          elim (ltb 0 m) as (λ b. ltb 0 m ≡ b → f + m ≤ 2 ^ 32)
+          [ true ↦ λ t. let g : f ≡ start + k = rw t at ef in omega arith | false ↦ λ t. let g : f ≡ start = rw t at ef in omega (arith, ltb-false 0 m t) ]
+          refl
+
+      pub news-pushed : (q : Pushed)
+          → PushedAs e (packetFits (held e ++ A) f m hs) (A ++ announcedAll f size hs (framesOf w r m (drop (k * w) p))) q
+          → PushedAs e (hasRoom (held e) (length (A ++ News))) (A ++ News) q
+      unfolding hasRoom
+      news-pushed q a =
+          let all = announcedAll f size hs (framesOf w r m (drop (k * w) p)) in
+          let total : length (held e ++ A) + m * length hs ≡ length (held e) + length (A ++ all) =
+          omega (arith, length-append (held e) A, length-append A all, packet-length f size w r hs (drop (k * w) p) m) in
+          rw (news-are, ← total) (rw (packet-fits (held e ++ A) f m hs within-first) at a)
 
 -- the frame of the reference
 pub reference-blank : (start : ℕ) (l : List InputBytes) (newest : ℕ) → newest ≡ newestOf l → newest ≡ nullFrame → referenceFrame start l ≡ nullFrame

@@ -1,7 +1,7 @@
 -- The ways out of an Input that is not discarded: with inputs that cannot be read, and with inputs that can.
 use borrow.Author.Tests.{not-true, not-false}
 use mathlib.Core.Bool.{Bool, true, false}
-use mathlib.Core.List.{List, [], _∷_, _++_, append-nil, append-assoc}
+use mathlib.Core.List.{List, [], _∷_, _++_, append-nil}
 use mathlib.Core.Path.{_≡_, refl, sym, _∙_, ap}
 use Prim.Native.Nat.{ℕ, _+_, _^_, _≤_}
 use native.Mathlib.Omega.{arith}
@@ -23,7 +23,7 @@ use Rattle.timers.specs.Timers.{inputAt, sentAt}
 use Rattle.setup.specs.Setup.{termsOf, termsWith, receivingWidth}
 use Rattle.events.specs.declared.Entry.{Entry}
 use Rattle.events.specs.declared.Pushed.{Pushed}
-use Rattle.events.specs.Events.{held, hasRoom, PushedAs}
+use Rattle.events.specs.Events.{held, hasRoom, ahead, PushedAs}
 use Rattle.outbox.specs.declared.Queued.{Queued}
 use Rattle.outbox.specs.Outbox.{QueuedAs}
 use Rattle.protocol.specs.declared.Flags.{Flags}
@@ -36,14 +36,15 @@ use Rattle.protocol.specs.Receiving.{taken, receivedIf, receive, announcedEach,
 use Rattle.protocol.specs.Step.{heard, reacted}
 use Rattle.protocol.proofs.Laws.{by-hearing}
 use Rattle.endpoint.specs.declared.Endpoint.{Endpoint}
+use Rattle.endpoint.specs.declared.Sender.{Sender}
 use Rattle.endpoint.specs.declared.informing.Informed.{Informed}
 use Rattle.endpoint.specs.Endpoint.{seen, DidAs, DoneAs}
-use Rattle.endpoint.specs.Informed.{InformedAs}
+use Rattle.endpoint.specs.Sent.{sent}
 use Rattle.endpoint.specs.Readable.{Readable}
 use Rattle.endpoint.specs.News.{news}
 use Rattle.endpoint.proofs.Ends.{remade, refused-done, refused-did, done-done, queued-did}
 use Rattle.endpoint.proofs.Rooms.{full-events, room-none, full-buffer, room-one, reacted-full, reacted-done}
-use Rattle.endpoint.proofs.Informs.{room-first, room-second, informing, by-informing}
+use Rattle.endpoint.proofs.Informs.{Brought, informing, by-informing}
 
 -- inputs that cannot be read; b: whether their reference is held
 inputless : (now : ℕ) (b : Bool) (s : Seen) (sd : Seen.Sender) (c : Clocks) (f : Flags) (st : List ConnectionStatus) (t : List Entry)
@@ -62,29 +63,30 @@ module _ (e : Endpoint) (now ack : ℕ) (d : Bool) (reports : List StatusReport)
   pub inputless-out : Inputless Told .out ≡ []
   inputless-out = by-informing now ack d reports (seen e) (λ h. Inputless h .out ≡ []) (λ sd c f st t. rw (inputless now b (seen e) sd c f st t))
 
-  module _ (x : Informed) where
+  module _ (x : Informed) (p : Pushed) (ep : PushedAs (e .events) (hasRoom (held (e .events)) (length (ahead (x .resumes) (x .tells)))) (ahead (x .resumes) (x .tells)) p) where
     abbrev Unreadable : Endpoint → Answer → Effect → Type 0
-    Unreadable n a h = InformedAs e h x → DoneAs e (reacted 0 (seen e) (plainly (Inputless h))) (record { answer = a; endpoint = n })
+    Unreadable n a h = Brought h x → DoneAs e (reacted 0 (seen e) (plainly (Inputless h))) (record { answer = a; endpoint = n })
 
-    pub unreadable-full : x .ok ≡ false → Unreadable e Full Told
+    pub unreadable-full : p .ok ≡ false → Unreadable e Full Told
     unfolding seen
     unreadable-full k = by-informing now ack d reports (seen e) (Unreadable e Full) (λ sd c f st t i.
         rw (inputless now b (seen e) sd c f st t)
-        (refused-done e Full _ (reacted-full 0 (seen e) _ refl refl (full-events [] (informing (seen e) sd (pick b (inputAt now c) c) f st t) (sym (i .ok) ∙ k)))))
+        (refused-done e Full _ (reacted-full 0 (seen e) _ refl refl (full-events [] (informing (seen e) sd (pick b (inputAt now c) c) f st t) (rw (i .told) (sym (ep .ok) ∙ k))))))
 
-    pub unreadable-done : (c′ : Clocks) → x .ok ≡ true → c′ ≡ pick b (inputAt now (x .clocks)) (x .clocks)
-        → Unreadable (remade e (x .sender) (e .history) (e .phase) (e .sync) c′ (x .flags) (e .quality) (x .statuses) (e .checksums) (x .events) (e .queued)) Done Told
+    pub unreadable-done : (c′ : Clocks) (sender : Sender) → p .ok ≡ true → c′ ≡ pick b (inputAt now (x .clocks)) (x .clocks) → sent sender ≡ Told .state .carried .sender
+        → Unreadable (remade e sender (e .history) (e .phase) (e .sync) c′ (x .flags) (e .quality) (x .statuses) (e .checksums) (p .events) (e .queued)) Done Told
     unfolding seen
-    unreadable-done c′ k ec = by-informing now ack d reports (seen e) (Unreadable _ Done) (λ sd c f st t i.
+    unreadable-done c′ sender k ec = by-informing now ack d reports (seen e) (λ h. sent sender ≡ h .state .carried .sender → Unreadable (remade e sender (e .history) (e .phase) (e .sync) c′ (x .flags) (e .quality) (x .statuses) (e .checksums) (p .events) (e .queued)) Done h) (λ sd c f st t es i.
         let y : Effect = informing (seen e) sd (pick b (inputAt now c) c) f st t in
+        let told : held (p .events) ≡ held (e .events) ++ t = rw (i .told) (rw (← ep .ok, k) at (ep .view)) in
         rw (inputless now b (seen e) sd c f st t)
-        (done-done e _ y _ (reacted-done 0 (seen e) _ refl refl refl (room-none [] y refl (sym (i .ok) ∙ k))) refl
-        (rw (ec, i .sender, i .clocks, i .flags, i .statuses, i .events k))))
+        (done-done e _ y _ (reacted-done 0 (seen e) _ refl refl refl (room-none [] y refl (rw (i .told) (sym (ep .ok) ∙ k)))) refl
+        (rw (ec, es, i .clocks, i .flags, i .statuses, told))))
 
 -- inputs that can be read
 module _ (e : Endpoint) (buffer : List ℕ) (now ack start : ℕ) (d : Bool) (reports : List StatusReport) (payload : List ℕ) (reference : InputBytes)
     (readable : Readable (seen e) start payload reference) (x : Informed)
-    (ex : InformedAs e (informed d reports (change (acknowledged ack) (heard now (seen e)))) x) where
+    (ex : Brought (informed d reports (change (acknowledged ack) (heard now (seen e)))) x) where
   abbrev Packet : List InputBytes
   Packet = packetOf start (receivingWidth (termsOf (e .setup))) (reference .bytes) payload
 
@@ -112,7 +114,7 @@ module _ (e : Endpoint) (buffer : List ℕ) (now ack start : ℕ) (d : Bool) (re
   Took n a b′ h = DidAs e (reacted (length buffer) (seen e) (plainly h)) buffer (record { answer = a; endpoint = n }) b′
 
   abbrev Readably : Endpoint → Answer → List ℕ → Effect → Type 0
-  Readably n a b′ h = InformedAs e h x → Took n a b′ (Taking h)
+  Readably n a b′ h = Brought h x → Took n a b′ (Taking h)
 
   readably : (n : Endpoint) (a : Answer) (b′ : List ℕ)
       → ((sd : Seen.Sender) (c : Clocks) (f : Flags) (st : List ConnectionStatus) (t : List Entry) → Readably n a b′ (informing (seen e) sd c f st t))
@@ -122,22 +124,13 @@ module _ (e : Endpoint) (buffer : List ℕ) (now ack start : ℕ) (d : Bool) (re
   abbrev Ending : Endpoint → Answer → List ℕ → Type 0
   Ending n a b′ = Took n a b′ (inputTaken now d start ack reports payload (heard now (seen e)))
 
-  pub readable-untold : x .ok ≡ false → Ending e Full buffer
-  unfolding gotten taken queueWire seen termsWith
-  readable-untold k =
-      readably e Full buffer (λ sd c f st t i.
-      refused-did e Full _ (reacted-full (length buffer) (seen e) _ refl refl (full-events buffer (Taking (informing (seen e) sd c f st t)) (room-first (held (e .events)) t News (sym (i .ok) ∙ k)))) buffer)
-
-  module _ (ok : x .ok ≡ true) (p : Pushed) (ep : PushedAs (x .events) (hasRoom (held (x .events)) (length News)) News p) where
-    room : (t : List Entry) (m : List Entry) → m ≡ held (e .events) ++ t → hasRoom m (length News) ≡ hasRoom (held (e .events)) (length (t ++ News))
-    room t m h = rw (h, room-second (held (e .events)) t News)
-
+  module _ (p : Pushed) (ep : PushedAs (e .events) (hasRoom (held (e .events)) (length (ahead (x .resumes) (x .tells) ++ News))) (ahead (x .resumes) (x .tells) ++ News) p) where
     pub readable-unannounced : p .ok ≡ false → Ending e Full buffer
     unfolding gotten taken queueWire seen termsWith
     readable-unannounced k =
         readably e Full buffer (λ sd c f st t i.
         refused-did e Full _ (reacted-full (length buffer) (seen e) _ refl refl
-        (full-events buffer (Taking (informing (seen e) sd c f st t)) (sym (room t (held (x .events)) (i .events ok)) ∙ sym (ep .ok) ∙ k))) buffer)
+        (full-events buffer (Taking (informing (seen e) sd c f st t)) (rw (i .told) (sym (ep .ok) ∙ k)))) buffer)
 
     module _ (announced : p .ok ≡ true) (h′ : History) (eh : received h′ ≡ Stored) (newest : ℕ) (en : newest ≡ newestOf (received h′)) (q : Queued) (b′ : List ℕ)
         (eq : QueuedAs buffer (e .queued) (plain (e .setup .magic) (InputAck newest)) q b′) where
@@ -154,15 +147,16 @@ module _ (e : Endpoint) (buffer : List ℕ) (now ack start : ℕ) (d : Bool) (re
           refused-did e Full _ (reacted-full (length buffer) (seen e) _ refl refl
           (full-buffer buffer (Taking (informing (seen e) sd c f st t)) (plain (e .setup .magic) (InputAck newest)) (omega arith) acked (not-false _ (sym (eq .ok) ∙ k)))) buffer))
 
-      pub readable-done : (c′ : Clocks) → q .ok ≡ true → c′ ≡ sentAt now (inputAt now (x .clocks))
-          → Ending (remade e (x .sender) h′ (e .phase) (e .sync) c′ (x .flags) (e .quality) (x .statuses) (e .checksums) (p .events) (q .end)) Done b′
+      pub readable-done : (c′ : Clocks) (sender : Sender) → q .ok ≡ true → c′ ≡ sentAt now (inputAt now (x .clocks))
+          → sent sender ≡ informed d reports (change (acknowledged ack) (heard now (seen e))) .state .carried .sender
+          → Ending (remade e sender h′ (e .phase) (e .sync) c′ (x .flags) (e .quality) (x .statuses) (e .checksums) (p .events) (q .end)) Done b′
       unfolding gotten taken queueWire seen termsWith
-      readable-done c′ k ec =
-          readably _ Done b′ (λ sd c f st t i.
+      readable-done c′ sender k ec es =
+          rw taking (by-informing now ack d reports (seen e) (λ h. sent sender ≡ h .state .carried .sender → Readably (remade e sender h′ (e .phase) (e .sync) c′ (x .flags) (e .quality) (x .statuses) (e .checksums) (p .events) (q .end)) Done b′ h) (λ sd c f st t es i.
           let y : Effect = Taking (informing (seen e) sd c f st t) in
-          let told : held (p .events) ≡ held (e .events) ++ (t ++ News) = (rw (← ep .ok, announced) at (ep .view)) ∙ rw (i .events ok, append-assoc) in
+          let told : held (p .events) ≡ held (e .events) ++ (t ++ News) = rw (i .told) (rw (← ep .ok, announced) at (ep .view)) in
           queued-did e _ y _
           (reacted-done (length buffer) (seen e) _ refl refl refl
-          (room-one buffer y (plain (e .setup .magic) (InputAck newest)) (omega arith) acked (sym (room t (held (x .events)) (i .events ok)) ∙ sym (ep .ok) ∙ announced) (not-true _ (sym (eq .ok) ∙ k))))
+          (room-one buffer y (plain (e .setup .magic) (InputAck newest)) (omega arith) acked (rw (i .told) (sym (ep .ok) ∙ announced)) (not-true _ (sym (eq .ok) ∙ k))))
           (plain (e .setup .magic) (InputAck newest)) acked buffer b′ q eq k refl
-          (rw (ec, i .sender, i .clocks, i .flags, i .statuses, eh, told)))
+          (rw (ec, es, i .clocks, i .flags, i .statuses, eh, told))) es ex)

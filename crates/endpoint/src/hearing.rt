@@ -1,8 +1,9 @@
 // What every message that is not ignored brings: the receive time, and in Running the end of an announced interruption.
 ghost use mathlib.Core.Path.{_≡_};
-ghost use mathlib.Core.Bool.{false};
+ghost use mathlib.Core.Bool.{false, _&&_};
 ghost use Rattle.base.specs.Pick.{pick};
-ghost use Rattle.protocol.specs.Step.{heard, resumes, reacted};
+ghost use Rattle.protocol.specs.Seen.{isRunning};
+ghost use Rattle.protocol.specs.Step.{heard, reacted};
 ghost use Rattle.protocol.specs.Handshake.{plainly};
 ghost use Rattle.endpoint.specs.Endpoint.{seen, DoneAs};
 ghost use Rattle.endpoint.specs.Heard.{HeardAs};
@@ -24,7 +25,17 @@ pub struct Heard {
     pub events: Events,
 }
 
-fn resumed_flags(flags: Flags, resumes: bool) -> Flags
+// Whether a message ends an announced interruption.
+pub(crate) fn is_resuming(phase: Phase, flags: Flags) -> bool
+    ensures { λ r. ⌜ r ≡ (isRunning phase && flags .«disconnect_notify_sent») ⌝ }
+{
+    let Phase::Running = phase else {
+        return false;
+    };
+    flags.disconnect_notify_sent
+}
+
+pub(crate) fn resumed_flags(flags: Flags, resumes: bool) -> Flags
     ensures { λ r. ⌜ r ≡ pick resumes (record { «disconnect_notify_sent» = false; «disconnect_event_sent» = flags .«disconnect_event_sent» }) flags ⌝ }
 {
     if resumes {
@@ -37,20 +48,11 @@ fn resumed_flags(flags: Flags, resumes: bool) -> Flags
 }
 
 impl Endpoint {
-    fn is_resuming(self) -> bool
-        ensures { λ r. ⌜ r ≡ resumes (seen self) ⌝ }
-    {
-        let phase = self.phase;
-        let Phase::Running = phase else {
-            return false;
-        };
-        self.flags.disconnect_notify_sent
-    }
-
     pub(crate) fn hear(self, now: u64) -> Heard
         ensures { λ r. ⌜ HeardAs self (heard now (seen self)) r ⌝ }
     {
-        let resumes = self.is_resuming();
+        let phase = self.phase;
+        let resumes = is_resuming(phase, self.flags);
         let pushed = self.events.push_if(
             resumes,
             Entry {

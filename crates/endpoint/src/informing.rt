@@ -1,4 +1,4 @@
-// What an Input brings besides inputs: an acknowledgement, and either the other end's statuses or its request to disconnect.
+// What an Input brings besides inputs and an acknowledgement: either the other end's statuses or its request to disconnect.
 ghost use mathlib.Core.Path.{_≡_};
 ghost use mathlib.Core.Bool.{true, not, _&&_};
 ghost use mathlib.Core.List.{map};
@@ -8,31 +8,21 @@ ghost use Rattle.status.specs.Statuses.{held, mergedAll};
 ghost use Rattle.codec.specs.Message.{listed};
 ghost use Rattle.codec.specs.declared.StatusReport.{StatusReport};
 ghost use Rattle.protocol.specs.Seen.{isDisconnected};
-ghost use Rattle.protocol.specs.Did.{change};
-ghost use Rattle.protocol.specs.Sending.{acknowledged};
-ghost use Rattle.protocol.specs.Receiving.{informed};
-ghost use Rattle.protocol.specs.Step.{heard};
-ghost use Rattle.endpoint.specs.Endpoint.{seen};
 ghost use Rattle.endpoint.specs.Informed.{InformedAs};
-use crate::Endpoint;
-use crate::Sender;
+use crate::hearing;
 use codec::StatusReports;
-use events::Entry;
-use events::Event;
-use events::Events;
 use protocol::Flags;
 use protocol::Phase;
 use status::Statuses;
 use timers::Clocks;
 
-// The parts of an endpoint that an Input changes whatever inputs it brings; `ok` where its events fit.
+// The plain parts of an endpoint that an Input changes whatever inputs it brings, and what it tells ahead of them.
 pub struct Informed {
-    pub ok: bool,
-    pub sender: Sender,
+    pub resumes: bool,
+    pub tells: bool,
     pub clocks: Clocks,
     pub flags: Flags,
     pub statuses: Statuses,
-    pub events: Events,
 }
 
 fn merge_reports(statuses: Statuses, reports: StatusReports) -> Statuses
@@ -87,38 +77,25 @@ fn told_flags(flags: Flags, tells: bool) -> Flags
     flags
 }
 
-impl Endpoint {
-    pub(crate) fn inform(
-        self,
-        disconnect_requested: bool,
-        ack_frame: u32,
-        reports: StatusReports,
-        now: u64,
-    ) -> Informed
-        ensures { λ r. ⌜ InformedAs self (informed «disconnect_requested» (listed reports) (change (acknowledged «ack_frame») (heard now (seen self)))) r ⌝ }
-    {
-        let heard = self.hear(now);
-        let phase = self.phase;
-        let tells = tells_disconnect(disconnect_requested, phase, heard.flags);
-        let pushed = heard.events.push_if(
-            tells,
-            Entry {
-                event: Event::Disconnected,
-                input: [0u8; 16],
-            },
-        );
-        let sender = self.sender.acknowledged(ack_frame);
-        let clocks = heard.clocks;
-        let flags = told_flags(heard.flags, tells);
-        let statuses = informed_statuses(self.statuses, disconnect_requested, reports);
-        let events = pushed.events;
-        Informed {
-            ok: heard.ok & pushed.ok,
-            sender,
-            clocks,
-            flags,
-            statuses,
-            events,
-        }
+pub(crate) fn inform(
+    phase: Phase,
+    clocks: Clocks,
+    flags: Flags,
+    statuses: Statuses,
+    disconnect_requested: bool,
+    reports: StatusReports,
+    now: u64,
+) -> Informed
+    ensures { λ r. ⌜ InformedAs phase clocks flags (held statuses) «disconnect_requested» (listed reports) now r ⌝ }
+{
+    let resumes = hearing::is_resuming(phase, flags);
+    let resumed = hearing::resumed_flags(flags, resumes);
+    let tells = tells_disconnect(disconnect_requested, phase, resumed);
+    Informed {
+        resumes,
+        tells,
+        clocks: clocks.heard(now),
+        flags: told_flags(resumed, tells),
+        statuses: informed_statuses(statuses, disconnect_requested, reports),
     }
 }

@@ -1,12 +1,14 @@
 // The packet of an Input: the reference that it is packed against, and its frames that are news.
+ghost use mathlib.Core.List.{_++_};
 ghost use mathlib.Core.Path.{_≡_};
 ghost use Prim.Native.Nat.{suc, _+_, _-_, _*_, _^_, _<_, _≤_, min};
 ghost use lib.Dec.{ltb};
 ghost use lib.ListN.{length};
+ghost use Rattle.base.specs.Pick.{pick};
 ghost use Rattle.packing.specs.Packing.{frameCount};
 ghost use Rattle.history.specs.History.{received, foundIn};
 ghost use Rattle.setup.specs.Setup.{termsOf, receivingWidth};
-ghost use Rattle.events.specs.Events.{held, hasRoom, PushedAs};
+ghost use Rattle.events.specs.Events.{held, hasRoom, ahead, PushedAs};
 ghost use Rattle.protocol.specs.Receiving.{referenceFrame};
 ghost use Rattle.endpoint.specs.News.{news};
 use events::Events;
@@ -59,9 +61,22 @@ fn known(newest: u32, start_frame: u32, count: u32) -> u32
     if behind < count { behind + 1 } else { count }
 }
 
-// Announces each frame above the newest, where all have room.
+// The first of those above; where there are none, any frame does.
+fn first_new(start_frame: u32, skip: u32, count: u32) -> u32
+    requires { ⌜ «start_frame» + skip + count ≤ 2 ^ 32 ⌝ }
+    ensures { λ r. ⌜ r ≡ pick (ltb 0 count) («start_frame» + skip) «start_frame» ⌝ }
+{
+    if 0 < count {
+        return start_frame + skip;
+    }
+    start_frame
+}
+
+// Tells what an Input tells: the end of an interruption, a disconnect, and each frame above the newest; where not all have room, unchanged.
 pub(crate) fn announce(
     events: Events,
+    resumed: bool,
+    disconnected: bool,
     newest: u32,
     start_frame: u32,
     payload: &[u8],
@@ -69,20 +84,20 @@ pub(crate) fn announce(
     setup: Setup,
 ) -> Pushed
     requires { ⌜ (0 < «start_frame») × («start_frame» + frameCount (receivingWidth (termsOf setup)) (length (now payload)) ≤ 2 ^ 32) ⌝ }
-    ensures { λ r. ⌜ PushedAs events (hasRoom (held events) (length (news setup newest «start_frame» reference (now (payload .entry)))))
-        (news setup newest «start_frame» reference (now (payload .entry))) r ⌝ }
+    ensures { λ r. ⌜ PushedAs events (hasRoom (held events) (length (ahead resumed disconnected ++ news setup newest «start_frame» reference (now (payload .entry)))))
+        (ahead resumed disconnected ++ news setup newest «start_frame» reference (now (payload .entry))) r ⌝ }
 {
     let width = setup.receiving_width();
     let count = packing::frame_count(payload.len(), width);
     let skip = known(newest, start_frame, count as u32);
-    if skip as usize == count {
-        return Pushed { ok: true, events };
-    }
+    let more = count as u32 - skip;
     let handles = setup.handles;
     let list = handles.list;
     events.push_packet(
-        start_frame + skip,
-        count as u32 - skip,
+        resumed,
+        disconnected,
+        first_new(start_frame, skip, more),
+        more,
         payload,
         skip as usize * width,
         width,

@@ -107,7 +107,7 @@ pub(crate) fn tell(events: Events, due: Due, disconnect_timeout: u64, notify_sta
     ensures { λ r. ⌜ PushedAs events (hasRoom (held events) (length (toldBy due («disconnect_timeout» - «notify_start»)))) (toldBy due («disconnect_timeout» - «notify_start»)) r ⌝ }
 {
     let left = left_of(disconnect_timeout, notify_start);
-    let first = events.push_if(
+    events.push_both(
         due.interruption,
         Entry {
             event: Event::NetworkInterrupted {
@@ -115,20 +115,10 @@ pub(crate) fn tell(events: Events, due: Due, disconnect_timeout: u64, notify_sta
             },
             input: [0u8; 16],
         },
-    );
-    if !first.ok {
-        return Pushed { ok: false, events };
-    }
-    let interrupted = first.events;
-    let second = interrupted.push_if(
         due.disconnect,
         Entry {
             event: Event::Disconnected,
             input: [0u8; 16],
         },
-    );
-    if !second.ok {
-        return Pushed { ok: false, events };
-    }
-    second
+    )
 }

@@ -19,10 +19,13 @@ ghost use Rattle.endpoint.specs.Endpoint.{seen, DidAs, DoneAs};
 ghost use Rattle.endpoint.specs.Readable.{Readable};
 use crate::Ended;
 use crate::Endpoint;
+use crate::informing;
 use crate::packet;
 use answer::Answer;
 use codec::MessageBody;
 use codec::StatusReports;
+use events::Entry;
+use events::Event;
 use frame::BIAS32;
 use packing::InputBytes;
 use timers::Clocks;
@@ -66,18 +69,39 @@ impl Endpoint {
     ) -> Ended
         ensures { λ r. ⌜ DoneAs self (reacted 0 (seen self) (plainly (gotten now (receivedIf held false 0 [] (seen self .carried .receiver)) (informed «disconnect_requested» (listed reports) (change (acknowledged «ack_frame») (heard now (seen self))))))) r ⌝ }
     {
-        let informed = self.inform(disconnect_requested, ack_frame, reports, now);
-        if !informed.ok {
+        let phase = self.phase;
+        let informed = informing::inform(
+            phase,
+            self.clocks,
+            self.flags,
+            self.statuses,
+            disconnect_requested,
+            reports,
+            now,
+        );
+        let told = self.events.push_both(
+            informed.resumes,
+            Entry {
+                event: Event::NetworkResumed,
+                input: [0u8; 16],
+            },
+            informed.tells,
+            Entry {
+                event: Event::Disconnected,
+                input: [0u8; 16],
+            },
+        );
+        if !told.ok {
             return Ended {
                 answer: Answer::Full,
                 endpoint: self,
             };
         }
-        let sender = informed.sender;
+        let sender = self.sender.acknowledged(ack_frame);
         let clocks = noted(informed.clocks, held, now);
         let flags = informed.flags;
         let statuses = informed.statuses;
-        let events = informed.events;
+        let events = told.events;
         Ended {
             answer: Answer::Done,
             endpoint: Endpoint {
@@ -106,17 +130,22 @@ impl Endpoint {
         requires { ⌜ (0 < «start_frame») × Readable (seen self) «start_frame» (payload .now) reference ⌝ }
         ensures { λ r. ⌜ DidAs self (reacted (length (out .entry .now)) (seen self) (plainly (inputTaken now «disconnect_requested» «start_frame» «ack_frame» (listed reports) (payload .entry .now) (heard now (seen self))))) (out .entry .now) r (out .exit .now) ⌝ }
     {
-        let informed = self.inform(disconnect_requested, ack_frame, reports, now);
-        if !informed.ok {
-            return Ended {
-                answer: Answer::Full,
-                endpoint: self,
-            };
-        }
+        let phase = self.phase;
+        let informed = informing::inform(
+            phase,
+            self.clocks,
+            self.flags,
+            self.statuses,
+            disconnect_requested,
+            reports,
+            now,
+        );
         let newest = self.history.newest();
         let bytes = reference.bytes;
         let told = packet::announce(
-            informed.events,
+            self.events,
+            informed.resumes,
+            informed.tells,
             newest,
             start_frame,
             payload,
@@ -151,7 +180,7 @@ impl Endpoint {
                 endpoint: self,
             };
         }
-        let sender = informed.sender;
+        let sender = self.sender.acknowledged(ack_frame);
         let clocks = informed.clocks.input_received(now).sent(now);
         let flags = informed.flags;
         let statuses = informed.statuses;

@@ -5,13 +5,13 @@ use mathlib.Core.List.{List, [], _∷_, _++_, append-nil, append-assoc}
 use mathlib.Core.Path.{_≡_, refl, sym, _∙_, ap}
 use Prim.Native.Nat.{ℕ, suc, _+_, _-_, _*_, _^_, _<_, _≤_, min}
 use native.Mathlib.Omega.{arith}
-use native.Mathlib.Nat.{zero-mul, suc-mul}
+use native.Mathlib.Nat.{zero-mul, suc-mul, add-zero}
 use native.Mathlib.Numerals.{add-one}
 use lib.Dec.{leb}
-use lib.ListN.{length, take, drop, set, getD, replicate, length-replicate, length-take, length-drop, length-append, drop-of-length-le}
-use lib.Seq.{drop-cons, drop-drop, getD-take, getD-drop, take-all}
+use lib.ListN.{length, take, drop, set, getD, replicate, length-replicate, length-take, length-drop, length-append, length-set, drop-of-length-le}
+use lib.Seq.{take-suc-set, drop-cons, drop-drop, getD-take, getD-drop, take-all}
 use Rattle.base.specs.Pick.{pick}
-use Rattle.base.proofs.Arrays.{drop-replicate, view-le}
+use Rattle.base.proofs.Arrays.{drop-replicate, view-le, take-count}
 use Rattle.base.proofs.Kept.{next-turn}
 use Rattle.base.proofs.Padded.{take-join, drop-join, take-alike, pad-over, pad-more}
 use Rattle.packing.specs.Packing.{xors, framesOf}
@@ -21,7 +21,7 @@ use Rattle.events.specs.declared.Entry.{Entry}
 use Rattle.events.specs.declared.Event.the-variants as Event
 use Rattle.events.specs.declared.Events.{Events}
 use Rattle.events.specs.declared.Pushed.{Pushed}
-use Rattle.events.specs.Events.{held, hasRoom, inputOf, inputEntry, announced, announcedAll, packetFits, PushedAs}
+use Rattle.events.specs.Events.{held, hasRoom, both, inputOf, inputEntry, announced, announcedAll, packetFits, PushedAs}
 
 unfoldable pub zeros : List ℕ
 zeros = replicate 16 0
@@ -101,10 +101,10 @@ announcedAll-length frame size hs (bytes ∷ fs) =
     length-append (announced frame size bytes hs) (announcedAll (frame + 1) size hs fs)
     ∙ rw (announced-length frame size bytes hs, announcedAll-length (frame + 1) size hs fs, suc-mul) (omega arith)
 
--- two tests that both hold
-pub both : (x y : Bool) → pick x y false ≡ true → (x ≡ true) × (y ≡ true)
-both true y e = (refl, e)
-both false y e = (cc, cc)
+-- two tests that hold
+pub each : (x y : Bool) → pick x y false ≡ true → (x ≡ true) × (y ≡ true)
+each true y e = (refl, e)
+each false y e = (cc, cc)
 
 -- a loop that goes through a packet's frames, over the entries l before this turn: a turn, the end, and the room that is left
 module _ (frame size w : ℕ) (r hs p : List ℕ) (count k : ℕ) (l T : List Entry) where
@@ -146,6 +146,49 @@ packet-fits l frame count hs h = rw (le-leb (frame + count) (2 ^ 32) h)
 
 pub packet-length : (frame size w : ℕ) (r hs p : List ℕ) (count : ℕ) → length (announcedAll frame size hs (framesOf w r count p)) ≡ count * length hs
 packet-length frame size w r hs p count = announcedAll-length frame size hs (framesOf w r count p) ∙ rw (frames-length w r count p)
+
+-- a store that is written behind what was held at first, up to a place: as it begins, and with one more
+pub record Behind (l : List Entry) (more : List Entry) (entries : List Entry) (to : ℕ) : Type 0 where
+  pub view : take to entries ≡ l ++ more
+  pub long : length entries ≡ 640
+  pub place : to ≡ length l + length more
+
+pub behind-none : (e : Events) (n : ℕ) → n ≡ length (held e) → length (e .entries) ≡ 640 → Behind (held e) [] (e .entries) n
+unfolding held
+behind-none e n h l = record { view = rw (append-nil, h, ← take-count (e .used) (e .entries)); long = l; place = h ∙ sym (add-zero _) }
+
+pub behind-one : (l more entries : List Entry) (to : ℕ) (x : Entry) → to < 640 → Behind l more entries to → Behind l (more ++ x ∷ []) (set entries to x) (to + 1)
+behind-one l more entries to x h b =
+    record {
+      view = rw (add-one, take-suc-set entries to x (omega (arith, b .long)), b .view, append-assoc);
+      long = rw length-set (b .long);
+      place = rw (length-append more (x ∷ [])) (omega (arith, b .place));
+    }
+
+pub pushed-behind : (e : Events) (more entries : List Entry) (to : ℕ) → length (held e) + length more ≤ 640 → Behind (held e) more entries to
+    → PushedAs e (hasRoom (held e) (length more)) more (record { ok = true; events = record { entries = entries; used = to } })
+unfolding hasRoom held
+pushed-behind e more entries to h b =
+    let t = le-leb (length (held e) + length more) 640 h in record { ok = sym t; view = rw t (b .view); same = λ q. cc }
+
+-- how many events there are to tell
+pub told-most : (b : Bool) → pick b 1 0 ≤ 1
+told-most true = omega arith
+told-most false = omega arith
+
+pub told-one : (b : Bool) (m : ℕ) → b ≡ true → m ≡ pick b 1 0 → m ≡ 1
+told-one b m h e = rw h at e
+
+pub told-length : (b : Bool) (x : Entry) → length (pick b (x ∷ []) []) ≡ pick b 1 0
+told-length true x = refl
+told-length false x = refl
+
+pub both-length : (first : Bool) (one : Entry) (second : Bool) (other : Entry) → length (both first one second other) ≡ pick first 1 0 + pick second 1 0
+unfolding both
+both-length true one true other = refl
+both-length true one false other = refl
+both-length false one true other = refl
+both-length false one false other = refl
 
 -- one event, told or not
 module _ (e : Events) (tells : Bool) (entry : Entry) where

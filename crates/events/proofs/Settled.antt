@@ -1,6 +1,6 @@
 -- Two answers that a contract allows are equal, by name for each public function: stores up to what their array holds past the count.
 use mathlib.Core.Bool.{Bool}
-use mathlib.Core.List.{List, [], _∷_}
+use mathlib.Core.List.{List, [], _∷_, _++_}
 use mathlib.Core.Path.{_≡_, sym, _∙_}
 use Prim.Native.Nat.{ℕ}
 use lib.ListN.{length, take, drop, getD}
@@ -10,7 +10,7 @@ use Rattle.packing.specs.Packing.{framesOf}
 use Rattle.events.specs.declared.Entry.{Entry}
 use Rattle.events.specs.declared.Events.{Events}
 use Rattle.events.specs.declared.Pushed.{Pushed}
-use Rattle.events.specs.Events.{held, hasRoom, blankEntry, announcedAll, packetFits, PushedAs}
+use Rattle.events.specs.Events.{held, hasRoom, both, ahead, blankEntry, announcedAll, packetFits, PushedAs}
 
 pub new-settled : (r s : Events) → held r ≡ [] → held s ≡ [] → held r ≡ held s
 new-settled = settled held []
@@ -37,12 +37,16 @@ module _ (e : Events) where
       → PushedAs e (hasRoom (held e) (length (pick tells (x ∷ []) []))) (pick tells (x ∷ []) []) s → (r .ok ≡ s .ok) × (held (r .events) ≡ held (s .events))
   push-if-settled tells x = pushed-settled (hasRoom (held e) (length (pick tells (x ∷ []) []))) (pick tells (x ∷ []) [])
 
-  module _ (frame count : ℕ) (payload : List ℕ) (at width : ℕ) (reference handles : List ℕ) (handleCount size : ℕ) where
+  pub push-both-settled : (first : Bool) (one : Entry) (second : Bool) (other : Entry) (r s : Pushed) → PushedAs e (hasRoom (held e) (length (both first one second other))) (both first one second other) r
+      → PushedAs e (hasRoom (held e) (length (both first one second other))) (both first one second other) s → (r .ok ≡ s .ok) × (held (r .events) ≡ held (s .events))
+  push-both-settled first one second other = pushed-settled (hasRoom (held e) (length (both first one second other))) (both first one second other)
+
+  module _ (resumed disconnected : Bool) (frame count : ℕ) (payload : List ℕ) (at width : ℕ) (reference handles : List ℕ) (handleCount size : ℕ) where
     abbrev pub packetAble : Bool
-    packetAble = packetFits (held e) frame count (take handleCount handles)
+    packetAble = packetFits (held e ++ ahead resumed disconnected) frame count (take handleCount handles)
 
     abbrev pub packetEvents : List Entry
-    packetEvents = announcedAll frame size (take handleCount handles) (framesOf width reference count (drop at payload))
+    packetEvents = ahead resumed disconnected ++ announcedAll frame size (take handleCount handles) (framesOf width reference count (drop at payload))
 
     pub push-packet-settled : (r s : Pushed) → PushedAs e packetAble packetEvents r → PushedAs e packetAble packetEvents s
         → (r .ok ≡ s .ok) × (held (r .events) ≡ held (s .events))

@@ -1,5 +1,5 @@
 -- The events held, and how frames are announced (document 01, Input: "announce each frame above the newest, once per handle ascending").
-use mathlib.Core.Bool.{Bool, false}
+use mathlib.Core.Bool.{Bool, true, false}
 use mathlib.Core.List.{List, [], _∷_, _++_}
 use mathlib.Core.Path.{_≡_, refl}
 use Prim.Native.Nat.{ℕ, _+_, _-_, _*_, _^_}
@@ -9,6 +9,7 @@ use Rattle.base.specs.Pick.{pick}
 use Rattle.events.specs.declared.Entry.{Entry}
 use Rattle.events.specs.declared.Events.{Events}
 use Rattle.events.specs.declared.Pushed.{Pushed}
+use Rattle.events.specs.declared.Event.{Event}
 use Rattle.events.specs.declared.Event.the-variants as Event
 
 -- the events held, oldest first; a count beyond the array is the array's length
@@ -24,8 +25,19 @@ unfoldable pub inputOf : List ℕ → List ℕ
 inputOf bytes = take 16 bytes ++ replicate (16 - length bytes) 0
 
 -- an event that has no input
+abbrev pub plain : Event → Entry
+plain e = record { event = e; input = replicate 16 0 }
+
 unfoldable pub blankEntry : Entry
-blankEntry = record { event = Event.Synchronized; input = replicate 16 0 }
+blankEntry = plain Event.Synchronized
+
+-- two events in their order, each where it is told
+unfoldable pub both : Bool → Entry → Bool → Entry → List Entry
+both first one second other = pick first (one ∷ []) [] ++ pick second (other ∷ []) []
+
+-- what an Input may tell ahead of its inputs
+unfoldable pub ahead : (resumed disconnected : Bool) → List Entry
+ahead resumed disconnected = both resumed (plain Event.NetworkResumed) disconnected (plain Event.Disconnected)
 
 -- one player's input of a frame
 unfoldable pub inputEntry : (frame player : ℕ) → List ℕ → Entry
@@ -60,3 +72,12 @@ frame-example = refl
 packet-example : announcedAll 7 1 (1 ∷ []) ((5 ∷ []) ∷ (7 ∷ []) ∷ []) ≡ inputEntry 7 1 (5 ∷ []) ∷ inputEntry 8 1 (7 ∷ []) ∷ []
 unfolding announced announcedAll
 packet-example = refl
+
+-- worked: of two events the first alone, and both in their order
+first-example : both true (plain Event.NetworkResumed) false (plain Event.Disconnected) ≡ plain Event.NetworkResumed ∷ []
+unfolding both
+first-example = refl
+
+ahead-example : ahead true true ≡ plain Event.NetworkResumed ∷ plain Event.Disconnected ∷ []
+unfolding ahead both
+ahead-example = refl

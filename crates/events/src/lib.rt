@@ -1,13 +1,13 @@
 // The events that wait to be taken, oldest first. An event's input stands beside the event: an enum holds no bytes.
 ghost use mathlib.Core.Path.{_≡_};
-ghost use mathlib.Core.List.{[], _∷_};
+ghost use mathlib.Core.List.{[], _∷_, _++_};
 ghost use Prim.Native.Nat.{_+_, _*_, _^_, _≤_, min};
 ghost use mathlib.Core.Bool.{false};
 ghost use lib.Dec.{leb};
 ghost use Rattle.base.specs.Pick.{pick};
 ghost use Rattle.packing.specs.Packing.{framesOf};
 ghost use lib.ListN.{length, take, drop, getD};
-ghost use Rattle.events.specs.Events.{held, hasRoom, inputEntry, announcedAll, packetFits, blankEntry, PushedAs};
+ghost use Rattle.events.specs.Events.{held, hasRoom, inputEntry, announcedAll, packetFits, blankEntry, both, ahead, PushedAs};
 
 pub enum Event {
     Synchronizing { total: u32, count: u32 },
@@ -66,9 +66,16 @@ fn input_entry(frame: u32, player: u32, bytes: [u8; 64], at: usize, size: usize)
     }
 }
 
+// How many events there are to tell.
+fn told(tells: bool) -> usize
+    ensures { λ r. ⌜ r ≡ pick tells 1 0 ⌝ }
+{
+    if tells { 1 } else { 0 }
+}
+
 // Whether a packet's events fit behind `used`, and its frames' numbers are frames.
 fn packet_fits(used: usize, frame: u32, count: u32, players: usize) -> bool
-    requires { ⌜ (used ≤ 640) × (players ≤ 4) ⌝ }
+    requires { ⌜ (used ≤ 642) × (players ≤ 4) ⌝ }
     ensures { λ r. ⌜ r ≡ pick (leb (frame + count) (2 ^ 32)) (leb (used + count * players) 640) false ⌝ }
 {
     if 0x1_0000_0000 < (frame as u64) + (count as u64) {
@@ -151,11 +158,40 @@ impl Events {
         }
     }
 
-    // A packet's Input events, frame by frame, in each one per handle: `count` frames of `width` bytes from a place of the payload on, each XOR the
-    // reference, the first being `frame`. Where there is no room for all, or a number would be no frame, unchanged. Both loops are in here, so that
-    // the store is copied once.
+    // Two in their order, each where there is something to tell; where there is no room for all, unchanged.
+    pub fn push_both(mut self, first: bool, one: Entry, second: bool, other: Entry) -> Pushed
+        ensures { λ r. ⌜ PushedAs self (hasRoom (held self) (length (both first one second other))) (both first one second other) r ⌝ }
+    {
+        let used = self.count();
+        if 640 < used + told(first) + told(second) {
+            return Pushed {
+                ok: false,
+                events: self,
+            };
+        }
+        let mut to = used;
+        if first {
+            self.entries[to] = one;
+            to += 1;
+        }
+        if second {
+            self.entries[to] = other;
+            to += 1;
+        }
+        self.used = to;
+        Pushed {
+            ok: true,
+            events: self,
+        }
+    }
+
+    // What an Input tells: the end of an interruption, a disconnect, and the packet's Input events, frame by frame, in each one per handle: `count`
+    // frames of `width` bytes from a place of the payload on, each XOR the reference, the first being `frame`. Where there is no room for all, or a
+    // number would be no frame, unchanged. All of it is done in here, so that the store is copied once.
     pub fn push_packet(
         mut self,
+        resumed: bool,
+        disconnected: bool,
         frame: u32,
         count: u32,
         payload: &[u8],
@@ -166,12 +202,17 @@ impl Events {
         handle_count: usize,
         size: usize,
     ) -> Pushed
-        ensures { λ r. ⌜ PushedAs self (packetFits (held self) frame count (take «handle_count» handles))
-            (announcedAll frame size (take «handle_count» handles) (framesOf width reference count (drop at (now (payload .entry))))) r ⌝ }
+        ensures { λ r. ⌜ PushedAs self (packetFits (held self ++ ahead resumed disconnected) frame count (take «handle_count» handles))
+            (ahead resumed disconnected ++ announcedAll frame size (take «handle_count» handles) (framesOf width reference count (drop at (now (payload .entry))))) r ⌝ }
     {
         let players = least(handle_count, 4);
         let used = self.count();
-        if !packet_fits(used, frame, count, players) {
+        if !packet_fits(
+            used + told(resumed) + told(disconnected),
+            frame,
+            count,
+            players,
+        ) {
             return Pushed {
                 ok: false,
                 events: self,
@@ -179,6 +220,20 @@ impl Events {
         }
         let end = payload.len();
         let mut to = used;
+        if resumed {
+            self.entries[to] = Entry {
+                event: Event::NetworkResumed,
+                input: [0; 16],
+            };
+            to += 1;
+        }
+        if disconnected {
+            self.entries[to] = Entry {
+                event: Event::Disconnected,
+                input: [0; 16],
+            };
+            to += 1;
+        }
         let mut from = least(at, end);
         let mut k = 0;
         'frames: while k < count {

@@ -2,12 +2,6 @@ use Rattle.endpoint.proofs.Hears.{hears}
 use borrow.Author.Needs.{needs}
 use Rattle.endpoint.proofs.Endpoint.hear.Statement.{statement}
 use Rattle.endpoint.proofs.Endpoint.hear.Tie as tie
-use Rattle.endpoint.proofs.Endpoint.hear.Reads as reads
-use Rattle.endpoint.proofs.Endpoint.hear.Lts as lts
-use Rattle.endpoint.proofs.Endpoint.is_resuming.Reads as is-resuming-reads
-use Rattle.endpoint.proofs.hearing.resumed_flags.Reads as resumed-flags-reads
-use Rattle.events.proofs.Events.push_if.Reads as push-if-reads
-use Rattle.timers.proofs.Clocks.heard.Reads as heard-reads
 
 is-resuming-requires : tie.Need-is-resuming-requires
 is-resuming-requires c κs = search needs

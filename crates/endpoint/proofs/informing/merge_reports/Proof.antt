@@ -9,7 +9,8 @@ use Rattle.base.proofs.Arrays.{unmap}
 use Rattle.codec.specs.Message.{listed}
 use Rattle.status.specs.Statuses.{held, mergedAll}
 use Rattle.status.proofs.MergeAll.{all-none}
-use Rattle.endpoint.proofs.Informs.{statusesOf, reports-turn, reports-end}
+use Rattle.endpoint.proofs.Informs.{reports-turn, reports-end}
+use Rattle.endpoint.specs.Informed.{statusesOf}
 use Rattle.endpoint.proofs.informing.merge_reports.Statement.{statement}
 use Rattle.endpoint.proofs.informing.merge_reports.Tie as tie
 

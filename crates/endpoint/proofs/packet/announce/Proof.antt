@@ -1,10 +1,10 @@
-use mathlib.Core.Path.{_≡_}
-use Prim.Native.Nat.{_+_, _^_, _≤_}
+use mathlib.Core.Path.{_≡_, refl}
+use Prim.Native.Nat.{_+_, _-_, _^_, _≤_}
 use native.Mathlib.Omega.{arith}
 use lib.ListN.{length}
-use Rattle.base.proofs.Arrays.{unmap}
 use Rattle.setup.specs.Setup.{listed}
-use Rattle.endpoint.proofs.Packets.{skipped-within, nothing-new, news-pushed}
+use Rattle.events.specs.Events.{ahead}
+use Rattle.endpoint.proofs.Packets.{skipped-within, news-pushed}
 use borrow.Author.Needs.{needs}
 use Rattle.endpoint.proofs.packet.announce.Statement.{statement}
 use Rattle.endpoint.proofs.packet.announce.Tie as tie
@@ -14,9 +14,6 @@ receiving-width-requires c κs = search needs
 
 frame-count-requires : tie.Need-frame-count-requires
 frame-count-requires c κs = search needs
-
-long : (c : tie.Start) → length (c .args .events .entries) ≡ 640
-long c = search (unmap, needs)
 
 wide : (c : tie.Start) → length (c .args .reference) ≡ 64
 wide c = search needs
@@ -30,45 +27,35 @@ cast-known c = omega (arith, within c, c .before .before .before .pre .0)
 known-requires : tie.Need-known-requires
 known-requires c κs = search needs
 
-cast-if1 : tie.Need-cast-if1
-cast-if1 c = search needs
+cast-more : tie.Need-cast-more
+cast-more c = omega (arith, within (c .before), c .before .before .before .before .pre .0)
 
-returns : tie.Need-returns
-returns c =
-    let a = c .before .before .before .before .before .args in
-    rw (← c .before .before .before .receiving-width .ensures)
-    (nothing-new (a .start-frame) (c .before .before .before .receiving-width .result) (c .before .before .frame-count .result) (a .reference) (a .payload .now) (c .before .before .frame-count .ensures) (within (c .before .before)) (a .newest) (c .before .known .result) (c .before .known .ensures)
-    (a .setup .«input_size») (listed (a .setup .handles)) (a .events) (c .if1 .taken) (long (c .before .before .before .before .before)))
+sub-more : tie.Need-sub-more
+sub-more c = search needs
 
-add-push-packet : tie.Need-add-push-packet
-add-push-packet c = omega (arith, within (c .before .before .before .before), c .before .before .before .known .ensures, c .before .before .if1 .left)
+first-new-requires : tie.Need-first-new-requires
+first-new-requires c κs = omega (arith, within (c .before .before .before), c .before .before .known .ensures)
 
 cast-push-packet : tie.Need-cast-push-packet
-cast-push-packet c = omega (arith, within (c .before .before .before .before), c .before .before .before .before .before .before .before .pre .0)
-
-sub-push-packet : tie.Need-sub-push-packet
-sub-push-packet c = search needs
-
-cast-push-packet-2 : tie.Need-cast-push-packet-2
-cast-push-packet-2 c = search needs
+cast-push-packet c = search needs
 
 mul-push-packet : tie.Need-mul-push-packet
 mul-push-packet c =
     let a = c .before .before .before .before .before .before .before .args in
     omega (arith, skipped-within (a .start-frame) (c .before .before .before .before .before .receiving-width .result) (c .before .before .before .before .frame-count .result) (a .reference) (a .payload .now) (c .before .before .before .before .frame-count .ensures) (within (c .before .before .before .before)) (a .newest) (c .before .before .before .known .result) (c .before .before .before .known .ensures))
 
-cast-push-packet-3 : tie.Need-cast-push-packet-3
-cast-push-packet-3 c = search needs
+cast-push-packet-2 : tie.Need-cast-push-packet-2
+cast-push-packet-2 c = search needs
 
 push-packet-requires : tie.Need-push-packet-requires
 push-packet-requires c κs = search needs
 
-returns-2 : tie.Need-returns-2
-returns-2 c =
+returns : tie.Need-returns
+returns c =
     let a = c .before .before .before .before .before .before .before .before .before .args in
     rw (← c .before .before .before .before .before .before .before .receiving-width .ensures)
     (news-pushed (a .start-frame) (c .before .before .before .before .before .before .before .receiving-width .result) (c .before .before .before .before .before .before .frame-count .result) (a .reference) (a .payload .now) (c .before .before .before .before .before .before .frame-count .ensures) (within (c .before .before .before .before .before .before)) (a .newest) (c .before .before .before .before .before .known .result) (c .before .before .before .before .before .known .ensures)
-    (a .setup .«input_size») (listed (a .setup .handles)) (a .events) (wide (c .before .before .before .before .before .before .before .before .before)) (c .push-packet .result) (c .push-packet .ensures))
+    (a .setup .«input_size») (listed (a .setup .handles)) (a .events) (ahead (a .resumed) (a .disconnected)) (c .before .before .before .before .before .before .frame-count .result - c .before .before .before .before .before .known .result) (c .before .before .first-new .result) refl (c .before .before .first-new .ensures) (wide (c .before .before .before .before .before .before .before .before .before)) (c .push-packet .result) (c .push-packet .ensures))
 
 pub announce-spec : {M : Type 1} → statement M
 announce-spec =
@@ -78,13 +65,11 @@ announce-spec =
     frame-count-requires
     cast-known
     known-requires
-    cast-if1
-    returns
-    add-push-packet
+    cast-more
+    sub-more
+    first-new-requires
     cast-push-packet
-    sub-push-packet
-    cast-push-packet-2
     mul-push-packet
-    cast-push-packet-3
+    cast-push-packet-2
     push-packet-requires
-    returns-2)
+    returns)

@@ -2,7 +2,9 @@
 -- is that of one frame, from where the frame began.
 use borrow.Author.Needs.{needs}
 use borrow.Author.Tests.{not-true, not-false, leb-true}
-use mathlib.Core.List.{_++_}
+use mathlib.Core.Bool.{true}
+use mathlib.Core.List.{[], _∷_, _++_, append-nil, append-assoc}
+use mathlib.Core.Logic.{⊎-elim}
 use mathlib.Core.Path.{_≡_, refl, sym, _∙_}
 use Prim.Native.Nat.{_+_, _-_, _*_, _^_, _<_, _≤_}
 use native.Mathlib.Omega.{arith}
@@ -10,39 +12,41 @@ use native.Mathlib.Nat.{add-zero, sub-zero}
 use lib.Dec.{leb}
 use lib.ListN.{length, take, drop, length-set, length-take, length-append}
 use lib.Seq.{getD-take, length-take-le}
+use Rattle.base.specs.Pick.{pick}
 use Rattle.base.proofs.Arrays.{unmap, view-le, take-count}
 use Rattle.packing.specs.Packing.{framesOf}
 use Rattle.packing.proofs.Pads.{padded-length}
-use Rattle.events.specs.Events.{held, hasRoom, packetFits, announced, announcedAll}
-use Rattle.events.proofs.Laws.{frame-turn, frame-end, packet-turn, packet-end, packet-room, packet-length, drop-min, both}
+use Rattle.events.specs.declared.Event.the-variants.{NetworkResumed, Disconnected}
+use Rattle.events.specs.Events.{held, plain, both, ahead, hasRoom, packetFits, announced, announcedAll}
+use Rattle.events.proofs.Laws.{frame-turn, frame-end, packet-turn, packet-end, packet-room, packet-length, drop-min, each, told-most, told-one, told-length, both-length, Behind, behind-none, behind-one}
 use Rattle.events.proofs.Events.push_packet.Statement.{statement}
 use Rattle.events.proofs.Events.push_packet.Tie as tie
 
 abbrev Inv-handles : tie.InvT-handles
-Inv-handles frame count payload at width reference handle-count size self₀ handles players used end to₀ from k bytes part₀ i₀ self to part i =
+Inv-handles resumed disconnected frame count payload at width reference handle-count size self₀ handles players used end to₀ from k bytes part₀ i₀ self to part i =
     (i ≤ players) × (part ≤ 64) × (players ≤ 4) × (to + (players - i) ≤ 640) × (players ≡ length (take handle-count handles)) × (length handles ≡ 4)
     × (length bytes ≡ 64) × (length (self .entries) ≡ 640) × (frame + k < 2 ^ 32)
     × (take to (self .entries) ++ announced (frame + k) size (drop part bytes) (drop i (take handle-count handles))
     ≡ take to₀ (self₀ .entries) ++ announced (frame + k) size bytes (take handle-count handles))
 
 abbrev μ-handles : tie.MeasureT-handles
-μ-handles frame count payload at width reference handle-count size self₀ handles players used end to₀ from k bytes part₀ i₀ self to part i = players - i
+μ-handles resumed disconnected frame count payload at width reference handle-count size self₀ handles players used end to₀ from k bytes part₀ i₀ self to part i = players - i
 
 abbrev Inv-frames : tie.InvT-frames
-Inv-frames frame count payload at width reference handle-count size self₀ handles players used end to₀ from₀ k₀ self to from k =
+Inv-frames resumed disconnected frame count payload at width reference handle-count size self₀ handles players used end to₀ from₀ k₀ self to from k =
     (k ≤ count) × (from ≤ end) × (end ≡ length payload) × (players ≤ 4) × (to ≤ 640) × (players ≡ length (take handle-count handles)) × (length handles ≡ 4)
     × (length reference ≡ 64) × (frame + count ≤ 2 ^ 32) × (length (self .entries) ≡ 640)
-    × (length (held self₀ ++ announcedAll frame size (take handle-count handles) (framesOf width reference count (drop at payload))) ≤ 640)
+    × (length (take to₀ (self₀ .entries) ++ announcedAll frame size (take handle-count handles) (framesOf width reference count (drop at payload))) ≤ 640)
     × (take to (self .entries) ++ announcedAll (frame + k) size (take handle-count handles) (framesOf width reference (count - k) (drop from payload))
-    ≡ held self₀ ++ announcedAll frame size (take handle-count handles) (framesOf width reference count (drop at payload)))
+    ≡ take to₀ (self₀ .entries) ++ announcedAll frame size (take handle-count handles) (framesOf width reference count (drop at payload)))
 
 abbrev μ-frames : tie.MeasureT-frames
-μ-frames frame count payload at width reference handle-count size self₀ handles players used end to₀ from₀ k₀ self to from k = count - k
+μ-frames resumed disconnected frame count payload at width reference handle-count size self₀ handles players used end to₀ from₀ k₀ self to from k = count - k
 
 long : (c : tie.Start Inv-handles μ-handles Inv-frames μ-frames) → length (c .args .t1 .entries) ≡ 640
 long c = search (unmap, needs)
 
-wide : (c : tie.Start Inv-handles μ-handles Inv-frames μ-frames) → (length (c .args .t8) ≡ 4) × (length (c .args .reference) ≡ 64)
+wide : (c : tie.Start Inv-handles μ-handles Inv-frames μ-frames) → (length (c .args .t10) ≡ 4) × (length (c .args .reference) ≡ 64)
 wide c = search needs
 
 least-requires : tie.Need-least-requires Inv-handles μ-handles Inv-frames μ-frames
@@ -51,54 +55,134 @@ least-requires c κs = search needs
 count-requires : tie.Need-count-requires Inv-handles μ-handles Inv-frames μ-frames
 count-requires c κs = search needs
 
-packet-fits-requires : tie.Need-packet-fits-requires Inv-handles μ-handles Inv-frames μ-frames
+told-requires : tie.Need-told-requires Inv-handles μ-handles Inv-frames μ-frames
+told-requires c κs = search needs
+
+told-requires-2 : tie.Need-told-requires-2 Inv-handles μ-handles Inv-frames μ-frames
+told-requires-2 c κs = search needs
+
+few : (c : tie.After-count Inv-handles μ-handles Inv-frames μ-frames) → c .count .result ≤ 640
 unfolding held
+few c = let s = c .before .before .before .args .t1 in omega (arith, c .count .ensures, long (c .before .before .before), view-le (s .used) (s .entries))
+
+add-packet-fits : tie.Need-add-packet-fits Inv-handles μ-handles Inv-frames μ-frames
+add-packet-fits c = omega (arith, few (c .before), c .told .ensures, told-most (c .before .before .before .before .args .resumed))
+
+-- how many there are before the packet's own
+behind : (c : tie.After-told2 Inv-handles μ-handles Inv-frames μ-frames) → c .before .before .count .result + c .before .told .result + c .told2 .result
+    ≡ length (held (c .before .before .before .before .before .args .t1)) + length (ahead (c .before .before .before .before .before .args .resumed) (c .before .before .before .before .before .args .disconnected))
+unfolding ahead
+behind c =
+    let a = c .before .before .before .before .before .args in
+    omega (arith, both-length (a .resumed) (plain NetworkResumed) (a .disconnected) (plain Disconnected), c .before .before .count .ensures, c .before .told .ensures, c .told2 .ensures)
+
+add-packet-fits-2 : tie.Need-add-packet-fits-2 Inv-handles μ-handles Inv-frames μ-frames
+add-packet-fits-2 c =
+    let a = c .before .before .before .before .before .args in
+    omega (arith, few (c .before .before), c .before .told .ensures, c .told2 .ensures, told-most (a .resumed), told-most (a .disconnected))
+
+packet-fits-requires : tie.Need-packet-fits-requires Inv-handles μ-handles Inv-frames μ-frames
 packet-fits-requires c κs =
-    let a = c .before .before .before .args in
-    (omega (arith, long (c .before .before .before), view-le (a .t1 .used) (a .t1 .entries), c .count .ensures), omega arith)
+    let a = c .before .before .before .before .before .args in
+    (omega (arith, few (c .before .before), c .before .told .ensures, c .told2 .ensures, told-most (a .resumed), told-most (a .disconnected)), omega arith)
 
 -- what the room test answers
 able : (c : tie.After-packet-fits Inv-handles μ-handles Inv-frames μ-frames)
-    → packetFits (held (c .before .before .before .before .args .t1)) (c .before .before .before .before .args .frame) (c .before .before .before .before .args .count) (take (c .before .before .before .before .args .handle-count) (c .before .before .before .before .args .t8)) ≡ c .packet-fits .result
+    → packetFits (held (c .before .before .before .before .before .before .args .t1) ++ ahead (c .before .before .before .before .before .before .args .resumed) (c .before .before .before .before .before .before .args .disconnected)) (c .before .before .before .before .before .before .args .frame) (c .before .before .before .before .before .before .args .count) (take (c .before .before .before .before .before .before .args .handle-count) (c .before .before .before .before .before .before .args .t10)) ≡ c .packet-fits .result
 unfolding packetFits hasRoom
 able c =
-    let a = c .before .before .before .before .args in
-    let w = wide (c .before .before .before .before) in
-    let p : c .before .before .least .result ≡ length (take (a .handle-count) (a .t8)) = omega (arith, c .before .before .least .ensures, length-take (a .handle-count) (a .t8)) in
-    rw (c .packet-fits .ensures, ← c .before .count .ensures, ← p)
+    let a = c .before .before .before .before .before .before .args in
+    let w = wide (c .before .before .before .before .before .before) in
+    let p : c .before .before .before .before .least .result ≡ length (take (a .handle-count) (a .t10)) = omega (arith, c .before .before .before .before .least .ensures, length-take (a .handle-count) (a .t10)) in
+    rw (c .packet-fits .ensures, length-append (held (a .t1)) (ahead (a .resumed) (a .disconnected)), ← behind (c .before), ← p)
 
 returns : tie.Need-returns Inv-handles μ-handles Inv-frames μ-frames
 returns c = let h = able (c .before) ∙ not-true _ (c .if1 .taken) in record { ok = sym h; view = rw h; same = λ _. refl }
+
+-- all fit
+fit : (c : tie.Else1 Inv-handles μ-handles Inv-frames μ-frames)
+    → (c .before .before .before .before .before .before .before .args .frame + c .before .before .before .before .before .before .before .args .count ≤ 2 ^ 32)
+    × (length (held (c .before .before .before .before .before .before .before .args .t1)) + length (ahead (c .before .before .before .before .before .before .before .args .resumed) (c .before .before .before .before .before .before .before .args .disconnected)) + c .before .before .before .before .before .before .before .args .count * length (take (c .before .before .before .before .before .before .before .args .handle-count) (c .before .before .before .before .before .before .before .args .t10)) ≤ 640)
+unfolding packetFits hasRoom
+fit c =
+    let a = c .before .before .before .before .before .before .before .args in
+    let hs = take (a .handle-count) (a .t10) in
+    let l = held (a .t1) ++ ahead (a .resumed) (a .disconnected) in
+    let b = each (leb (a .frame + a .count) (2 ^ 32)) (leb (length l + a .count * length hs) 640) (able (c .before) ∙ not-false _ (c .if1 .left)) in
+    (leb-true _ _ (b .0), omega (arith, length-append (held (a .t1)) (ahead (a .resumed) (a .disconnected)), leb-true (length l + a .count * length hs) 640 (b .1)))
+
+-- a place for each of the two
+free : (c : tie.Else1 Inv-handles μ-handles Inv-frames μ-frames) → c .before .before .before .before .before .before .before .args .resumed ≡ true → c .before .before .before .before .count .result < 640
+free c h = let a = c .before .before .before .before .before .before .before .args in omega (arith, fit c .1, behind (c .before .before), told-one (a .resumed) (c .before .before .before .told .result) h (c .before .before .before .told .ensures))
+
+mul-t36 : tie.Need-mul-t36 Inv-handles μ-handles Inv-frames μ-frames
+mul-t36 c = omega (arith, free (c .before) (c .if2 .taken))
+
+element-set-from-self : tie.Need-element-set-from-self Inv-handles μ-handles Inv-frames μ-frames
+element-set-from-self c = free (c .before) (c .if2 .taken)
+
+add-to : tie.Need-add-to Inv-handles μ-handles Inv-frames μ-frames
+add-to c = omega (arith, free (c .before) (c .if2 .taken))
+
+after-resumed : (c : tie.Joined2 Inv-handles μ-handles Inv-frames μ-frames) → Behind (held (c .before .before .before .before .before .before .before .before .args .t1)) (pick (c .before .before .before .before .before .before .before .before .args .resumed) (plain NetworkResumed ∷ []) []) (c .if2 .self .entries) (c .if2 .to)
+after-resumed c =
+    let a = c .before .before .before .before .before .before .before .before .args in
+    let none = behind-none (a .t1) (c .before .before .before .before .before .count .result) (c .before .before .before .before .before .count .ensures) (long (c .before .before .before .before .before .before .before .before)) in
+    ⊎-elim {0, 0, 0}
+    (λ w. rw (w .1, w .2, w .0 .taken) (behind-one (held (a .t1)) [] (a .t1 .entries) _ (plain NetworkResumed) (free (c .before) (w .0 .taken)) none))
+    (λ w. rw (w .1, w .2, w .0 .left) none)
+    (c .if2 .came)
+
+free-2 : (c : tie.Joined2 Inv-handles μ-handles Inv-frames μ-frames) → c .before .before .before .before .before .before .before .before .args .disconnected ≡ true → c .if2 .to < 640
+free-2 c h =
+    let a = c .before .before .before .before .before .before .before .before .args in
+    omega (arith, fit (c .before) .1, behind (c .before .before .before), after-resumed c .place, told-length (a .resumed) (plain NetworkResumed), c .before .before .before .before .told .ensures, told-one (a .disconnected) (c .before .before .before .told2 .result) h (c .before .before .before .told2 .ensures))
+
+mul-t42 : tie.Need-mul-t42 Inv-handles μ-handles Inv-frames μ-frames
+mul-t42 c = omega (arith, free-2 (c .before .before) (c .before .if3 .taken))
+
+element-set-from-self-2 : tie.Need-element-set-from-self-2 Inv-handles μ-handles Inv-frames μ-frames
+element-set-from-self-2 c = free-2 (c .before .before) (c .before .if3 .taken)
+
+add-to-2 : tie.Need-add-to-2 Inv-handles μ-handles Inv-frames μ-frames
+add-to-2 c = omega (arith, free-2 (c .before .before) (c .before .if3 .taken))
+
+after-both : (c : tie.Joined3 Inv-handles μ-handles Inv-frames μ-frames) → Behind (held (c .before .before .before .before .before .before .before .before .before .args .t1)) (ahead (c .before .before .before .before .before .before .before .before .before .args .resumed) (c .before .before .before .before .before .before .before .before .before .args .disconnected)) (c .if3 .self .entries) (c .if3 .to)
+unfolding ahead both
+after-both c =
+    let a = c .before .before .before .before .before .before .before .before .before .args in
+    let first = pick (a .resumed) (plain NetworkResumed ∷ []) [] in
+    ⊎-elim {0, 0, 0}
+    (λ w. rw (w .2, w .3, w .0 .taken) (behind-one (held (a .t1)) first (c .before .if2 .self .entries) (c .before .if2 .to) (plain Disconnected) (free-2 (c .before) (w .0 .taken)) (after-resumed (c .before))))
+    (λ w. rw (w .1, w .2, w .0 .left, append-nil) (after-resumed (c .before)))
+    (c .if3 .came)
 
 least-requires-2 : tie.Need-least-requires-2 Inv-handles μ-handles Inv-frames μ-frames
 least-requires-2 c κs = search needs
 
 frames-holds : tie.Need-frames-holds Inv-handles μ-handles Inv-frames μ-frames
-unfolding held packetFits hasRoom
 frames-holds c =
-    let a = c .before .before .before .before .before .before .args in
-    let hs = take (a .handle-count) (a .t8) in
-    let n = c .before .before .before .count .ensures in
-    let w = wide (c .before .before .before .before .before .before) in
-    let l = long (c .before .before .before .before .before .before) in
-    let v = view-le (a .t1 .used) (a .t1 .entries) in
-    let t = length-take (a .handle-count) (a .t8) in
-    let p = c .before .before .before .before .least .ensures in
-    let b = both (leb (a .frame + a .count) (2 ^ 32)) (leb (length (held (a .t1)) + a .count * length hs) 640) (able (c .before .before) ∙ not-false _ (c .before .if1 .left)) in
+    let a = c .before .before .before .before .before .before .before .before .before .before .args in
+    let hs = take (a .handle-count) (a .t10) in
+    let w = wide (c .before .before .before .before .before .before .before .before .before .before) in
+    let b = after-both (c .before) in
+    let p = c .before .before .before .before .before .before .before .before .least .ensures in
+    let t = length-take (a .handle-count) (a .t10) in
+    let f = fit (c .before .before .before) in
     let fs = framesOf (a .width) (a .reference) (a .count) (drop (a .at) (a .payload .now)) in
     let k = packet-length (a .frame) (a .size) (a .width) (a .reference) hs (drop (a .at) (a .payload .now)) (a .count) in (
       omega arith,
       omega (arith, c .least2 .ensures),
       refl,
       omega arith,
-      omega arith,
+      omega (arith, b .place),
       omega arith,
       w .0,
       w .1,
-      leb-true _ _ (b .0),
-      l,
-      rw (length-append (held (a .t1)) (announcedAll (a .frame) (a .size) hs fs), k) (leb-true _ _ (b .1)),
-      rw (add-zero, sub-zero, c .least2 .ensures, drop-min (a .at) (length (a .payload .now)) (a .payload .now) refl, n, ← take-count (a .t1 .used) (a .t1 .entries)),
+      f .0,
+      b .long,
+      rw (b .view, length-append (held (a .t1) ++ ahead (a .resumed) (a .disconnected)) (announcedAll (a .frame) (a .size) hs fs), length-append (held (a .t1)) (ahead (a .resumed) (a .disconnected)), k) (f .1),
+      rw (add-zero, sub-zero, c .least2 .ensures, drop-min (a .at) (length (a .payload .now)) (a .payload .now) refl),
     )
 
 frame-at-requires : tie.Need-frame-at-requires Inv-handles μ-handles Inv-frames μ-frames
@@ -106,9 +190,9 @@ frame-at-requires c κs = search needs
 
 handles-holds : tie.Need-handles-holds Inv-handles μ-handles Inv-frames μ-frames
 handles-holds c =
-    let a = c .before .before .before .before .before .before .before .before .before .args in
+    let a = c .before .before .before .before .before .before .before .before .before .before .before .before .before .args in
     let f = c .before .before .frames in
-    let hs = take (a .handle-count) (a .t8) in
+    let hs = take (a .handle-count) (a .t10) in
     let r = packet-room (a .frame) (a .size) (a .width) (a .reference) hs (a .payload .now) (a .count) (f .k) (take (f .to) (f .self .entries)) _ (drop (f .from) (a .payload .now)) (f .inv .11) (omega arith) in
     let t = length-take-le (f .to) (f .self .entries) (omega arith) in
     (omega arith, omega arith, f .inv .3, omega arith, f .inv .5, f .inv .6, rw (c .frame-at .ensures) (padded-length _), f .inv .9, omega arith, refl)
@@ -131,8 +215,8 @@ mul-entry c = omega arith
 element-set-from-entry : tie.Need-element-set-from-entry Inv-handles μ-handles Inv-frames μ-frames
 element-set-from-entry c = omega arith
 
-add-to : tie.Need-add-to Inv-handles μ-handles Inv-frames μ-frames
-add-to c = omega arith
+add-to-3 : tie.Need-add-to-3 Inv-handles μ-handles Inv-frames μ-frames
+add-to-3 c = omega arith
 
 onward-requires : tie.Need-onward-requires Inv-handles μ-handles Inv-frames μ-frames
 onward-requires c κs = omega arith
@@ -145,10 +229,10 @@ handles-less c = omega arith
 
 handles-again : tie.Need-handles-again Inv-handles μ-handles Inv-frames μ-frames
 handles-again c =
-    let l = c .before .before .before .handles in
-    let a = c .before .before .before .before .before .before .before .before .before .before .before .before .before .args in
-    let k = c .before .before .before .before .before .before .frames .k in
-    let g = getD-take (a .handle-count) (a .t8) (l .i) 0 (omega (arith, length-take (a .handle-count) (a .t8))) in (
+    let l = c .before .before .before .before .handles in
+    let a = c .before .before .before .before .before .before .before .before .before .before .before .before .before .before .before .before .before .before .args in
+    let k = c .before .before .before .before .before .before .before .frames .k in
+    let g = getD-take (a .handle-count) (a .t10) (l .i) 0 (omega (arith, length-take (a .handle-count) (a .t10))) in (
       omega arith,
       omega arith,
       l .inv .2,
@@ -158,7 +242,7 @@ handles-again c =
       l .inv .6,
       rw length-set (l .inv .7),
       l .inv .8,
-      frame-turn (a .frame + k) (a .size) (c .before .before .before .before .frame-at .result) (take (a .handle-count) (a .t8)) (l .i) (l .self .entries) _ (l .to) (l .part) (c .onward .result) _ (omega arith) (omega arith) (rw g (c .before .input-entry .ensures)) (rw (l .inv .6) (c .onward .ensures)) (l .inv .9),
+      frame-turn (a .frame + k) (a .size) (c .before .before .before .before .before .frame-at .result) (take (a .handle-count) (a .t10)) (l .i) (l .self .entries) _ (l .to) (l .part) (c .onward .result) _ (omega arith) (omega arith) (rw g (c .before .before .input-entry .ensures)) (rw (l .inv .6) (c .onward .ensures)) (l .inv .9),
     )
 
 onward-requires-2 : tie.Need-onward-requires-2 Inv-handles μ-handles Inv-frames μ-frames
@@ -174,8 +258,8 @@ frames-again : tie.Need-frames-again Inv-handles μ-handles Inv-frames μ-frames
 frames-again c =
     let h = c .before .before .handles in
     let f = c .before .before .before .before .before .frames in
-    let a = c .before .before .before .before .before .before .before .before .before .before .before .before .args in
-    let hs = take (a .handle-count) (a .t8) in (
+    let a = c .before .before .before .before .before .before .before .before .before .before .before .before .before .before .before .before .args in
+    let hs = take (a .handle-count) (a .t10) in (
       omega arith,
       omega (arith, c .onward2 .ensures),
       f .inv .2,
@@ -194,13 +278,10 @@ returns-2 : tie.Need-returns-2 Inv-handles μ-handles Inv-frames μ-frames
 unfolding held
 returns-2 c =
     let f = c .before .frames in
-    let a = c .before .before .before .before .before .before .before .before .args in
-    let h = able (c .before .before .before .before) ∙ not-false _ (c .before .before .before .if1 .left) in
-    record {
-      ok = sym h;
-      view = rw h (packet-end (a .frame) (a .size) (a .width) (a .reference) (take (a .handle-count) (a .t8)) (a .payload .now) (a .count) (f .k) _ _ (drop (f .from) (a .payload .now)) (f .inv .11) (omega arith));
-      same = λ e. search needs;
-    }
+    let a = c .before .before .before .before .before .before .before .before .before .before .before .before .args in
+    let h = able (c .before .before .before .before .before .before) ∙ not-false _ (c .before .before .before .before .before .if1 .left) in
+    let e = packet-end (a .frame) (a .size) (a .width) (a .reference) (take (a .handle-count) (a .t10)) (a .payload .now) (a .count) (f .k) _ _ (drop (f .from) (a .payload .now)) (f .inv .11) (omega arith) in
+    record { ok = sym h; view = rw h (e ∙ rw (after-both (c .before .before .before) .view, append-assoc)); same = λ e. search needs }
 
 pub push-packet-spec : {M : Type 1} → statement M
 push-packet-spec =
@@ -212,8 +293,18 @@ push-packet-spec =
     μ-frames
     least-requires
     count-requires
+    told-requires
+    add-packet-fits
+    told-requires-2
+    add-packet-fits-2
     packet-fits-requires
     returns
+    mul-t36
+    element-set-from-self
+    add-to
+    mul-t42
+    element-set-from-self-2
+    add-to-2
     least-requires-2
     frames-holds
     frame-at-requires
@@ -224,7 +315,7 @@ push-packet-spec =
     input-entry-requires
     mul-entry
     element-set-from-entry
-    add-to
+    add-to-3
     onward-requires
     add-i
     handles-less
