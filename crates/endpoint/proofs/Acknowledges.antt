@@ -11,10 +11,9 @@ use Rattle.pending.specs.declared.Dropped.{Dropped}
 use Rattle.pending.specs.Pending.{DroppedAs}
 use Rattle.endpoint.specs.declared.Sender.{Sender}
 use Rattle.endpoint.specs.declared.Endpoint.{Endpoint}
-use Rattle.endpoint.specs.declared.hearing.Heard.{Heard}
 use Rattle.endpoint.specs.Endpoint.{seen, DoneAs}
-use Rattle.endpoint.specs.Heard.{HeardAs}
 use Rattle.endpoint.specs.Sent.{sent}
+use Rattle.endpoint.proofs.Hears.{Ears, HeardAs}
 use Rattle.endpoint.proofs.Ends.{remade}
 use Rattle.endpoint.proofs.Changes.{changes-full, changes-done}
 
@@ -23,7 +22,7 @@ pub dropped-sent : (s : Sender) (ack : ℕ) (d : Dropped) → DroppedAs (s .pend
 unfolding droppedTo
 dropped-sent s ack d h = rw (h .view, h .last)
 
-module _ (e : Endpoint) (ack now : ℕ) (x : Heard) (ex : HeardAs e (heard now (seen e)) x) where
+module _ (e : Endpoint) (ack now : ℕ) (x : Ears) (ex : HeardAs e (heard now (seen e)) x) where
   abbrev Acked : Endpoint → Answer → Type 0
   Acked n a = DoneAs e (reacted 0 (seen e) (onInputAck ack (heard now (seen e)))) (record { answer = a; endpoint = n })
 

@@ -21,9 +21,8 @@ use Rattle.protocol.specs.Handshake.{plainly}
 use Rattle.protocol.specs.Step.{heard, reacted}
 use Rattle.protocol.proofs.Laws.{hearing, by-hearing}
 use Rattle.endpoint.specs.declared.Endpoint.{Endpoint}
-use Rattle.endpoint.specs.declared.hearing.Heard.{Heard}
 use Rattle.endpoint.specs.Endpoint.{seen, DidAs}
-use Rattle.endpoint.specs.Heard.{HeardAs}
+use Rattle.endpoint.proofs.Hears.{Ears, HeardAs}
 use Rattle.endpoint.proofs.Ends.{refused-did, queued-did}
 use Rattle.endpoint.proofs.Rooms.{full-events, full-buffer, room-one, reacted-full, reacted-done}
 
@@ -33,7 +32,7 @@ pub record Aside (g : Seen → Seen) : Type 0 where
   pub events : (s : Seen) → g s .events ≡ s .events
   pub queued : (s : Seen) → g s .queued ≡ s .queued
 
-module _ (e : Endpoint) (buffer : List ℕ) (now : ℕ) (x : Heard) (body : MessageBody) (g : Seen → Seen) (aside : Aside g) where
+module _ (e : Endpoint) (buffer : List ℕ) (now : ℕ) (x : Ears) (body : MessageBody) (g : Seen → Seen) (aside : Aside g) where
   abbrev Replies : Endpoint → Answer → List ℕ → Effect → Type 0
   Replies n a b′ h = HeardAs e h x → DidAs e (reacted (length buffer) (seen e) (plainly (queue now body (change g h)))) buffer (record { answer = a; endpoint = n }) b′
 

@@ -13,14 +13,13 @@ use Rattle.protocol.specs.Handshake.{plainly}
 use Rattle.protocol.specs.Step.{heard, reacted}
 use Rattle.protocol.proofs.Laws.{hearing, by-hearing}
 use Rattle.endpoint.specs.declared.Endpoint.{Endpoint}
-use Rattle.endpoint.specs.declared.hearing.Heard.{Heard}
 use Rattle.endpoint.specs.Endpoint.{seen, DoneAs}
-use Rattle.endpoint.specs.Heard.{HeardAs}
+use Rattle.endpoint.proofs.Hears.{Ears, HeardAs}
 use Rattle.endpoint.proofs.Ends.{refused-done, done-done}
 use Rattle.endpoint.proofs.Rooms.{full-events, room-none, reacted-full, reacted-done}
 
 -- g: what it changes, which are not the events
-module _ (e : Endpoint) (now : ℕ) (x : Heard) (g : Seen → Seen) (keeps : (s : Seen) → g s .events ≡ s .events) where
+module _ (e : Endpoint) (now : ℕ) (x : Ears) (g : Seen → Seen) (keeps : (s : Seen) → g s .events ≡ s .events) where
   abbrev Changes : Endpoint → Answer → Effect → Type 0
   Changes n a h = HeardAs e h x → DoneAs e (reacted 0 (seen e) (plainly (change g h))) (record { answer = a; endpoint = n })
 

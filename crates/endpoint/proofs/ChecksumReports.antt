@@ -30,9 +30,8 @@ use Rattle.protocol.specs.Step.{heard, reacted, step, checksumStep}
 use Rattle.protocol.proofs.Laws.{hearing, by-hearing}
 use Rattle.endpoint.specs.declared.Endpoint.{Endpoint}
 use Rattle.endpoint.specs.declared.Ended.{Ended}
-use Rattle.endpoint.specs.declared.hearing.Heard.{Heard}
 use Rattle.endpoint.specs.Endpoint.{seen, DidAs, DoneAs}
-use Rattle.endpoint.specs.Heard.{HeardAs}
+use Rattle.endpoint.proofs.Hears.{Ears, HeardAs}
 use Rattle.endpoint.proofs.Ends.{remade, refused-done, refused-did, done-done, queued-did}
 use Rattle.endpoint.proofs.Settles.{did-settled}
 use Rattle.endpoint.proofs.Rooms.{full-events, room-none, full-buffer, room-one, reacted-choked, reacted-full, reacted-done}
@@ -59,7 +58,7 @@ module _ (e : Endpoint) (checksum : Wide) (frame now i : ℕ) (ei : i ≡ interv
     checksum-choked c =
         by-hearing now (seen e) (Summed e Full) (λ f t. refused-done e Full _ (reacted-choked 0 (seen e) _ refl (rw (← ei) (sym (er .overflow) ∙ within)) (rw (← ei) (sym (er .full) ∙ c))))
 
-    module _ (x : Heard) (ex : HeardAs e (heard now (seen e)) x) where
+    module _ (x : Ears) (ex : HeardAs e (heard now (seen e)) x) where
       pub checksum-untold : x .ok ≡ false → Summed e Full (heard now (seen e))
       unfolding onChecksumReport seen termsWith
       checksum-untold k =

@@ -1,38 +1,62 @@
--- What hearing a message does, and the ways out of a call that does nothing else.
-use mathlib.Core.Bool.{Bool, true, false, _&&_}
-use mathlib.Core.List.{[], _∷_}
-use mathlib.Core.Path.{_≡_, refl, sym}
+-- What hearing a message does, and what a call that does it has of its endpoint.
+use mathlib.Core.Bool.{Bool, true, false}
+use mathlib.Core.List.{[], _∷_, _++_}
+use mathlib.Core.Path.{_≡_, refl, sym, ap}
 use Prim.Native.Nat.{ℕ}
-use lib.ListN.{length, replicate}
+use lib.ListN.{length}
 use Rattle.base.specs.Pick.{pick}
 use Rattle.timers.specs.declared.Clocks.{Clocks}
-use Rattle.timers.specs.Timers.{heardAt}
 use Rattle.events.specs.declared.Entry.{Entry}
+use Rattle.events.specs.declared.Events.{Events}
 use Rattle.events.specs.declared.Pushed.{Pushed}
 use Rattle.events.specs.declared.Event.the-variants.{NetworkResumed}
-use Rattle.events.specs.Events.{held, hasRoom, PushedAs}
+use Rattle.events.specs.Events.{held, hasRoom, plain, PushedAs}
 use Rattle.protocol.specs.declared.Flags.{Flags}
 use Rattle.protocol.specs.Seen.{isRunning}
+use Rattle.protocol.specs.Did.{Effect}
 use Rattle.protocol.specs.Step.{resumes, heard}
 use Rattle.protocol.proofs.Laws.{heard-quiet, heard-resumes, hearing}
 use Rattle.endpoint.specs.declared.Endpoint.{Endpoint}
+use Rattle.endpoint.specs.declared.hearing.Heard.{Heard}
 use Rattle.endpoint.specs.Endpoint.{seen}
-use Rattle.endpoint.specs.Heard.{HeardAs}
+use Rattle.endpoint.specs.Heard.{heardBy, resumedFlags}
 
-abbrev resumption : Entry
-resumption = record { event = NetworkResumed; input = replicate 16 0 }
+-- the parts that have heard: what hearing tells is at the end of the events, where it fits
+pub record Ears : Type 0 where
+  pub ok : Bool
+  pub clocks : Clocks
+  pub flags : Flags
+  pub events : Events
+
+pub record HeardAs (e : Endpoint) (x : Effect) (r : Ears) : Type 0 where
+  pub ok : r .ok ≡ hasRoom (held (e .events)) (length (x .told))
+  pub clocks : r .clocks ≡ x .state .clocks
+  pub flags : r .flags ≡ x .state .flags
+  pub events : held (r .events) ≡ pick (r .ok) (held (e .events) ++ x .told) (held (e .events))
+
+abbrev pub ears : Heard → Pushed → Ears
+ears h p = record { ok = p .ok; clocks = h .clocks; flags = h .flags; events = p .events }
 
 module _ (e : Endpoint) where
   pub not-resumes : isRunning (e .phase) ≡ false → resumes (seen e) ≡ false
   unfolding seen
   not-resumes h = rw h
 
-  -- b: whether it resumes
-  pub hears : (now : ℕ) (b : Bool) (f : Flags) (c : Clocks) (p : Pushed) → b ≡ (isRunning (e .phase) && e .flags .«disconnect_notify_sent»)
-      → f ≡ pick b (record { «disconnect_notify_sent» = false; «disconnect_event_sent» = e .flags .«disconnect_event_sent» }) (e .flags)
-      → c ≡ heardAt now (e .clocks)
-      → PushedAs (e .events) (hasRoom (held (e .events)) (length (pick b (resumption ∷ []) []))) (pick b (resumption ∷ []) []) p
-      → HeardAs e (heard now (seen e)) (record { ok = p .ok; clocks = c; flags = f; events = p .events })
-  unfolding seen
-  hears now true f c p eb ef ec ep = rw (heard-resumes now (seen e) (sym eb), ec, ef) (record { ok = ep .ok; clocks = refl; flags = refl; events = rw (ep .ok) (ep .view) })
-  hears now false f c p eb ef ec ep = rw (heard-quiet now (seen e) (sym eb), ec, ef) (record { ok = ep .ok; clocks = refl; flags = refl; events = rw (ep .ok) (ep .view) })
+  module _ (now : ℕ) where
+    -- b: whether it resumes
+    heard-is : (b : Bool) → b ≡ resumes (seen e) → heard now (seen e) ≡ hearing now (seen e) (resumedFlags b (e .flags)) (pick b (plain NetworkResumed ∷ []) [])
+    unfolding seen
+    heard-is true h = rw (heard-resumes now (seen e) (sym h))
+    heard-is false h = rw (heard-quiet now (seen e) (sym h))
+
+    pub heard-by : heard now (seen e) ≡ hearing now (seen e) (heardBy (e .phase) (e .clocks) (e .flags) now .flags) (pick (heardBy (e .phase) (e .clocks) (e .flags) now .resumes) (plain NetworkResumed ∷ []) [])
+    unfolding seen
+    heard-by = heard-is (resumes (seen e)) refl
+
+    pub hears : (h : Heard) (x : Entry) (p : Pushed) → h ≡ heardBy (e .phase) (e .clocks) (e .flags) now → x ≡ plain NetworkResumed
+        → PushedAs (e .events) (hasRoom (held (e .events)) (length (pick (h .resumes) (x ∷ []) []))) (pick (h .resumes) (x ∷ []) []) p
+        → HeardAs e (heard now (seen e)) (ears h p)
+    unfolding seen
+    hears h x p eh ex ep =
+        let q = rw (ex, ap (λ (y : Heard). y .resumes) eh) at ep in
+        rw heard-by (record { ok = q .ok; clocks = ap (λ (y : Heard). y .clocks) eh; flags = ap (λ (y : Heard). y .flags) eh; events = rw (q .ok) (q .view) })

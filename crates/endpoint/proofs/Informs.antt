@@ -24,18 +24,19 @@ use Rattle.events.specs.declared.Event.the-variants.{NetworkResumed, Disconnect
 use Rattle.events.specs.Events.{plain, both, ahead}
 use Rattle.protocol.specs.declared.Flags.{Flags}
 use Rattle.protocol.specs.Seen as Seen
-use Rattle.protocol.specs.Seen.{Seen, isRunning, isDisconnected}
+use Rattle.protocol.specs.Seen.{Seen, isDisconnected}
 use Rattle.protocol.specs.Did.{Effect, change}
 use Rattle.protocol.specs.Sending.{droppedTo, acknowledged}
 use Rattle.protocol.specs.Receiving.{disconnectAnnounced, statusesMerged, informed}
 use Rattle.protocol.specs.Step.{heard}
-use Rattle.protocol.proofs.Laws.{hearing, by-hearing, heard-resumes, heard-quiet}
+use Rattle.protocol.proofs.Laws.{hearing, by-hearing}
 use Rattle.endpoint.specs.declared.Endpoint.{Endpoint}
 use Rattle.endpoint.specs.declared.Sender.{Sender}
 use Rattle.endpoint.specs.Endpoint.{seen}
 use Rattle.endpoint.specs.Sent.{sent}
 use Rattle.endpoint.specs.declared.informing.Informed.{Informed}
-use Rattle.endpoint.specs.Informed.{InformedAs, resumedFlags, toldFlags, statusesOf}
+use Rattle.endpoint.specs.Informed.{InformedAs, toldFlags, statusesOf}
+use Rattle.endpoint.proofs.Hears.{heard-by}
 
 -- ---- reports
 
@@ -115,20 +116,13 @@ pub record Brought (h : Effect) (x : Informed) : Type 0 where
   pub statuses : heldStatuses (x .statuses) ≡ h .state .statuses
 
 module _ (e : Endpoint) (now : ℕ) where
-  -- b: whether it resumes
-  heard-is : (b : Bool) → b ≡ (isRunning (e .phase) && e .flags .«disconnect_notify_sent»)
-      → heard now (seen e) ≡ hearing now (seen e) (resumedFlags b (e .flags)) (pick b (plain NetworkResumed ∷ []) [])
-  unfolding seen
-  heard-is true h = rw (heard-resumes now (seen e) (sym h))
-  heard-is false h = rw (heard-quiet now (seen e) (sym h))
-
   module _ (ack : ℕ) (d : Bool) (reports : List StatusReport) where
     pub informs : (x : Informed) → InformedAs (e .phase) (e .clocks) (e .flags) (heldStatuses (e .statuses)) d reports now x
         → Brought (informed d reports (change (acknowledged ack) (heard now (seen e)))) x
     unfolding seen ahead both
     informs x i =
-        rw (heard-is (x .resumes) (i .resumes), informed-is now ack d reports (seen e) (resumedFlags (x .resumes) (e .flags)) (pick (x .resumes) (plain NetworkResumed ∷ []) []), ← i .tells)
-        (record { told = refl; clocks = i .clocks; flags = i .flags; statuses = i .statuses })
+        rw (heard-by e now, informed-is now ack d reports (seen e) _ _, ← i .tells)
+        (record { told = rw (i .resumes); clocks = i .clocks; flags = i .flags; statuses = i .statuses })
 
     pub informs-sender : (sd : Sender) → sent sd ≡ droppedTo ack (sent (e .sender)) → sent sd ≡ informed d reports (change (acknowledged ack) (heard now (seen e))) .state .carried .sender
     unfolding seen

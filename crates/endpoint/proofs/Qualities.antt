@@ -19,14 +19,13 @@ use Rattle.outbox.specs.Outbox.{QueuedAs}
 use Rattle.protocol.specs.Reports.{remoteAdvantage, onQualityReport, roundTripNoted, onQualityReply}
 use Rattle.protocol.specs.Step.{heard, reacted}
 use Rattle.endpoint.specs.declared.Endpoint.{Endpoint}
-use Rattle.endpoint.specs.declared.hearing.Heard.{Heard}
 use Rattle.endpoint.specs.Endpoint.{seen, DidAs, DoneAs}
-use Rattle.endpoint.specs.Heard.{HeardAs}
+use Rattle.endpoint.proofs.Hears.{Ears, HeardAs}
 use Rattle.endpoint.proofs.Ends.{remade}
 use Rattle.endpoint.proofs.Changes.{changes-full, changes-done}
 use Rattle.endpoint.proofs.Answering.{Aside, reply-untold, reply-full, reply-done}
 
-module _ (e : Endpoint) (now : ℕ) (x : Heard) (ex : HeardAs e (heard now (seen e)) x) where
+module _ (e : Endpoint) (now : ℕ) (x : Ears) (ex : HeardAs e (heard now (seen e)) x) where
   -- how both leave it when they are done
   abbrev Noted : Clocks → Quality → (queued : ℕ) → Endpoint
   Noted c y queued = remade e (e .sender) (e .history) (e .phase) (e .sync) c (x .flags) y (e .statuses) (e .checksums) (x .events) queued

@@ -7,13 +7,12 @@ use Rattle.answer.specs.declared.Answer.the-variants.{Done, Full}
 use Rattle.protocol.specs.Handshake.{plainly}
 use Rattle.protocol.specs.Step.{heard, reacted}
 use Rattle.endpoint.specs.declared.Endpoint.{Endpoint}
-use Rattle.endpoint.specs.declared.hearing.Heard.{Heard}
 use Rattle.endpoint.specs.Endpoint.{seen, DoneAs}
-use Rattle.endpoint.specs.Heard.{HeardAs}
+use Rattle.endpoint.proofs.Hears.{Ears, HeardAs}
 use Rattle.endpoint.proofs.Ends.{remade}
 use Rattle.endpoint.proofs.Changes.{changes-full, changes-done}
 
-module _ (e : Endpoint) (now : ℕ) (x : Heard) where
+module _ (e : Endpoint) (now : ℕ) (x : Ears) where
   abbrev Only : Endpoint → Answer → Type 0
   Only n a = HeardAs e (heard now (seen e)) x → DoneAs e (reacted 0 (seen e) (plainly (heard now (seen e)))) (record { answer = a; endpoint = n })
 

@@ -16,13 +16,12 @@ use Rattle.outbox.specs.Outbox.{QueuedAs}
 use Rattle.protocol.specs.Handshake.{onSyncRequest}
 use Rattle.protocol.specs.Step.{heard, reacted}
 use Rattle.endpoint.specs.declared.Endpoint.{Endpoint}
-use Rattle.endpoint.specs.declared.hearing.Heard.{Heard}
 use Rattle.endpoint.specs.Endpoint.{seen, DidAs}
-use Rattle.endpoint.specs.Heard.{HeardAs}
+use Rattle.endpoint.proofs.Hears.{Ears, HeardAs}
 use Rattle.endpoint.proofs.Ends.{remade}
 use Rattle.endpoint.proofs.Answering.{Aside, reply-untold, reply-full, reply-done}
 
-module _ (e : Endpoint) (buffer : List ℕ) (now asked : ℕ) (x : Heard) where
+module _ (e : Endpoint) (buffer : List ℕ) (now asked : ℕ) (x : Ears) where
   abbrev Asked : Endpoint → Answer → List ℕ → Type 0
   Asked n a b′ =
       HeardAs e (heard now (seen e)) x → DidAs e (reacted (length buffer) (seen e) (onSyncRequest now asked (heard now (seen e)))) buffer (record { answer = a; endpoint = n }) b′

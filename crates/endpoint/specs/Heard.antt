@@ -1,15 +1,22 @@
--- The parts of an endpoint that have heard a message: what hearing it tells is at the end of the events, where it fits.
-use mathlib.Core.List.{_++_}
-use mathlib.Core.Path.{_≡_}
-use lib.ListN.{length}
+-- The plain parts of an endpoint that have heard a message.
+use mathlib.Core.Bool.{Bool, false, _&&_}
+use Prim.Native.Nat.{ℕ}
 use Rattle.base.specs.Pick.{pick}
-use Rattle.events.specs.Events.{held, hasRoom}
-use Rattle.protocol.specs.Did.{Effect}
-use Rattle.endpoint.specs.declared.Endpoint.{Endpoint}
+use Rattle.timers.specs.declared.Clocks.{Clocks}
+use Rattle.timers.specs.Timers.{heardAt}
+use Rattle.protocol.specs.declared.Phase.{Phase}
+use Rattle.protocol.specs.declared.Flags.{Flags}
+use Rattle.protocol.specs.Seen.{isRunning}
 use Rattle.endpoint.specs.declared.hearing.Heard.{Heard}
 
-pub record HeardAs (e : Endpoint) (x : Effect) (r : Heard) : Type 0 where
-  pub ok : r .ok ≡ hasRoom (held (e .events)) (length (x .told))
-  pub clocks : r .clocks ≡ x .state .clocks
-  pub flags : r .flags ≡ x .state .flags
-  pub events : held (r .events) ≡ pick (r .ok) (held (e .events) ++ x .told) (held (e .events))
+-- the flags where an interruption ends
+abbrev pub resumedFlags : Bool → Flags → Flags
+resumedFlags resumes f = pick resumes (record { «disconnect_notify_sent» = false; «disconnect_event_sent» = f .«disconnect_event_sent» }) f
+
+abbrev pub heardBy : Phase → Clocks → Flags → (now : ℕ) → Heard
+heardBy phase c f now =
+    record {
+      resumes = isRunning phase && f .«disconnect_notify_sent»;
+      clocks = heardAt now c;
+      flags = resumedFlags (isRunning phase && f .«disconnect_notify_sent») f;
+    }

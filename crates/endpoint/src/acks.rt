@@ -8,6 +8,7 @@ ghost use Rattle.endpoint.specs.Sent.{sent};
 use crate::Ended;
 use crate::Endpoint;
 use crate::Sender;
+use crate::hearing;
 use answer::Answer;
 
 impl Sender {
@@ -26,8 +27,10 @@ impl Endpoint {
     pub(crate) fn on_input_ack(self, ack_frame: u32, now: u64) -> Ended
         ensures { λ r. ⌜ DoneAs self (reacted 0 (seen self) (onInputAck «ack_frame» (heard now (seen self)))) r ⌝ }
     {
-        let heard = self.hear(now);
-        if !heard.ok {
+        let phase = self.phase;
+        let heard = hearing::hear(phase, self.clocks, self.flags, now);
+        let told = self.events.push_if(heard.resumes, hearing::resumption());
+        if !told.ok {
             return Ended {
                 answer: Answer::Full,
                 endpoint: self,
@@ -36,7 +39,7 @@ impl Endpoint {
         let sender = self.sender.acknowledged(ack_frame);
         let clocks = heard.clocks;
         let flags = heard.flags;
-        let events = heard.events;
+        let events = told.events;
         Ended {
             answer: Answer::Done,
             endpoint: Endpoint {

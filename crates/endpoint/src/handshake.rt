@@ -14,6 +14,7 @@ use crate::Ended;
 use crate::Endpoint;
 use crate::NUM_SYNC_PACKETS;
 use crate::Sync;
+use crate::hearing;
 use answer::Answer;
 use codec::MessageBody;
 use events::Entry;
@@ -117,8 +118,10 @@ impl Endpoint {
     pub(crate) fn on_sync_request(self, random_request: u32, now: u64, out: &mut [u8]) -> Ended
         ensures { λ r. ⌜ DidAs self (reacted (length (out .entry .now)) (seen self) (onSyncRequest now «random_request» (heard now (seen self)))) (out .entry .now) r (out .exit .now) ⌝ }
     {
-        let heard = self.hear(now);
-        if !heard.ok {
+        let phase = self.phase;
+        let heard = hearing::hear(phase, self.clocks, self.flags, now);
+        let told = self.events.push_if(heard.resumes, hearing::resumption());
+        if !told.ok {
             return Ended {
                 answer: Answer::Full,
                 endpoint: self,
@@ -140,7 +143,7 @@ impl Endpoint {
         }
         let clocks = heard.clocks.sent(now);
         let flags = heard.flags;
-        let events = heard.events;
+        let events = told.events;
         Ended {
             answer: Answer::Done,
             endpoint: Endpoint {

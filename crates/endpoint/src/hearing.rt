@@ -1,32 +1,30 @@
 // What every message that is not ignored brings: the receive time, and in Running the end of an announced interruption.
 ghost use mathlib.Core.Path.{_≡_};
-ghost use mathlib.Core.Bool.{false, _&&_};
-ghost use Rattle.base.specs.Pick.{pick};
+ghost use mathlib.Core.Bool.{_&&_};
+ghost use Rattle.events.specs.Events.{plain};
+ghost use Rattle.events.specs.declared.Event.the-variants.{NetworkResumed};
 ghost use Rattle.protocol.specs.Seen.{isRunning};
 ghost use Rattle.protocol.specs.Step.{heard, reacted};
 ghost use Rattle.protocol.specs.Handshake.{plainly};
 ghost use Rattle.endpoint.specs.Endpoint.{seen, DoneAs};
-ghost use Rattle.endpoint.specs.Heard.{HeardAs};
+ghost use Rattle.endpoint.specs.Heard.{heardBy, resumedFlags};
 use crate::Ended;
 use crate::Endpoint;
 use answer::Answer;
 use events::Entry;
 use events::Event;
-use events::Events;
 use protocol::Flags;
 use protocol::Phase;
 use timers::Clocks;
 
-// The parts of an endpoint that have heard a message; where its event does not fit, unchanged events and told so.
+// The plain parts of an endpoint that have heard a message, and whether that ends an interruption, which is then told.
 pub struct Heard {
-    pub ok: bool,
+    pub resumes: bool,
     pub clocks: Clocks,
     pub flags: Flags,
-    pub events: Events,
 }
 
-// Whether a message ends an announced interruption.
-pub(crate) fn is_resuming(phase: Phase, flags: Flags) -> bool
+fn is_resuming(phase: Phase, flags: Flags) -> bool
     ensures { λ r. ⌜ r ≡ (isRunning phase && flags .«disconnect_notify_sent») ⌝ }
 {
     let Phase::Running = phase else {
@@ -35,8 +33,8 @@ pub(crate) fn is_resuming(phase: Phase, flags: Flags) -> bool
     flags.disconnect_notify_sent
 }
 
-pub(crate) fn resumed_flags(flags: Flags, resumes: bool) -> Flags
-    ensures { λ r. ⌜ r ≡ pick resumes (record { «disconnect_notify_sent» = false; «disconnect_event_sent» = flags .«disconnect_event_sent» }) flags ⌝ }
+fn resumed_flags(flags: Flags, resumes: bool) -> Flags
+    ensures { λ r. ⌜ r ≡ resumedFlags resumes flags ⌝ }
 {
     if resumes {
         return Flags {
@@ -47,36 +45,35 @@ pub(crate) fn resumed_flags(flags: Flags, resumes: bool) -> Flags
     flags
 }
 
-impl Endpoint {
-    pub(crate) fn hear(self, now: u64) -> Heard
-        ensures { λ r. ⌜ HeardAs self (heard now (seen self)) r ⌝ }
-    {
-        let phase = self.phase;
-        let resumes = is_resuming(phase, self.flags);
-        let pushed = self.events.push_if(
-            resumes,
-            Entry {
-                event: Event::NetworkResumed,
-                input: [0u8; 16],
-            },
-        );
-        let clocks = self.clocks.heard(now);
-        let flags = resumed_flags(self.flags, resumes);
-        let events = pushed.events;
-        Heard {
-            ok: pushed.ok,
-            clocks,
-            flags,
-            events,
-        }
+pub(crate) fn hear(phase: Phase, clocks: Clocks, flags: Flags, now: u64) -> Heard
+    ensures { λ r. ⌜ r ≡ heardBy phase clocks flags now ⌝ }
+{
+    let resumes = is_resuming(phase, flags);
+    Heard {
+        resumes,
+        clocks: clocks.heard(now),
+        flags: resumed_flags(flags, resumes),
     }
+}
 
+pub(crate) fn resumption() -> Entry
+    ensures { λ r. ⌜ r ≡ plain NetworkResumed ⌝ }
+{
+    Entry {
+        event: Event::NetworkResumed,
+        input: [0u8; 16],
+    }
+}
+
+impl Endpoint {
     // A message that brings nothing else.
     pub(crate) fn on_keep_alive(self, now: u64) -> Ended
         ensures { λ r. ⌜ DoneAs self (reacted 0 (seen self) (plainly (heard now (seen self)))) r ⌝ }
     {
-        let heard = self.hear(now);
-        if !heard.ok {
+        let phase = self.phase;
+        let heard = hear(phase, self.clocks, self.flags, now);
+        let told = self.events.push_if(heard.resumes, resumption());
+        if !told.ok {
             return Ended {
                 answer: Answer::Full,
                 endpoint: self,
@@ -84,7 +81,7 @@ impl Endpoint {
         }
         let clocks = heard.clocks;
         let flags = heard.flags;
-        let events = heard.events;
+        let events = told.events;
         Ended {
             answer: Answer::Done,
             endpoint: Endpoint {

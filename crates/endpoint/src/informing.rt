@@ -88,14 +88,15 @@ pub(crate) fn inform(
 ) -> Informed
     ensures { λ r. ⌜ InformedAs phase clocks flags (held statuses) «disconnect_requested» (listed reports) now r ⌝ }
 {
-    let resumes = hearing::is_resuming(phase, flags);
-    let resumed = hearing::resumed_flags(flags, resumes);
-    let tells = tells_disconnect(disconnect_requested, phase, resumed);
+    let heard = hearing::hear(phase, clocks, flags, now);
+    let tells = tells_disconnect(disconnect_requested, phase, heard.flags);
+    let flags = told_flags(heard.flags, tells);
+    let clocks = heard.clocks;
     Informed {
-        resumes,
+        resumes: heard.resumes,
         tells,
-        clocks: clocks.heard(now),
-        flags: told_flags(resumed, tells),
+        clocks,
+        flags,
         statuses: informed_statuses(statuses, disconnect_requested, reports),
     }
 }

@@ -19,6 +19,7 @@ ghost use Rattle.endpoint.specs.Endpoint.{seen, DidAs, DoneAs};
 ghost use Rattle.endpoint.specs.Readable.{Readable};
 use crate::Ended;
 use crate::Endpoint;
+use crate::hearing;
 use crate::informing;
 use crate::packet;
 use answer::Answer;
@@ -81,10 +82,7 @@ impl Endpoint {
         );
         let told = self.events.push_both(
             informed.resumes,
-            Entry {
-                event: Event::NetworkResumed,
-                input: [0u8; 16],
-            },
+            hearing::resumption(),
             informed.tells,
             Entry {
                 event: Event::Disconnected,

@@ -7,6 +7,7 @@ ghost use Rattle.protocol.specs.Step.{heard, reacted, step};
 ghost use Rattle.endpoint.specs.Endpoint.{seen, DidAs, DoneAs};
 use crate::Ended;
 use crate::Endpoint;
+use crate::hearing;
 use answer::Answer;
 use codec::MessageBody;
 use codec::Wide;
@@ -24,8 +25,10 @@ impl Endpoint {
     ) -> Ended
         ensures { λ r. ⌜ DidAs self (reacted (length (out .entry .now)) (seen self) (onQualityReport now «frame_advantage» ping (heard now (seen self)))) (out .entry .now) r (out .exit .now) ⌝ }
     {
-        let heard = self.hear(now);
-        if !heard.ok {
+        let phase = self.phase;
+        let heard = hearing::hear(phase, self.clocks, self.flags, now);
+        let told = self.events.push_if(heard.resumes, hearing::resumption());
+        if !told.ok {
             return Ended {
                 answer: Answer::Full,
                 endpoint: self,
@@ -46,7 +49,7 @@ impl Endpoint {
         let clocks = heard.clocks.sent(now);
         let quality = self.quality.remote(frame_advantage);
         let flags = heard.flags;
-        let events = heard.events;
+        let events = told.events;
         Ended {
             answer: Answer::Done,
             endpoint: Endpoint {
@@ -64,8 +67,10 @@ impl Endpoint {
     pub(crate) fn on_quality_reply(self, pong: Wide, now: u64, epoch: u64) -> Ended
         ensures { λ r. ⌜ DoneAs self (reacted 0 (seen self) (onQualityReply epoch pong (heard now (seen self)))) r ⌝ }
     {
-        let heard = self.hear(now);
-        if !heard.ok {
+        let phase = self.phase;
+        let heard = hearing::hear(phase, self.clocks, self.flags, now);
+        let told = self.events.push_if(heard.resumes, hearing::resumption());
+        if !told.ok {
             return Ended {
                 answer: Answer::Full,
                 endpoint: self,
@@ -75,7 +80,7 @@ impl Endpoint {
         let quality = self.quality.tripped(time);
         let clocks = heard.clocks;
         let flags = heard.flags;
-        let events = heard.events;
+        let events = told.events;
         Ended {
             answer: Answer::Done,
             endpoint: Endpoint {
@@ -100,8 +105,10 @@ impl Endpoint {
                 endpoint: self,
             };
         }
-        let heard = self.hear(now);
-        if reported.full || !heard.ok {
+        let phase = self.phase;
+        let heard = hearing::hear(phase, self.clocks, self.flags, now);
+        let told = self.events.push_if(heard.resumes, hearing::resumption());
+        if reported.full || !told.ok {
             return Ended {
                 answer: Answer::Full,
                 endpoint: self,
@@ -110,7 +117,7 @@ impl Endpoint {
         let checksums = reported.checksums;
         let clocks = heard.clocks;
         let flags = heard.flags;
-        let events = heard.events;
+        let events = told.events;
         Ended {
             answer: Answer::Done,
             endpoint: Endpoint {

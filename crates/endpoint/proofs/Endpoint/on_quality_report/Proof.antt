@@ -1,20 +1,21 @@
 use borrow.Author.Tests.{not-true, not-false}
 use Rattle.endpoint.proofs.Qualities.{report-untold, report-full, report-done}
+use Rattle.endpoint.proofs.Hears.{ears, hears}
 use borrow.Author.Needs.{needs}
 use Rattle.endpoint.proofs.Endpoint.on_quality_report.Statement.{statement}
 use Rattle.endpoint.proofs.Endpoint.on_quality_report.Tie as tie
-use Rattle.endpoint.proofs.Endpoint.on_quality_report.Reads as reads
-use Rattle.endpoint.proofs.Endpoint.on_quality_report.Lts as lts
-use Rattle.endpoint.proofs.Endpoint.hear.Reads as hear-reads
-use Rattle.outbox.proofs.plain.Reads as plain-reads
-use Rattle.quality.proofs.Quality.remote.Reads as remote-reads
-use Rattle.timers.proofs.Clocks.sent.Reads as sent-reads
 
 hear-requires : tie.Need-hear-requires
 hear-requires c κs = search needs
 
+resumption-requires : tie.Need-resumption-requires
+resumption-requires c κs = search needs
+
+push-if-requires : tie.Need-push-if-requires
+push-if-requires c κs = search needs
+
 returns : tie.Need-returns
-returns c = report-untold (c .before .before .before .before .args .self) (c .before .before .before .before .args .now) (c .before .before .hear .result) (c .before .before .hear .ensures) (c .before .before .before .before .args .out .now) (c .before .before .before .before .args .frame-advantage) (c .before .before .before .before .args .ping) (not-true _ (c .if1 .taken))
+returns c = report-untold (c .before .before .before .before .before .before .args .self) (c .before .before .before .before .before .before .args .now) (ears (c .before .before .before .before .hear .result) (c .before .before .push-if .result)) (hears (c .before .before .before .before .before .before .args .self) (c .before .before .before .before .before .before .args .now) (c .before .before .before .before .hear .result) (c .before .before .before .resumption .result) (c .before .before .push-if .result) (c .before .before .before .before .hear .ensures) (c .before .before .before .resumption .ensures) (c .before .before .push-if .ensures)) (c .before .before .before .before .before .before .args .out .now) (c .before .before .before .before .before .before .args .frame-advantage) (c .before .before .before .before .before .before .args .ping) (not-true _ (c .if1 .taken))
 
 plain-requires : tie.Need-plain-requires
 plain-requires c κs = search needs
@@ -23,7 +24,7 @@ same-length : tie.Need-same-length
 same-length c = search needs
 
 returns-2 : tie.Need-returns-2
-returns-2 c = report-full (c .before .before .before .before .before .before .before .before .before .before .args .self) (c .before .before .before .before .before .before .before .before .before .before .args .now) (c .before .before .before .before .before .before .before .before .hear .result) (c .before .before .before .before .before .before .before .before .hear .ensures) (c .before .before .before .before .before .before .before .before .before .before .args .out .now) (c .before .before .before .before .before .before .before .before .before .before .args .frame-advantage) (c .before .before .before .before .before .before .before .before .before .before .args .ping) (c .before .before .before .before .plain .result) (c .before .before .before .before .plain .last .0) (c .before .before .before .before .plain .ensures) (not-true _ (c .if2 .taken))
+returns-2 c = report-full (c .before .before .before .before .before .before .before .before .before .before .before .before .args .self) (c .before .before .before .before .before .before .before .before .before .before .before .before .args .now) (ears (c .before .before .before .before .before .before .before .before .before .before .hear .result) (c .before .before .before .before .before .before .before .before .push-if .result)) (hears (c .before .before .before .before .before .before .before .before .before .before .before .before .args .self) (c .before .before .before .before .before .before .before .before .before .before .before .before .args .now) (c .before .before .before .before .before .before .before .before .before .before .hear .result) (c .before .before .before .before .before .before .before .before .before .resumption .result) (c .before .before .before .before .before .before .before .before .push-if .result) (c .before .before .before .before .before .before .before .before .before .before .hear .ensures) (c .before .before .before .before .before .before .before .before .before .resumption .ensures) (c .before .before .before .before .before .before .before .before .push-if .ensures)) (c .before .before .before .before .before .before .before .before .before .before .before .before .args .out .now) (c .before .before .before .before .before .before .before .before .before .before .before .before .args .frame-advantage) (c .before .before .before .before .before .before .before .before .before .before .before .before .args .ping) (c .before .before .before .before .plain .result) (c .before .before .before .before .plain .last .0) (c .before .before .before .before .plain .ensures) (not-true _ (c .if2 .taken))
 
 sent-requires : tie.Need-sent-requires
 sent-requires c κs = search needs
@@ -35,13 +36,15 @@ same-length-2 : tie.Need-same-length-2
 same-length-2 c = search needs
 
 returns-3 : tie.Need-returns-3
-returns-3 c = report-done (c .before .before .before .before .before .before .before .before .before .before .before .before .before .before .before .before .before .before .before .before .args .self) (c .before .before .before .before .before .before .before .before .before .before .before .before .before .before .before .before .before .before .before .before .args .now) (c .before .before .before .before .before .before .before .before .before .before .before .before .before .before .before .before .before .before .hear .result) (c .before .before .before .before .before .before .before .before .before .before .before .before .before .before .before .before .before .before .hear .ensures) (c .before .before .before .before .before .before .before .before .before .before .before .before .before .before .before .before .before .before .before .before .args .out .now) (c .before .before .before .before .before .before .before .before .before .before .before .before .before .before .before .before .before .before .before .before .args .frame-advantage) (c .before .before .before .before .before .before .before .before .before .before .before .before .before .before .before .before .before .before .before .before .args .ping) (c .before .before .before .before .before .before .before .before .before .before .before .before .before .before .plain .result) (c .before .before .before .before .before .before .before .before .before .before .before .before .before .before .plain .last .0) (c .before .before .before .before .before .before .before .before .before .before .before .before .before .before .plain .ensures) (c .before .before .before .before .before .before .before .before .before .sent .result) (c .before .before .before .before .before .before .before .before .remote .result) (not-false _ (c .before .before .before .before .before .before .before .before .before .before .before .before .before .before .before .before .if1 .left)) (not-false _ (c .before .before .before .before .before .before .before .before .before .before .if2 .left)) (c .before .before .before .before .before .before .before .before .before .sent .ensures) (c .before .before .before .before .before .before .before .before .remote .ensures)
+returns-3 c = report-done (c .before .before .before .before .before .before .before .before .before .before .before .before .before .before .before .before .before .before .before .before .before .before .args .self) (c .before .before .before .before .before .before .before .before .before .before .before .before .before .before .before .before .before .before .before .before .before .before .args .now) (ears (c .before .before .before .before .before .before .before .before .before .before .before .before .before .before .before .before .before .before .before .before .hear .result) (c .before .before .before .before .before .before .before .before .before .before .before .before .before .before .before .before .before .before .push-if .result)) (hears (c .before .before .before .before .before .before .before .before .before .before .before .before .before .before .before .before .before .before .before .before .before .before .args .self) (c .before .before .before .before .before .before .before .before .before .before .before .before .before .before .before .before .before .before .before .before .before .before .args .now) (c .before .before .before .before .before .before .before .before .before .before .before .before .before .before .before .before .before .before .before .before .hear .result) (c .before .before .before .before .before .before .before .before .before .before .before .before .before .before .before .before .before .before .before .resumption .result) (c .before .before .before .before .before .before .before .before .before .before .before .before .before .before .before .before .before .before .push-if .result) (c .before .before .before .before .before .before .before .before .before .before .before .before .before .before .before .before .before .before .before .before .hear .ensures) (c .before .before .before .before .before .before .before .before .before .before .before .before .before .before .before .before .before .before .before .resumption .ensures) (c .before .before .before .before .before .before .before .before .before .before .before .before .before .before .before .before .before .before .push-if .ensures)) (c .before .before .before .before .before .before .before .before .before .before .before .before .before .before .before .before .before .before .before .before .before .before .args .out .now) (c .before .before .before .before .before .before .before .before .before .before .before .before .before .before .before .before .before .before .before .before .before .before .args .frame-advantage) (c .before .before .before .before .before .before .before .before .before .before .before .before .before .before .before .before .before .before .before .before .before .before .args .ping) (c .before .before .before .before .before .before .before .before .before .before .before .before .before .before .plain .result) (c .before .before .before .before .before .before .before .before .before .before .before .before .before .before .plain .last .0) (c .before .before .before .before .before .before .before .before .before .before .before .before .before .before .plain .ensures) (c .before .before .before .before .before .before .before .before .before .sent .result) (c .before .before .before .before .before .before .before .before .remote .result) (not-false _ (c .before .before .before .before .before .before .before .before .before .before .before .before .before .before .before .before .if1 .left)) (not-false _ (c .before .before .before .before .before .before .before .before .before .before .if2 .left)) (c .before .before .before .before .before .before .before .before .before .sent .ensures) (c .before .before .before .before .before .before .before .before .remote .ensures)
 
 pub on-quality-report-spec : {M : Type 1} → statement M
 on-quality-report-spec =
     tie.close
     (tie.spec
     hear-requires
+    resumption-requires
+    push-if-requires
     returns
     plain-requires
     same-length
