@@ -1,13 +1,7 @@
-// One record on one endpoint: the call, by its number in docs/REPLAY.md, and the body of its answer.
-use crate::crc::crc32;
-use crate::given::put_given;
-use crate::little::front;
-use crate::little::put_u8;
-use crate::little::put_u32;
+// One record on one endpoint: the call, by its number in docs/REPLAY.md.
 use crate::record::BUFFER;
 use crate::record::NEW;
 use crate::record::Record;
-use crate::snapshot::put_endpoint;
 use crate::value::message_of;
 use crate::value::payload_of;
 use crate::value::setup_of;
@@ -29,11 +23,10 @@ pub struct Side {
     pub endpoint: Endpoint,
 }
 
-// What a record gave: the answer's number, the object after it, and where the body ends.
+// What a record gave: the answer's number, and the object after it.
 pub struct Outcome {
     pub answer: u32,
     pub side: Side,
-    pub end: usize,
 }
 
 impl Side {
@@ -45,91 +38,68 @@ impl Side {
             endpoint,
         }
     }
-
-    fn gone(self) -> Side {
-        Side {
-            present: false,
-            ..self
-        }
-    }
 }
 
-pub fn turn(
-    side: Side,
-    record: Record,
-    payload: &[u8],
-    array: &mut [u8],
-    body: &mut [u8],
-) -> Outcome {
+pub fn turn(side: Side, record: Record, payload: &[u8], array: &mut [u8]) -> Outcome {
     let call = record.call;
     if call == BUFFER {
-        let at = put_u32(body, 0, crc32(array));
-        return shown(0, side, array, body, at);
+        return Outcome { answer: 0, side };
     }
     if call == NEW && record.sound {
-        return made(side, record, payload, array, body);
+        return made(side, record.now, payload);
     }
     if call != NEW && !side.present {
-        return shown(ABSENT, side, array, body, 0);
+        return Outcome {
+            answer: ABSENT,
+            side,
+        };
     }
     if !record.sound {
-        return shown(PANICKED, side.gone(), array, body, 0);
+        return panicked(side.endpoint);
     }
-    called(side, record, payload, array, body)
+    called(side.endpoint, record, payload, array)
 }
 
-// The state after the call ends the body.
-fn shown(answer: u32, side: Side, array: &[u8], body: &mut [u8], at: usize) -> Outcome {
-    if !side.present {
-        let end = put_u8(body, at, 0);
-        return Outcome { answer, side, end };
+fn panicked(endpoint: Endpoint) -> Outcome {
+    let side = Side {
+        present: false,
+        endpoint,
+    };
+    Outcome {
+        answer: PANICKED,
+        side,
     }
-    let end = put_endpoint(body, at, side.endpoint, array);
-    Outcome { answer, side, end }
 }
 
-// A refused `new` leaves what was there.
-fn made(side: Side, record: Record, payload: &[u8], array: &[u8], body: &mut [u8]) -> Outcome {
-    let ended = Endpoint::new(setup_of(payload), record.now);
+fn there(ended: Ended) -> Outcome {
     let answer = ended.answer;
-    let number = answer.number();
-    if number != 0 {
-        return shown(number, side, array, body, 0);
-    }
     let endpoint = ended.endpoint;
     let side = Side {
         present: true,
         endpoint,
     };
-    shown(0, side, array, body, 0)
+    Outcome {
+        answer: answer.number(),
+        side,
+    }
 }
 
-fn called(
-    side: Side,
-    record: Record,
-    payload: &[u8],
-    array: &mut [u8],
-    body: &mut [u8],
-) -> Outcome {
-    let before = side.endpoint;
+// A refused `new` leaves what was there.
+fn made(side: Side, now: u64, payload: &[u8]) -> Outcome {
+    let outcome = there(Endpoint::new(setup_of(payload), now));
+    if outcome.answer != 0 {
+        return Outcome { side, ..outcome };
+    }
+    outcome
+}
+
+fn called(endpoint: Endpoint, record: Record, payload: &[u8], array: &mut [u8]) -> Outcome {
     let buffer = record.buffer;
     // A record with a longer buffer was refused.
     if array.len() < buffer {
-        return shown(PANICKED, side.gone(), array, body, 0);
+        return panicked(endpoint);
     }
-    let ended = changed(before, record, payload, &mut array[..buffer]);
-    let answer = ended.answer;
-    let number = answer.number();
-    let endpoint = ended.endpoint;
-    let after = Side {
-        present: true,
-        endpoint,
-    };
-    if number != 0 {
-        return shown(number, after, array, body, 0);
-    }
-    let at = put_given(body, before, record, front(array, buffer));
-    shown(0, after, array, body, at)
+    there(changed(endpoint, record, payload, &mut array[..buffer]))
 }
 
 fn changed(endpoint: Endpoint, record: Record, payload: &[u8], out: &mut [u8]) -> Ended {

@@ -1,9 +1,15 @@
-// What a call hands back, by its number in docs/REPLAY.md, written into a lent buffer.
+// The body of an answer, written into a lent buffer: what the call hands back, by its number in docs/REPLAY.md, and the state after it.
+use crate::calls::Side;
+use crate::crc::crc32;
+use crate::little::front;
 use crate::little::put_bool;
 use crate::little::put_count;
 use crate::little::put_frame;
+use crate::little::put_u8;
+use crate::little::put_u32;
 use crate::little::put_u64;
 use crate::record::Record;
+use crate::snapshot::put_endpoint;
 use crate::snapshot::put_events;
 use crate::snapshot::put_handles;
 use crate::snapshot::put_part;
@@ -12,17 +18,25 @@ use endpoint::Endpoint;
 use endpoint::StatsResult;
 use endpoint::StatusResult;
 
-// By the endpoint before the call, where the call is done; `lent` is its send buffer.
-pub fn put_given(body: &mut [u8], endpoint: Endpoint, record: Record, lent: &[u8]) -> usize {
+// By the endpoint before the call, where the call is done; `array` is the object's.
+pub fn put_given(body: &mut [u8], endpoint: Endpoint, record: Record, array: &[u8]) -> usize {
     let call = record.call;
     match call {
         10 => put_stats(body, endpoint.network_stats(record.epoch)),
         11 => put_peer_status(body, endpoint.peer_connect_status(record.number as usize)),
         12 => put_events(body, 0, endpoint.events, endpoint.setup.input_size),
-        13 => put_messages(body, endpoint, lent),
+        13 => put_messages(body, endpoint, front(array, record.buffer)),
         14 => put_getters(body, endpoint, record.number),
+        15 => put_u32(body, 0, crc32(array)),
         _ => 0,
     }
+}
+
+pub fn put_side(body: &mut [u8], at: usize, side: Side, array: &[u8]) -> usize {
+    if !side.present {
+        return put_u8(body, at, 0);
+    }
+    put_endpoint(body, at, side.endpoint, array)
 }
 
 fn put_stats(body: &mut [u8], result: StatsResult) -> usize {

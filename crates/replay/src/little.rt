@@ -111,3 +111,24 @@ pub fn put_bytes(out: &mut [u8], at: usize, bytes: &[u8], n: usize) -> usize {
     }
     to
 }
+
+pub fn put_u32s(out: &mut [u8], at: usize, list: &[u32], n: usize) -> usize {
+    let most = least(n, list.len());
+    let mut to = at;
+    let mut i = 0;
+    while i < most {
+        to = put_u32(out, to, list[i]);
+        i += 1;
+    }
+    to
+}
+
+pub fn put_u64s(out: &mut [u8], at: usize, list: &[u64]) -> usize {
+    let mut to = at;
+    let mut i = 0;
+    while i < list.len() {
+        to = put_u64(out, to, list[i]);
+        i += 1;
+    }
+    to
+}

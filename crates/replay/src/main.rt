@@ -9,16 +9,19 @@ mod snapshot;
 mod value;
 
 use calls::ABSENT;
+use calls::Outcome;
 use calls::Side;
 use crc::crc32;
+use endpoint::Endpoint;
+use given::put_given;
+use given::put_side;
 use libc::STDOUT_FILENO;
 use little::front;
 use little::put_count;
-use little::put_u8;
-use little::put_u16;
 use little::put_u32;
 use record::BUFFER;
 use record::Record;
+use record::SPECTATOR;
 use script::Mode;
 
 // A proved loop has to end, and nothing says that the input does.
@@ -42,67 +45,104 @@ fn replay(digest: bool) {
     run(digest, &mut a, &mut b, &mut payload, &mut body);
 }
 
+struct Sides {
+    first: Side,
+    second: Side,
+}
+
 fn run(digest: bool, a: &mut [u8], b: &mut [u8], payload: &mut [u8], body: &mut [u8]) {
-    let mut first = Side::absent();
-    let mut second = Side::absent();
+    let none = Side::absent();
+    let mut sides = Sides {
+        first: none,
+        second: none,
+    };
     let mut left = MOST;
     while 0 < left {
         let next = script::next_record(payload, a, b);
         if !next.more {
             return;
         }
-        let record = next.record;
-        let object = record.object;
-        if object == 0 {
-            first = answered(digest, first, record, payload, a, body);
-        } else if object == 1 {
-            second = answered(digest, second, record, payload, b, body);
-        } else {
-            spectator(digest, record, body);
-        }
+        sides = after(digest, sides, next.record, payload, a, b, body);
         left -= 1;
     }
 }
 
+// Each object answers its own records.
+fn after(
+    digest: bool,
+    sides: Sides,
+    record: Record,
+    payload: &[u8],
+    a: &mut [u8],
+    b: &mut [u8],
+    body: &mut [u8],
+) -> Sides {
+    spectator(digest, record);
+    let first = answered(digest, 0, sides.first, record, payload, a, body);
+    let second = answered(digest, 1, sides.second, record, payload, b, body);
+    Sides { first, second }
+}
+
 fn answered(
     digest: bool,
+    object: u8,
     side: Side,
     record: Record,
     payload: &[u8],
     array: &mut [u8],
     body: &mut [u8],
 ) -> Side {
-    let part = front(payload, record.length);
-    let outcome = calls::turn(side, record, part, array, body);
-    print(digest, record, outcome.answer, body, outcome.end);
-    let after = outcome.side;
-    after
+    if record.object != object {
+        return side;
+    }
+    let outcome = calls::turn(side, record, front(payload, record.length), array);
+    let end = put_body(body, side.endpoint, record, outcome, array);
+    print(digest, record, outcome.answer, front(body, end));
+    outcome.side
+}
+
+fn put_body(
+    body: &mut [u8],
+    before: Endpoint,
+    record: Record,
+    outcome: Outcome,
+    array: &[u8],
+) -> usize {
+    if outcome.answer != 0 {
+        return put_side(body, 0, outcome.side, array);
+    }
+    let at = put_given(body, before, record, array);
+    put_side(body, at, outcome.side, array)
 }
 
 // The spectator is not built: it never exists, and its array stays zero.
-fn spectator(digest: bool, record: Record, body: &mut [u8]) {
-    if record.call != BUFFER {
-        let end = put_u8(body, 0, 0);
-        print(digest, record, ABSENT, body, end);
+fn spectator(digest: bool, record: Record) {
+    if record.object != SPECTATOR {
         return;
     }
-    let at = put_u32(body, 0, crc32(&io::large_buffer()));
-    let end = put_u8(body, at, 0);
-    print(digest, record, 0, body, end);
+    if record.call != BUFFER {
+        print(digest, record, ABSENT, &[0]);
+        return;
+    }
+    // The sum, and 0: not there.
+    let mut body = [0u8; 5];
+    put_u32(&mut body, 0, crc32(&io::large_buffer()));
+    print(digest, record, 0, &body);
 }
 
-fn print(digest: bool, record: Record, answer: u32, body: &[u8], end: usize) {
-    let body = front(body, end);
-    let mut head = [0u8; 12];
-    let at = put_u8(&mut head, 0, record.call);
-    let at = put_u8(&mut head, at, record.object);
-    put_u16(&mut head, at, (answer % 0x100) as u16);
-    if !digest {
-        io::write_all(STDOUT_FILENO, front(&head, 4));
-        io::write_all(STDOUT_FILENO, body);
+fn print(digest: bool, record: Record, answer: u32, body: &[u8]) {
+    let head = [record.call, record.object, (answer % 0x100) as u8, 0];
+    io::write_all(STDOUT_FILENO, &head);
+    if digest {
+        write_digest(body);
         return;
     }
-    put_count(&mut head, 4, body.len());
-    put_u32(&mut head, 8, crc32(body));
-    io::write_all(STDOUT_FILENO, &head);
+    io::write_all(STDOUT_FILENO, body);
+}
+
+fn write_digest(body: &[u8]) {
+    let mut digest = [0u8; 8];
+    put_count(&mut digest, 0, body.len());
+    put_u32(&mut digest, 4, crc32(body));
+    io::write_all(STDOUT_FILENO, &digest);
 }

@@ -21,7 +21,7 @@ pub const BUFFER: u8 = 15;
 
 const LAST_CALL: u8 = 17;
 
-const SPECTATOR: u8 = 2;
+pub const SPECTATOR: u8 = 2;
 
 pub struct Record {
     pub call: u8,

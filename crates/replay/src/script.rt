@@ -60,37 +60,35 @@ pub fn next_record(payload: &mut [u8], a: &[u8], b: &[u8]) -> Next {
     let n = io::read_full(STDIN_FILENO, &mut head);
     let record = Record::read(&head);
     if n == 0 {
-        return Next {
-            more: false,
-            record,
-        };
+        return last(record);
     }
     if n < 64 || record.is_bad() {
         complain(b"replay: no record of a script\n");
-        return Next {
-            more: false,
-            record,
-        };
+        return last(record);
     }
-    let length = record.length;
-    // A record with a longer payload part was refused.
-    if payload.len() < length {
-        return Next {
-            more: false,
-            record,
-        };
-    }
-    if io::read_full(STDIN_FILENO, &mut payload[..length]) < length {
+    if !read_part(payload, record.length) {
         complain(b"replay: the script ends inside a payload part\n");
-        return Next {
-            more: false,
-            record,
-        };
+        return last(record);
     }
     Next {
         more: true,
         record: looked_at(record, payload, a, b),
     }
+}
+
+fn last(record: Record) -> Next {
+    Next {
+        more: false,
+        record,
+    }
+}
+
+// Whether all of a payload part was read; a record with one longer than `payload` was refused.
+fn read_part(payload: &mut [u8], length: usize) -> bool {
+    if payload.len() < length {
+        return false;
+    }
+    io::read_full(STDIN_FILENO, &mut payload[..length]) == length
 }
 
 // The record with what its payload part is to its call.

@@ -8,7 +8,9 @@ use crate::little::put_frame;
 use crate::little::put_u8;
 use crate::little::put_u16;
 use crate::little::put_u32;
+use crate::little::put_u32s;
 use crate::little::put_u64;
+use crate::little::put_u64s;
 use checksums::Checksum;
 use checksums::Checksums;
 use endpoint::Endpoint;
@@ -73,35 +75,37 @@ fn phase_number(phase: Phase) -> u8 {
     }
 }
 
+// The first n numbers of a list, or all, their count before them.
+fn put_list(out: &mut [u8], at: usize, list: &[u32], n: usize) -> usize {
+    let most = least(n, list.len());
+    let at = put_count(out, at, most);
+    put_u32s(out, at, list, most)
+}
+
 pub fn put_handles(out: &mut [u8], at: usize, handles: Handles) -> usize {
-    let n = least(handles.count, 4);
-    let mut to = put_count(out, at, n);
-    let mut i = 0;
-    while i < n {
-        let handle = handles.list[i];
-        to = put_u32(out, to, handle);
-        i += 1;
-    }
-    to
+    let list = handles.list;
+    put_list(out, at, &list, handles.count)
 }
 
 fn put_desync(out: &mut [u8], at: usize, desync: DesyncDetection) -> usize {
     match desync {
-        DesyncDetection::Off => {
-            let at = put_u16(out, at, 0);
-            put_u32(out, at, 0)
-        }
-        DesyncDetection::On { interval } => {
-            let at = put_u16(out, at, 1);
-            put_u32(out, at, interval)
-        }
+        DesyncDetection::Off => put_switch(out, at, 0, 0),
+        DesyncDetection::On { interval } => put_switch(out, at, 1, interval),
     }
+}
+
+fn put_switch(out: &mut [u8], at: usize, on: u16, interval: u32) -> usize {
+    let at = put_u16(out, at, on);
+    put_u32(out, at, interval)
 }
 
 fn put_setup(out: &mut [u8], at: usize, setup: Setup) -> usize {
     let at = put_players(out, at, setup);
-    let at = put_u64(out, at, setup.disconnect_timeout);
-    let at = put_u64(out, at, setup.disconnect_notify_start);
+    let at = put_u64s(
+        out,
+        at,
+        &[setup.disconnect_timeout, setup.disconnect_notify_start],
+    );
     let at = put_u32(out, at, setup.peer_addr);
     let at = put_u16(out, at, setup.magic);
     let choices = setup.choices;
@@ -119,15 +123,8 @@ fn put_players(out: &mut [u8], at: usize, setup: Setup) -> usize {
 }
 
 fn put_nonces(out: &mut [u8], at: usize, nonces: Nonces) -> usize {
-    let n = least(nonces.count(), 256);
-    let mut to = put_count(out, at, n);
-    let mut i = 0;
-    while i < n {
-        let nonce = nonces.list[i];
-        to = put_u32(out, to, nonce);
-        i += 1;
-    }
-    to
+    let list = nonces.list;
+    put_list(out, at, &list, nonces.count())
 }
 
 fn put_handshake(out: &mut [u8], at: usize, sync: Sync, flags: Flags) -> usize {
@@ -139,18 +136,24 @@ fn put_handshake(out: &mut [u8], at: usize, sync: Sync, flags: Flags) -> usize {
 }
 
 fn put_clocks(out: &mut [u8], at: usize, clocks: Clocks) -> usize {
-    let at = put_u64(out, at, clocks.running_last_quality_report);
-    let at = put_u64(out, at, clocks.running_last_input_recv);
-    let at = put_u64(out, at, clocks.last_send_time);
-    let at = put_u64(out, at, clocks.last_sync_request_time);
-    let at = put_u64(out, at, clocks.last_recv_time);
-    put_u64(out, at, clocks.shutdown_timeout)
+    let times = [
+        clocks.running_last_quality_report,
+        clocks.running_last_input_recv,
+        clocks.last_send_time,
+        clocks.last_sync_request_time,
+        clocks.last_recv_time,
+        clocks.shutdown_timeout,
+    ];
+    put_u64s(out, at, &times)
 }
 
 // An advantage is held as a frame is.
 fn put_quality(out: &mut [u8], at: usize, quality: Quality) -> usize {
-    let at = put_u64(out, at, quality.stats_start_time);
-    let at = put_u64(out, at, quality.round_trip_time);
+    let at = put_u64s(
+        out,
+        at,
+        &[quality.stats_start_time, quality.round_trip_time],
+    );
     let at = put_frame(out, at, quality.local_frame_advantage);
     put_frame(out, at, quality.remote_frame_advantage)
 }
@@ -222,8 +225,7 @@ fn least_from(checksums: Checksums, from: u64) -> Checksum {
 
 fn put_checksum(out: &mut [u8], at: usize, checksum: Checksum) -> usize {
     let at = put_frame(out, at, checksum.frame);
-    let at = put_u64(out, at, checksum.low);
-    put_u64(out, at, checksum.high)
+    put_u64s(out, at, &[checksum.low, checksum.high])
 }
 
 // Ascending by frame, while they are held in the order of their arrival.
@@ -241,28 +243,39 @@ fn put_checksums(out: &mut [u8], at: usize, checksums: Checksums) -> usize {
     to
 }
 
-fn put_event(out: &mut [u8], at: usize, event: Event, input: [u8; 16], size: u32) -> usize {
+fn event_number(event: Event) -> u8 {
     match event {
-        Event::Synchronizing { total, count } => {
-            let at = put_u8(out, at, 0);
-            let at = put_u32(out, at, total);
-            put_u32(out, at, count)
-        }
-        Event::Synchronized => put_u8(out, at, 1),
-        Event::Input { frame, player } => {
-            let at = put_u8(out, at, 2);
-            let at = put_frame(out, at, frame);
-            let at = put_u32(out, at, player);
-            let at = put_u8(out, at, (size % 0x100) as u8);
-            put_bytes(out, at, &input, size as usize)
-        }
-        Event::Disconnected => put_u8(out, at, 3),
-        Event::NetworkInterrupted { disconnect_timeout } => {
-            let at = put_u8(out, at, 4);
-            put_u64(out, at, disconnect_timeout)
-        }
-        Event::NetworkResumed => put_u8(out, at, 5),
+        Event::Synchronizing { .. } => 0,
+        Event::Synchronized => 1,
+        Event::Input { .. } => 2,
+        Event::Disconnected => 3,
+        Event::NetworkInterrupted { .. } => 4,
+        Event::NetworkResumed => 5,
     }
+}
+
+fn put_event(out: &mut [u8], at: usize, event: Event, input: [u8; 16], size: u32) -> usize {
+    let at = put_u8(out, at, event_number(event));
+    match event {
+        Event::Synchronizing { total, count } => put_u32s(out, at, &[total, count], 2),
+        Event::Input { frame, player } => put_announced(out, at, frame, player, &input, size),
+        Event::NetworkInterrupted { disconnect_timeout } => put_u64(out, at, disconnect_timeout),
+        _ => at,
+    }
+}
+
+fn put_announced(
+    out: &mut [u8],
+    at: usize,
+    frame: u32,
+    player: u32,
+    input: &[u8],
+    size: u32,
+) -> usize {
+    let at = put_frame(out, at, frame);
+    let at = put_u32(out, at, player);
+    let at = put_u8(out, at, (size % 0x100) as u8);
+    put_bytes(out, at, input, size as usize)
 }
 
 pub fn put_events(out: &mut [u8], at: usize, events: Events, size: u32) -> usize {

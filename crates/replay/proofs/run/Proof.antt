@@ -3,21 +3,17 @@ use borrow.Author.Needs.{needs}
 use native.Mathlib.Omega.{arith}
 use mathlib.Core.Path.{_≡_}
 use lib.ListN.{length}
-use mathlib.Core.Logic.{⊎-elim}
 use Rattle.replay.proofs.run.Statement.{statement}
 use Rattle.replay.proofs.run.Tie as tie
 
 abbrev Inv-loop : tie.InvT-loop
-Inv-loop digest a₀ b₀ payload₀ body₀ first₀ second₀ left₀ a b payload body first second left = (length a ≡ length a₀) × (length b ≡ length b₀) × (length payload ≡ length payload₀) × (length body ≡ length body₀)
+Inv-loop digest a₀ b₀ payload₀ body₀ sides₀ left₀ a b payload body sides left = (length a ≡ length a₀) × (length b ≡ length b₀) × (length payload ≡ length payload₀) × (length body ≡ length body₀)
 
 abbrev μ-loop : tie.MeasureT-loop
-μ-loop digest a₀ b₀ payload₀ body₀ first₀ second₀ left₀ a b payload body first second left = left
+μ-loop digest a₀ b₀ payload₀ body₀ sides₀ left₀ a b payload body sides left = left
 
 absent-requires : tie.Need-absent-requires Inv-loop μ-loop
 absent-requires c κs = search needs
-
-absent-requires-2 : tie.Need-absent-requires-2 Inv-loop μ-loop
-absent-requires-2 c κs = search needs
 
 loop-holds : tie.Need-loop-holds Inv-loop μ-loop
 loop-holds c = (omega arith, omega arith, omega arith, omega arith)
@@ -40,28 +36,22 @@ same-length-4 c = search needs
 returns : tie.Need-returns Inv-loop μ-loop
 returns c = search needs
 
-answered-requires : tie.Need-answered-requires Inv-loop μ-loop
-answered-requires c κs = search needs
-
-answered-requires-2 : tie.Need-answered-requires-2 Inv-loop μ-loop
-answered-requires-2 c κs = search needs
-
-spectator-requires : tie.Need-spectator-requires Inv-loop μ-loop
-spectator-requires c κs = search needs
+after-requires : tie.Need-after-requires Inv-loop μ-loop
+after-requires c κs = search needs
 
 sub-left : tie.Need-sub-left Inv-loop μ-loop
-sub-left c = omega arith
+sub-left c = omega (arith, c .before .before .before .before .before .before .before .before .before .before .before .before .before .before .before .before .before .before .before .loop-test .taken)
 
 loop-less : tie.Need-loop-less Inv-loop μ-loop
-loop-less c = omega arith
+loop-less c = omega (arith, c .before .before .before .before .before .before .before .before .before .before .before .before .before .before .before .before .before .before .before .loop-test .taken)
 
 loop-again : tie.Need-loop-again Inv-loop μ-loop
 loop-again c =
-    let l = c .before .before .before .before .before .before .before .before .before .before .before .loop in (
-      ⊎-elim (λ w. rw (w .9) (omega (arith, l .inv .0))) (⊎-elim (λ w. rw (w .10) (omega (arith, l .inv .0))) (λ w. rw (w .6) (omega (arith, l .inv .0)))) (c .if2 .came),
-      ⊎-elim (λ w. rw (w .10) (omega (arith, l .inv .1))) (⊎-elim (λ w. rw (w .11) (omega (arith, l .inv .1))) (λ w. rw (w .7) (omega (arith, l .inv .1)))) (c .if2 .came),
-      omega (arith, l .inv .2),
-      ⊎-elim (λ w. rw (w .11) (omega (arith, l .inv .3))) (⊎-elim (λ w. rw (w .12) (omega (arith, l .inv .3))) (λ w. rw (w .8) (omega (arith, l .inv .3)))) (c .if2 .came),
+    let l = c .before .before .before .before .before .before .before .before .before .before .before .before .before .before .before .before .before .before .before .before .loop in (
+      omega (arith, l .inv .0),
+      omega (arith, l .inv .1),
+      omega (arith, l .inv .2, c .before .before .before .before .before .before .before .before .before .before .before .before .before .before .payload .given),
+      omega (arith, l .inv .3),
     )
 
 same-length-5 : tie.Need-same-length-5 Inv-loop μ-loop
@@ -86,7 +76,6 @@ run-spec =
     Inv-loop
     μ-loop
     absent-requires
-    absent-requires-2
     loop-holds
     next-record-requires
     same-length
@@ -94,9 +83,7 @@ run-spec =
     same-length-3
     same-length-4
     returns
-    answered-requires
-    answered-requires-2
-    spectator-requires
+    after-requires
     sub-left
     loop-less
     loop-again

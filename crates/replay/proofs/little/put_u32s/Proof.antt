@@ -1,35 +1,29 @@
--- `put_nonces` reads inside its list, and the buffer keeps its length.
+-- `put_u32s` reads inside its list, and the buffer keeps its length.
 use borrow.Author.Needs.{needs}
 use native.Mathlib.Omega.{arith}
 use mathlib.Core.Path.{_≡_, refl, _∙_}
 use Prim.Native.Nat.{_-_, _≤_}
 use lib.ListN.{length}
-use Rattle.replay.proofs.snapshot.put_nonces.Statement.{statement}
-use Rattle.replay.proofs.snapshot.put_nonces.Tie as tie
+use Rattle.replay.proofs.little.put_u32s.Statement.{statement}
+use Rattle.replay.proofs.little.put_u32s.Tie as tie
 
 abbrev Inv-loop : tie.InvT-loop
-Inv-loop out₀ at nonces n to₀ i₀ out to i = (n ≤ 256) × (length out ≡ length out₀)
+Inv-loop out₀ at list n most to₀ i₀ out to i = (most ≤ length list) × (length out ≡ length out₀)
 
 abbrev μ-loop : tie.MeasureT-loop
-μ-loop out₀ at nonces n to₀ i₀ out to i = n - i
-
-count-requires : tie.Need-count-requires Inv-loop μ-loop
-count-requires c κs = search needs
+μ-loop out₀ at list n most to₀ i₀ out to i = most - i
 
 least-requires : tie.Need-least-requires Inv-loop μ-loop
 least-requires c κs = search needs
 
-put-count-requires : tie.Need-put-count-requires Inv-loop μ-loop
-put-count-requires c κs = search needs
-
 loop-holds : tie.Need-loop-holds Inv-loop μ-loop
 loop-holds c = (omega arith, omega arith)
 
-mul-nonce : tie.Need-mul-nonce Inv-loop μ-loop
-mul-nonce c = omega arith
+mul-put-u32 : tie.Need-mul-put-u32 Inv-loop μ-loop
+mul-put-u32 c = omega arith
 
-element-copy-out-nonce : tie.Need-element-copy-out-nonce Inv-loop μ-loop
-element-copy-out-nonce c = omega arith
+shared-slice-read-put-u32 : tie.Need-shared-slice-read-put-u32 Inv-loop μ-loop
+shared-slice-read-put-u32 c = omega arith
 
 put-u32-requires : tie.Need-put-u32-requires Inv-loop μ-loop
 put-u32-requires c κs = search needs
@@ -49,18 +43,16 @@ same-length c = search needs
 returns : tie.Need-returns Inv-loop μ-loop
 returns c = search needs
 
-pub put-nonces-spec : {M : Type 1} → statement M
-put-nonces-spec =
+pub put-u32s-spec : {M : Type 1} → statement M
+put-u32s-spec =
     tie.close
     (tie.spec
     Inv-loop
     μ-loop
-    count-requires
     least-requires
-    put-count-requires
     loop-holds
-    mul-nonce
-    element-copy-out-nonce
+    mul-put-u32
+    shared-slice-read-put-u32
     put-u32-requires
     add-i
     loop-less
