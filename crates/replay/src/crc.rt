@@ -20,16 +20,27 @@ const TABLE: [u32; 16] = [
     0xBDBD_F21C,
 ];
 
+// The sum of no bytes, before `sum_of` closes it.
+pub const NONE: u32 = 0xFFFF_FFFF;
+
 pub fn crc32(bytes: &[u8]) -> u32 {
+    sum_of(with_bytes(NONE, bytes))
+}
+
+pub fn sum_of(crc: u32) -> u32 {
+    crc ^ 0xFFFF_FFFF
+}
+
+pub fn with_bytes(before: u32, bytes: &[u8]) -> u32 {
     // Lent to each step: a step that named the constant would copy it.
     let table = TABLE;
-    let mut crc = 0xFFFF_FFFF;
+    let mut crc = before;
     let mut i = 0;
     while i < bytes.len() {
         crc = with_byte(crc, bytes[i], &table);
         i += 1;
     }
-    crc ^ 0xFFFF_FFFF
+    crc
 }
 
 fn with_byte(crc: u32, byte: u8, table: &[u32; 16]) -> u32 {

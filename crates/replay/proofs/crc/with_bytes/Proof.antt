@@ -1,16 +1,16 @@
--- `crc32` takes each byte.
+-- `with_bytes` takes each byte.
 use borrow.Author.Needs.{needs}
 use native.Mathlib.Omega.{arith}
 use Prim.Native.Nat.{_-_}
 use lib.ListN.{length}
-use Rattle.replay.proofs.crc.crc32.Statement.{statement}
-use Rattle.replay.proofs.crc.crc32.Tie as tie
+use Rattle.replay.proofs.crc.with_bytes.Statement.{statement}
+use Rattle.replay.proofs.crc.with_bytes.Tie as tie
 
 abbrev Inv-loop : tie.InvT-loop
-Inv-loop bytes table crc₀ i₀ crc i = Unit {0}
+Inv-loop before bytes table crc₀ i₀ crc i = Unit {0}
 
 abbrev μ-loop : tie.MeasureT-loop
-μ-loop bytes table crc₀ i₀ crc i = length bytes - i
+μ-loop before bytes table crc₀ i₀ crc i = length bytes - i
 
 loop-holds : tie.Need-loop-holds Inv-loop μ-loop
 loop-holds c = tt
@@ -33,8 +33,8 @@ loop-again c = tt
 returns : tie.Need-returns Inv-loop μ-loop
 returns c = search needs
 
-pub crc32-spec : {M : Type 1} → statement M
-crc32-spec =
+pub with-bytes-spec : {M : Type 1} → statement M
+with-bytes-spec =
     tie.close
     (tie.spec
     Inv-loop
