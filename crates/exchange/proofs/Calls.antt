@@ -14,10 +14,11 @@ use Rattle.packing.specs.Pad.{padded}
 use Rattle.packing.specs.declared.input_bytes.InputBytes.{InputBytes}
 use Rattle.status.specs.declared.ConnectionStatus.{ConnectionStatus}
 use Rattle.codec.specs.Message.{Wire}
-use Rattle.codec.specs.Read.{plain, datagram, wireIn}
+use Rattle.codec.specs.Read.{plain, datagram, numberIn, wireIn}
 use Rattle.codec.specs.declared.StatusReport.{StatusReport}
 use Rattle.codec.specs.declared.MessageBody.{MessageBody}
 use Rattle.codec.specs.declared.MessageBody.the-variants.{SyncRequest, SyncReply, Input, InputAck, QualityReport, QualityReply, ChecksumReport, KeepAlive}
+use Rattle.events.specs.declared.Entry.{Entry}
 use Rattle.outbox.specs.Outbox.{pendingInput}
 use Rattle.setup.specs.Setup.{receivingWidth, sendingWidth}
 use Rattle.setup.proofs.Laws.{receiving-within}
@@ -40,7 +41,7 @@ use Rattle.sound.proofs.Choices.{or-none, passes, by-pick}
 use Rattle.sound.proofs.Eaches.{each-also}
 use Rattle.sound.proofs.Leaves.{by-cases}
 use Rattle.exchange.specs.Frames.{Frame, acceptedBy}
-use Rattle.exchange.specs.Runs.{End, carries, Allowed, Meet}
+use Rattle.exchange.specs.Runs.{carries, Allowed, Meet}
 use Rattle.exchange.proofs.Lists.{Mem}
 use Rattle.exchange.proofs.Wires.{OnInput, OnAck, quiet-input, quiet-ack, each-mem}
 use Rattle.exchange.proofs.Tape.{Tape, Packet, Ack, Packets, Acks}
@@ -48,26 +49,33 @@ use Rattle.exchange.proofs.Moves.{Dir, queues, acked, hears, tells, sen
 use Rattle.exchange.proofs.Effects.{Does, starting, checking, others, taking, acts, sending}
 use Rattle.exchange.proofs.Effects as Effects
 
--- what is sent from one end to the other
-abbrev pub Way : End → End → Type 0
+-- an end with all events that it told, taken or not
+pub record Side : Type 0 where
+  pub state : Seen
+  pub queued : List Wire
+  pub told : List Entry
+  pub accepted : List Frame
+
+-- what is sent from one to the other
+abbrev pub Way : Side → Side → Type 0
 Way a b =
     Dir (receivingWidth (b .state .setup)) (b .state .setup .inputSize) (b .state .setup .handles) (a .state .carried .sender) (b .state .carried .receiver)
     (a .queued) (b .queued) (a .accepted) (b .told)
 
-pub record Both (a b : End) : Type 0 where
+pub record Both (a b : Side) : Type 0 where
   pub goes : Way a b
   pub comes : Way b a
 
--- an end after something was done
-abbrev pub onto : End → Did → List Frame → End
+-- one after something was done
+abbrev pub onto : Side → Did → List Frame → Side
 onto a d acc = record { state = d .after; queued = a .queued ++ d .out; told = a .told ++ d .told; accepted = a .accepted ++ acc }
 
 -- what was done keeps both directions, and the setup
-pub record Kept (a b : End) (d : Did) (acc : List Frame) : Type 0 where
+pub record Kept (a b : Side) (d : Did) (acc : List Frame) : Type 0 where
   pub both : Both (onto a d acc) b
   pub setup : d .after .setup ≡ a .state .setup
 
-kept-as : {a b : End} {d : Did} {acc : List Frame} → d .after .setup ≡ a .state .setup → Both (onto a d acc) b → Kept a b d acc
+kept-as : {a b : Side} {d : Did} {acc : List Frame} → d .after .setup ≡ a .state .setup → Both (onto a d acc) b → Kept a b d acc
 kept-as e h = record { both = h; setup = e }
 
 -- a call that is refused, silently returns, or is done
@@ -90,7 +98,7 @@ module _ {w v : ℕ} (t : Tape w) (n : ℕ) (u : Tape v) (m : ℕ) where
   acks-of : (l : List Wire) → Each (Sent t n u m) l → Acks u m l
   acks-of l h = each-also (Sent t n u m) (λ (x : Wire). OnAck (Ack u m) (x .body)) (λ x p. p .1) l h
 
-module _ (a b : End) (both : Both a b) (meet : Meet (a .state) (b .state)) (soundA : Sound (a .state)) (soundB : Sound (b .state)) where
+module _ (a b : Side) (both : Both a b) (meet : Meet (a .state) (b .state)) (soundA : Sound (a .state)) (soundB : Sound (b .state)) where
   abbrev s : Seen
   s = a .state
 
@@ -199,10 +207,16 @@ module _ (a b : End) (both : Both a b) (meet : Meet (a .state) (b .state)) (soun
   body-done magic (ChecksumReport checksum frame) reports payload q count now epoch nonce = quietly (wireOf magic (ChecksumReport checksum frame) reports payload) refl count now epoch nonce
   body-done magic KeepAlive reports payload q count now epoch nonce = quietly (wireOf magic KeepAlive reports payload) refl count now epoch nonce
 
-  message-both : (from count : ℕ) (w : Wire) (now epoch nonce buffer : ℕ) → (carries (w .body) ≡ true → Mem w (b .queued)) → Kept a b (messageStep from count w now epoch nonce buffer s) []
+  pub message-both : (from count : ℕ) (w : Wire) (now epoch nonce buffer : ℕ) → (carries (w .body) ≡ true → Mem w (b .queued)) → Kept a b (messageStep from count w now epoch nonce buffer s) []
   unfolding messageStep
   message-both from count w now epoch nonce buffer q =
       by-decided _ s _ (λ d. Kept a b d []) (λ _. body-done (w .magic) (w .body) (w .reports) (w .payload) q count now epoch nonce) (λ _. refuses 0) (λ _. refuses _)
+
+  pub datagram-both : (from : ℕ) (bytes : List ℕ) (now epoch nonce buffer : ℕ) → (numberIn (datagram bytes) ≡ 0 → carries (wireIn (datagram bytes) .body) ≡ true → Mem (wireIn (datagram bytes)) (b .queued))
+      → Kept a b (datagramStep from bytes now epoch nonce buffer s) []
+  unfolding datagramStep
+  datagram-both from bytes now epoch nonce buffer q =
+      by-decided _ s _ (λ d. Kept a b d []) (λ z. message-both from (length (wireIn (datagram bytes) .reports)) (wireIn (datagram bytes)) now epoch nonce buffer (q z)) (λ _. refuses 0) (λ _. refuses _)
 
   -- ---- the other calls
 
@@ -301,12 +315,11 @@ module _ (a b : End) (both : Both a b) (meet : Meet (a .state) (b .state)) (soun
 
   -- every call
   pub call-kept : (c : Call) → Typed c → Allowed c (b .queued) → Kept a b (step c s) (acceptedBy c s)
-  unfolding step synchronizeStep datagramStep disconnectStep checksumStep advantageStep statsStep statusStep takeStep
+  unfolding step synchronizeStep disconnectStep checksumStep advantageStep statsStep statusStep takeStep
   call-kept (Call.synchronize now epoch nonce buffer) t q =
       by-decided _ s _ (λ d. Kept a b d []) (λ _. finished (synchronized now epoch nonce (begin s)) (starting Ok quiet s now epoch nonce)) (λ _. refuses 0) (λ _. refuses _)
   call-kept (Call.message from count w now epoch nonce buffer) t q = message-both from count w now epoch nonce buffer q
-  call-kept (Call.datagram from bytes now epoch nonce buffer) t q =
-      by-decided _ s _ (λ d. Kept a b d []) (λ z. message-both from (length (wireIn (datagram bytes) .reports)) (wireIn (datagram bytes)) now epoch nonce buffer (q z)) (λ _. refuses 0) (λ _. refuses _)
+  call-kept (Call.datagram from bytes now epoch nonce buffer) t q = datagram-both from bytes now epoch nonce buffer q
   call-kept (Call.act count statuses now epoch nonce buffer) t q = act-both count statuses now epoch nonce buffer
   call-kept (Call.sendInput frame bytes count statuses now buffer) t q = send-both frame bytes count statuses now buffer (t .0)
   call-kept (Call.disconnect now) t q = by-decided _ s _ (λ d. Kept a b d []) (λ _. changes _ refl refl) (λ _. refuses 0) (λ _. refuses _)

@@ -2,7 +2,7 @@
 use mathlib.Core.Path.{_≡_, refl, sym, ap, _∙_}
 use mathlib.Core.Bool.{Bool, true, false}
 use mathlib.Core.List.{List, [], _∷_, _++_, append-nil, append-assoc}
-use mathlib.Core.Logic.{inl, inr}
+use mathlib.Core.Logic.{_⊎_, inl, inr}
 use Prim.Native.Nat.{ℕ, zero, suc, _+_, _-_, _/_, _^_, _≤_, _<_}
 use native.Mathlib.Omega.{arith}
 use native.Mathlib.Nat.{add-suc, add-zero, suc-add, mul-div-cancel}
@@ -34,7 +34,6 @@ use Rattle.sound.specs.Sound.{SoundReceiver}
 use Rattle.sound.proofs.Choices.{or-none, and-none}
 use Rattle.sound.proofs.Eaches.{each-also, each-append}
 use Rattle.exchange.specs.Frames.{Frame}
-use Rattle.exchange.specs.Runs.{Ready}
 use Rattle.exchange.proofs.Lists.{Mem, here, one, entry, wide-end, found-mem, mem-found, number-append}
 use Rattle.exchange.proofs.Wires.{OnInput, OnAck, input-also, ack-also}
 use Rattle.exchange.proofs.Tape.{Tape, ref, part, framed, Sending, Holding, Packet, Ack, Packets, Acks, Took, takes, ref-inj, ref-suc, ref-long, size-part, wide-part, top-is, pop-inv, last-is, sent}
@@ -281,6 +280,10 @@ module _ {w size : ℕ} {hs : List ℕ} {s : Sender} {r : Receiver} {ls lr : Lis
 
 -- ---- the receiver takes an Input of the sender's
 
+-- it has no frame yet, or it holds the one before the Input's first
+abbrev pub Awaits : (start : ℕ) → Receiver → Type 0
+Awaits start r = (newestOf (r .history) ≡ nullFrame) ⊎ ((x : InputBytes) × Mem x (r .history) × (suc (x .frame) ≡ start))
+
 module _ (g : Terms) (sg : SoundSetup g) {size : ℕ} {hs : List ℕ} {s : Sender} {r : Receiver} {ls lr : List Wire} {acc : List Frame} {told : List Entry}
     (d : Dir (receivingWidth g) size hs s r ls lr acc told) (sound : SoundReceiver (receivingWidth g) (g .maxPrediction) r)
     (start : ℕ) (p : List ℕ) (k : Packet (d .tape) (d .reached) p start) where
@@ -309,7 +312,7 @@ module _ (g : Terms) (sg : SoundSetup g) {size : ℕ} {hs : List ℕ} {s : Sende
       let ac : acc ≡ framed (d .tape .f) (d .tape .bs) = l .accepted in
       record { tape = d .tape; dropped = d .dropped; reached = t .count; link = record { behind = b; sending = sn; holding = hd; packets = pk; acks = ak; accepted = ac; announced = an } }
 
-  ready-found : Ready start r → foundIn (referenceFrame start (r .history)) (r .history) .held ≡ true
+  ready-found : Awaits start r → foundIn (referenceFrame start (r .history)) (r .history) .held ≡ true
   unfolding referenceFrame blank
   ready-found y = go (eqb (newestOf (r .history)) nullFrame) refl y
     where
@@ -318,13 +321,13 @@ module _ (g : Terms) (sg : SoundSetup g) {size : ℕ} {hs : List ℕ} {s : Sende
           let z : d .reached ≡ 0 = ref-inj (d .tape) (d .reached) 0 (sym (top-is (d .tape) (d .reached) (r .history) (d .link .holding)) ∙ e) in
           rw z at (d .link .holding .has)
 
-      go : (b : Bool) → eqb (newestOf (r .history)) nullFrame ≡ b → Ready start r → foundIn (pick b nullFrame (start - 1)) (r .history) .held ≡ true
+      go : (b : Bool) → eqb (newestOf (r .history)) nullFrame ≡ b → Awaits start r → foundIn (pick b nullFrame (start - 1)) (r .history) .held ≡ true
       go true q y = mem-found nullFrame (r .history) (blank-held (eqb-true _ _ q)) refl
       go false q (inl e) = absurd (eqb-false _ _ q e)
       go false q (inr x) = mem-found (start - 1) (r .history) (x .1) (omega (arith, x .2))
 
   -- its last frame is start + count - 1
-  pub reaches : Ready start r → start + frameCount (receivingWidth g) (length p) ≤ suc (newestOf (got .receiver .history))
+  pub reaches : Awaits start r → start + frameCount (receivingWidth g) (length p) ≤ suc (newestOf (got .receiver .history))
   reaches y =
       let t = d .tape in
       let w = receiving-within g sg in
@@ -336,12 +339,12 @@ module _ (g : Terms) (sg : SoundSetup g) {size : ℕ} {hs : List ℕ} {s : Sende
       ∙ mul-div-cancel (length (part t (k .from) (k .upto))) (w .0) in
       rw (size, top) (omega (arith, ref-suc t (took .count) (omega (arith, up, k .some-new)), size-part t (k .from) (k .upto) (k .most), k .starts, k .some-new, up))
 
--- a receiver that is not ready announces nothing
-pub unready : (g : Terms) (start : ℕ) (p : List ℕ) (r : Receiver) → bias32 ≤ start → ¬ Ready start r → receive g start p r .news ≡ []
+-- a receiver that awaits another one announces nothing
+pub unready : (g : Terms) (start : ℕ) (p : List ℕ) (r : Receiver) → bias32 ≤ start → ¬ Awaits start r → receive g start p r .news ≡ []
 unfolding receive receivedIf referenceFrame
 unready g start p r from n = go (foundIn (referenceFrame start (r .history)) (r .history) .held) refl
   where
-    at : (b : Bool) → eqb (newestOf (r .history)) nullFrame ≡ b → foundIn (pick b nullFrame (start - 1)) (r .history) .held ≡ true → Ready start r
+    at : (b : Bool) → eqb (newestOf (r .history)) nullFrame ≡ b → foundIn (pick b nullFrame (start - 1)) (r .history) .held ≡ true → Awaits start r
     at true q h = inl (eqb-true _ _ q)
     at false q h =
         inr (foundIn (start - 1) (r .history) .input, found-mem (start - 1) (r .history) h, omega (arith, found-frame (start - 1) (r .history) h))

@@ -1,11 +1,11 @@
 -- The frames that events announce are those that were told: read off them event by event, they come out as they went in.
 use mathlib.Core.List.{List, [], _∷_, _++_, map}
 use mathlib.Core.Path.{_≡_, refl, ap, _∙_}
-use Prim.Native.Nat.{ℕ, suc, _+_, _-_, _*_, _≤_, _<_}
+use Prim.Native.Nat.{ℕ, suc, _-_, _*_, _≤_, _<_}
 use native.Mathlib.Omega.{arith}
 use native.Mathlib.Nat.{suc-mul}
-use lib.ListN.{length, take, drop, replicate, length-drop}
-use lib.Seq.{take-all, take-at, take-add, length-take-le}
+use lib.ListN.{length, take, drop, replicate, length-drop, take-append-drop}
+use lib.Seq.{take-all, take-at, length-take-le, take-append-le, drop-append-le}
 use borrow.Author.Tests.{ne-eqb, eq-eqb}
 use Rattle.base.specs.Keyed.{kept}
 use Rattle.packing.specs.Packing.{Wide}
@@ -17,8 +17,8 @@ use Rattle.events.specs.declared.Event.{Event}
 use Rattle.events.specs.declared.Event.the-variants as Event
 use Rattle.events.specs.Events.{announced, inputEntry, inputOf}
 use Rattle.protocol.specs.Receiving.{announcedEach}
-use Rattle.exchange.specs.Frames.{Told, joined, read, announcedIn, toldTo}
-use Rattle.exchange.proofs.Lists.{take-padded}
+use Rattle.sound.specs.Each.{Each}
+use Rattle.exchange.specs.Frames.{Given, Told, joined, read, announcedIn, shares, allBytes, toldTo}
 use Rattle.exchange.proofs.Tape.{framed}
 use Rattle.exchange.proofs.Moves.{inputsIn}
 
@@ -42,15 +42,42 @@ unfoldable Other : ℕ → List Told → Type 0
 Other f [] = Unit {0}
 Other f (x ∷ l) = f ≡ x .number → ⊥
 
-joined-other : (x : Told) (l : List Told) → Other (x .number) l → joined x l ≡ x ∷ l
+joined-other : (f : ℕ) (x : Given) (l : List Told) → Other f l → joined f x l ≡ record { number = f; inputs = x ∷ [] } ∷ l
 unfolding joined Other
-joined-other x [] h = refl
-joined-other x (y ∷ l) h = rw (ne-eqb _ _ h)
+joined-other f x [] h = refl
+joined-other f x (y ∷ l) h = rw (ne-eqb _ _ h)
 
-joined-same : (f : ℕ) (ps qs b c : List ℕ) (l : List Told)
-    → joined (record { number = f; players = ps; bytes = b }) (record { number = f; players = qs; bytes = c } ∷ l) ≡ record { number = f; players = ps ++ qs; bytes = b ++ c } ∷ l
+joined-same : (f : ℕ) (x : Given) (xs : List Given) (l : List Told) → joined f x (record { number = f; inputs = xs } ∷ l) ≡ record { number = f; inputs = x ∷ xs } ∷ l
 unfolding joined
-joined-same f ps qs b c l = rw (eq-eqb f f refl)
+joined-same f x xs l = rw (eq-eqb f f refl)
+
+-- ---- the shares of a frame's bytes
+
+-- bytes after them are nobody's
+shares-append : (size : ℕ) (ps b more : List ℕ) → length ps * size ≤ length b → shares size ps (b ++ more) ≡ shares size ps b
+unfolding shares
+shares-append size [] b more h = refl
+shares-append size (p ∷ ps) b more h =
+    let m = suc-mul (length ps) size in
+    rw (take-append-le size b more (omega arith), drop-append-le size b more (omega arith), shares-append size ps (drop size b) more (omega (arith, length-drop size b)))
+
+shares-padded : (size : ℕ) (ps b : List ℕ) → length b ≤ 64 → length ps * size ≤ length b → shares size ps (padded b) ≡ shares size ps b
+unfolding padded
+shares-padded size ps b few h = rw (take-all 64 b few) (shares-append size ps b (replicate (64 - length b) 0) h)
+
+-- of a frame as wide as its players' inputs together: end to end the shares are its bytes, and each has `size` of them
+pub shares-whole : (size : ℕ) (ps b : List ℕ) → length b ≡ length ps * size → allBytes (shares size ps b) ≡ b
+unfolding shares allBytes
+shares-whole size [] [] h = refl
+shares-whole size [] (x ∷ b) h = absurd (omega arith)
+shares-whole size (p ∷ ps) b h = rw (shares-whole size ps (drop size b) (omega (arith, suc-mul (length ps) size, length-drop size b))) (take-append-drop size b)
+
+pub shares-sized : (size : ℕ) (ps b : List ℕ) → length b ≡ length ps * size → Each (λ (x : Given). length (x .bytes) ≡ size) (shares size ps b)
+unfolding shares Each
+shares-sized size [] b h = tt
+shares-sized size (p ∷ ps) b h =
+    let m = suc-mul (length ps) size in
+    (length-take-le size b (omega arith), shares-sized size ps (drop size b) (omega (arith, length-drop size b)))
 
 module _ (size : ℕ) (few : size ≤ 16) where
   -- a player's input, as it stands in an event
@@ -62,34 +89,33 @@ module _ (size : ℕ) (few : size ≤ 16) where
 
   -- one frame for its players, before other frames
   frame-back : (f : ℕ) (b : List ℕ) (h : ℕ) (hs : List ℕ) (rest : List Entry) → length (h ∷ hs) * size ≤ length b → Other f (announcedIn size rest)
-      → announcedIn size (announced f size b (h ∷ hs) ++ rest) ≡ record { number = f; players = h ∷ hs; bytes = take (length (h ∷ hs) * size) b } ∷ announcedIn size rest
-  unfolding announcedIn announced inputEntry
-  frame-back f b h [] rest n o = let e : 1 * size ≡ size = omega arith in rw (e, input-back b (omega arith)) (joined-other _ _ o)
+      → announcedIn size (announced f size b (h ∷ hs) ++ rest) ≡ record { number = f; inputs = shares size (h ∷ hs) b } ∷ announcedIn size rest
+  unfolding announcedIn announced inputEntry shares
+  frame-back f b h [] rest n o = rw (input-back b (omega arith)) (joined-other f _ _ o)
   frame-back f b h (g ∷ hs) rest n o =
       let m = suc-mul (length (g ∷ hs)) size in
       let k : length (g ∷ hs) * size ≤ length (drop size b) = omega (arith, length-drop size b) in
-      let e : length (h ∷ g ∷ hs) * size ≡ size + length (g ∷ hs) * size = omega arith in
-      ap (joined (record { number = f; players = h ∷ []; bytes = take size (inputOf (take size b)) })) (frame-back f (drop size b) g hs rest k o)
-      ∙ rw (input-back b (omega arith), e, take-add size (length (g ∷ hs) * size) b) (joined-same f (h ∷ []) (g ∷ hs) (take size b) (take (length (g ∷ hs) * size) (drop size b)) (announcedIn size rest))
+      ap (joined f (record { player = h; bytes = take size (inputOf (take size b)) })) (frame-back f (drop size b) g hs rest k o)
+      ∙ rw (input-back b (omega arith)) (joined-same f _ (shares size (g ∷ hs) (drop size b)) (announcedIn size rest))
 
   -- frames one after the other, each of all the players' width
   module _ (h : ℕ) (hs : List ℕ) (w : ℕ) (wide : w ≡ length (h ∷ hs) * size) (narrow : w ≤ 64) where
-    frames-other : (f g : ℕ) (bs : List (List ℕ)) → f < g → Other f (map (toldTo (h ∷ hs)) (framed g bs))
+    frames-other : (f g : ℕ) (bs : List (List ℕ)) → f < g → Other f (map (toldTo size (h ∷ hs)) (framed g bs))
     unfolding Other
     frames-other f g [] l = tt
     frames-other f g (b ∷ bs) l = λ e. omega arith
 
-    pub frames-back : (f : ℕ) (bs : List (List ℕ)) → Wide w bs → announcedIn size (announcedEach size (h ∷ hs) (numbered f bs)) ≡ map (toldTo (h ∷ hs)) (framed f bs)
+    pub frames-back : (f : ℕ) (bs : List (List ℕ)) → Wide w bs → announcedIn size (announcedEach size (h ∷ hs) (numbered f bs)) ≡ map (toldTo size (h ∷ hs)) (framed f bs)
     unfolding announcedEach numbered Wide announcedIn
     frames-back f [] a = refl
     frames-back f (b ∷ bs) a =
         let ih = frames-back (suc f) bs (a .1) in
-        let back : take (length (h ∷ hs) * size) (padded b) ≡ b = rw (← wide) (take-padded w b narrow (a .0)) in
+        let back = shares-padded size (h ∷ hs) b (omega (arith, a .0)) (omega (arith, a .0)) in
         frame-back f (padded b) h hs (announcedEach size (h ∷ hs) (numbered (suc f) bs)) (omega (arith, padded-length b)) (rw ih (frames-other f (suc f) bs (omega arith)))
         ∙ rw (ih, back)
 
   -- for any players, of whom there is one at least
   pub frames-told : (hs : List ℕ) → 1 ≤ length hs → length hs * size ≤ 64 → (f : ℕ) (bs : List (List ℕ)) → Wide (length hs * size) bs
-      → announcedIn size (announcedEach size hs (numbered f bs)) ≡ map (toldTo hs) (framed f bs)
+      → announcedIn size (announcedEach size hs (numbered f bs)) ≡ map (toldTo size hs) (framed f bs)
   frames-told [] some narrow f bs a = absurd (omega arith)
   frames-told (h ∷ hs) some narrow f bs a = frames-back h hs (length (h ∷ hs) * size) refl narrow f bs a

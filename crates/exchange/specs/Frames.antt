@@ -1,10 +1,10 @@
 -- Frames as a reader of an endpoint's calls and events sees them: those accepted for sending, and those announced.
 use mathlib.Core.Bool.{_&&_}
 use mathlib.Core.List.{List, [], _∷_, _++_}
-use mathlib.Core.Path.{_≡_}
+use mathlib.Core.Path.{_≡_, refl}
 use Prim.Native.Nat.{ℕ, suc}
 use lib.Dec.{eqb}
-use lib.ListN.{take}
+use lib.ListN.{length, take, drop}
 use Rattle.base.specs.Pick.{pick}
 use Rattle.events.specs.declared.Entry.{Entry}
 use Rattle.events.specs.declared.Event.{Event}
@@ -44,23 +44,27 @@ acceptedBy Call.checksums s = []
 
 -- ---- announced: read off the events
 
--- a frame with the players whose inputs it has, in their order
-pub record Told : Type 0 where
-  pub number : ℕ
-  pub players : List ℕ
+-- one player's input
+pub record Given : Type 0 where
+  pub player : ℕ
   pub bytes : List ℕ
 
--- an event of the same frame as those after it adds its player and its bytes in front
-unfoldable pub joined : Told → List Told → List Told
-joined x [] = x ∷ []
-joined x (y ∷ ys) =
-    pick (eqb (x .number) (y .number)) (record { number = x .number; players = x .players ++ y .players; bytes = x .bytes ++ y .bytes } ∷ ys) (x ∷ y ∷ ys)
+-- a frame as events tell it: the inputs of its players, in the order of the events
+pub record Told : Type 0 where
+  pub number : ℕ
+  pub inputs : List Given
+
+-- an event of the same frame as those after it adds its input in front
+unfoldable pub joined : (frame : ℕ) → Given → List Told → List Told
+joined frame x [] = record { number = frame; inputs = x ∷ [] } ∷ []
+joined frame x (y ∷ ys) =
+    pick (eqb frame (y .number)) (record { number = frame; inputs = x ∷ y .inputs } ∷ ys) (record { number = frame; inputs = x ∷ [] } ∷ y ∷ ys)
 
 -- one event: an Input tells one player's input, the first `size` of its bytes
 abbrev pub read : (size : ℕ) → Event → (input : List ℕ) → List Told → List Told
 read size (Event.Synchronizing total count) input l = l
 read size Event.Synchronized input l = l
-read size (Event.Input frame player) input l = joined (record { number = frame; players = player ∷ []; bytes = take size input }) l
+read size (Event.Input frame player) input l = joined frame (record { player = player; bytes = take size input }) l
 read size Event.Disconnected input l = l
 read size (Event.NetworkInterrupted timeout) input l = l
 read size Event.NetworkResumed input l = l
@@ -70,17 +74,43 @@ unfoldable pub announcedIn : (size : ℕ) → List Entry → List Told
 announcedIn size [] = []
 announcedIn size (e ∷ es) = read size (e .event) (e .input) (announcedIn size es)
 
--- ---- in order: the frames announced are the first ones accepted, each for these players; and those accepted have numbers one after the other, so that none
--- is there twice
-
-unfoldable pub Following : (first : ℕ) → List Frame → Type 0
-Following first [] = Unit {0}
-Following first (x ∷ xs) = (x .number ≡ first) × Following (suc first) xs
-
 -- the number of the last frame announced, or the one given where there is none
 unfoldable pub lastTold : (none : ℕ) → List Told → ℕ
 lastTold none [] = none
 lastTold none (x ∷ xs) = lastTold (x .number) xs
 
-abbrev pub toldTo : (players : List ℕ) → Frame → Told
-toldTo players x = record { number = x .number; players = players; bytes = x .bytes }
+-- ---- how a frame accepted here is to be told there
+
+-- its bytes are the players' inputs end to end: each player has the next `size` of them
+unfoldable pub shares : (size : ℕ) → (players bytes : List ℕ) → List Given
+shares size [] bytes = []
+shares size (p ∷ ps) bytes = record { player = p; bytes = take size bytes } ∷ shares size ps (drop size bytes)
+
+unfoldable pub allBytes : List Given → List ℕ
+allBytes [] = []
+allBytes (x ∷ xs) = x .bytes ++ allBytes xs
+
+abbrev pub toldTo : (size : ℕ) → (players : List ℕ) → Frame → Told
+toldTo size players x = record { number = x .number; inputs = shares size players (x .bytes) }
+
+-- as wide as the inputs of all players, so that its shares are all of it (laws `shares-whole`, `shares-sized`)
+abbrev pub AsWide : (width : ℕ) → Frame → Type 0
+AsWide width x = length (x .bytes) ≡ width
+
+-- numbers one after the other, so that no frame is there twice
+unfoldable pub Following : (first : ℕ) → List Frame → Type 0
+Following first [] = Unit {0}
+Following first (x ∷ xs) = (x .number ≡ first) × Following (suc first) xs
+
+-- ---- worked: frame 7 of players 0 and 3 with two bytes each, another event between, then frame 8 of player 0 alone; and the shares of a frame
+
+frames-example : announcedIn 2 (record { event = Event.Input 7 0; input = 1 ∷ 2 ∷ 0 ∷ [] } ∷ record { event = Event.Synchronized; input = [] }
+    ∷ record { event = Event.Input 7 3; input = 3 ∷ 4 ∷ 0 ∷ [] } ∷ record { event = Event.Input 8 0; input = 5 ∷ 6 ∷ 0 ∷ [] } ∷ [])
+    ≡ record { number = 7; inputs = record { player = 0; bytes = 1 ∷ 2 ∷ [] } ∷ record { player = 3; bytes = 3 ∷ 4 ∷ [] } ∷ [] }
+    ∷ record { number = 8; inputs = record { player = 0; bytes = 5 ∷ 6 ∷ [] } ∷ [] } ∷ []
+unfolding announcedIn joined
+frames-example = refl
+
+shares-example : shares 2 (0 ∷ 3 ∷ []) (1 ∷ 2 ∷ 3 ∷ 4 ∷ []) ≡ record { player = 0; bytes = 1 ∷ 2 ∷ [] } ∷ record { player = 3; bytes = 3 ∷ 4 ∷ [] } ∷ []
+unfolding shares
+shares-example = refl

@@ -6,7 +6,7 @@ use mathlib.Core.Logic.{_⊎_}
 use mathlib.Core.Path.{_≡_}
 use Prim.Native.Nat.{ℕ, suc, _+_, _≤_}
 use lib.ListN.{length, take}
-use Rattle.frame.specs.Bias.{nullFrame}
+use Rattle.frame.specs.Bias.{bias32, nullFrame}
 use Rattle.packing.specs.Packing.{frameCount}
 use Rattle.packing.specs.declared.input_bytes.InputBytes.{InputBytes}
 use Rattle.history.specs.History.{newestOf}
@@ -18,30 +18,35 @@ use Rattle.codec.specs.declared.MessageBody.the-variants.{SyncRequest, SyncRepl
 use Rattle.events.specs.declared.Entry.{Entry}
 use Rattle.setup.specs.declared.Setup.{Setup}
 use Rattle.setup.specs.Setup.{sendingWidth, receivingWidth}
-use Rattle.protocol.specs.Seen.{Seen, Receiver}
+use Rattle.protocol.specs.Seen.{Seen, isShutdown}
 use Rattle.protocol.specs.Did.{Did}
 use Rattle.protocol.specs.Call.{Call}
-use Rattle.protocol.specs.Receiving.{discarded}
-use Rattle.protocol.specs.Step.{fresh, ignored, step}
+use Rattle.protocol.specs.Step.{fresh, step}
+use Rattle.sound.specs.Each.{Each}
+use Rattle.sound.specs.Runs.{handed}
 use Rattle.sound.specs.Typed.{Typed, TypedSetup}
-use Rattle.exchange.specs.Frames.{Frame, acceptedBy, announcedIn, Following, lastTold, toldTo}
+use Rattle.exchange.specs.Frames.{Frame, acceptedBy, Told, announcedIn, lastTold, toldTo, AsWide, Following}
 
 -- ---- one end
 
--- its state, and what it has queued, told and accepted so far
+-- its state, the messages that it queued, the events that were taken from it and the frames that it accepted so far
 pub record End : Type 0 where
   pub state : Seen
   pub queued : List Wire
-  pub told : List Entry
+  pub taken : List Entry
   pub accepted : List Frame
 
 abbrev pub starts : Seen → End
-starts s = record { state = s; queued = []; told = []; accepted = [] }
+starts s = record { state = s; queued = []; taken = []; accepted = [] }
 
 abbrev pub next : Call → End → End
 next c x =
     let d : Did = step c (x .state) in
-    record { state = d .after; queued = x .queued ++ d .out; told = x .told ++ d .told; accepted = x .accepted ++ acceptedBy c (x .state) }
+    record { state = d .after; queued = x .queued ++ d .out; taken = x .taken ++ handed c (x .state); accepted = x .accepted ++ acceptedBy c (x .state) }
+
+-- the frames announced so far: read off the events taken and those still held
+abbrev pub announcedBy : End → List Told
+announcedBy x = announcedIn (x .state .setup .inputSize) (x .taken ++ x .state .events)
 
 -- ---- what may be handed over
 
@@ -96,30 +101,41 @@ pub data Run : End → End → Type 0 where
 
 -- ---- what is to hold
 
--- what the one announced is what the other accepted first; and its newest frame is the last that it announced
+-- what the one announced is what the other accepted first, told to all handles; and its newest frame is the last that it announced
 pub record InOrder (from to : End) : Type 0 where
   pub first : ℕ
   pub following : Following first (from .accepted)
+  pub wide : Each (AsWide (receivingWidth (to .state .setup))) (from .accepted)
   pub count : ℕ
   pub most : count ≤ length (from .accepted)
-  pub announced : announcedIn (to .state .setup .inputSize) (to .told) ≡ map (toldTo (to .state .setup .handles)) (take count (from .accepted))
-  pub newest : newestOf (to .state .carried .receiver .history) ≡ lastTold nullFrame (announcedIn (to .state .setup .inputSize) (to .told))
+  pub announced : announcedBy to ≡ map (toldTo (to .state .setup .inputSize) (to .state .setup .handles)) (take count (from .accepted))
+  pub newest : newestOf (to .state .carried .receiver .history) ≡ lastTold nullFrame (announcedBy to)
 
--- a receiver has no frame yet, or it still holds the one before an Input's first
-abbrev pub Ready : (start : ℕ) → Receiver → Type 0
-Ready start r = (newestOf (r .history) ≡ nullFrame) ⊎ ((x : InputBytes) × Mem x (r .history) × (suc (x .frame) ≡ start))
+-- an Input is not ignored: not in Shutdown, from the peer, and its magic passes the filter, which 0 leaves off
+pub record Heard (peer magic : ℕ) (s : Seen) : Type 0 where
+  pub alive : isShutdown (s .phase) ≡ false
+  pub known : peer ≡ s .setup .peer
+  pub passes : (s .sync .remoteMagic ≡ 0) ⊎ (magic ≡ s .sync .remoteMagic)
 
--- an Input from frame `start` on brings its receiver at least to its last frame if it is ready for it; otherwise it announces no frame
-pub record Brings (start : ℕ) (payload : List ℕ) (s : Seen) (d : Did) : Type 0 where
-  pub reaches : Ready start (s .carried .receiver) → start + frameCount (receivingWidth (s .setup)) (length payload) ≤ suc (newestOf (d .after .carried .receiver .history))
-  pub nothing : ¬ Ready start (s .carried .receiver) → announcedIn (s .setup .inputSize) (d .told) ≡ []
+-- and not discarded: it starts at no negative frame, and it requests a disconnect or has a status for each player
+pub record Heeded (disconnect : Bool) (count start : ℕ) (s : Seen) : Type 0 where
+  pub from : bias32 ≤ start
+  pub complete : (disconnect ≡ true) ⊎ (count ≡ s .setup .players)
+
+-- a receiver has no frame yet, or it still holds the one before an Input's first; the blank frame -1 is one
+abbrev pub Ready : (start : ℕ) → End → Type 0
+Ready start x = (announcedBy x ≡ []) ⊎ ((y : InputBytes) × Mem y (x .state .carried .receiver .history) × (suc (y .frame) ≡ start))
+
+-- a call that hands over an Input from frame `start` on brings the receiver at least to its last frame if it is ready for it; otherwise it announces no frame
+pub record Brings (start : ℕ) (payload : List ℕ) (x : End) (c : Call) : Type 0 where
+  pub reaches : Ready start x → start + frameCount (receivingWidth (x .state .setup)) (length payload) ≤ suc (lastTold nullFrame (announcedBy (next c x)))
+  pub nothing : ¬ Ready start x → announcedBy (next c x) ≡ announcedBy x
 
 -- every Input of the other end's that is neither refused nor ignored nor discarded, as a message and as a datagram
 pub record EachBrings (to from : End) : Type 0 where
   pub message : (peer count : ℕ) (w : Wire) (now epoch nonce buffer : ℕ) → Mem w (from .queued) → (d : Bool) (start ack : ℕ) → w .body ≡ Input d start ack
-      → step (Call.message peer count w now epoch nonce buffer) (to .state) .answer ≡ 0 → ignored peer (w .magic) (to .state) ≡ false → discarded d count start (to .state) ≡ false
-      → Brings start (w .payload) (to .state) (step (Call.message peer count w now epoch nonce buffer) (to .state))
+      → step (Call.message peer count w now epoch nonce buffer) (to .state) .answer ≡ 0 → Heard peer (w .magic) (to .state) → Heeded d count start (to .state)
+      → Brings start (w .payload) to (Call.message peer count w now epoch nonce buffer)
   pub bytes : (peer : ℕ) (bytes : List ℕ) (w : Wire) (rest : List ℕ) (now epoch nonce buffer : ℕ) → datagram bytes ≡ got w rest → Mem w (from .queued) → (d : Bool) (start ack : ℕ)
-      → w .body ≡ Input d start ack → step (Call.datagram peer bytes now epoch nonce buffer) (to .state) .answer ≡ 0 → ignored peer (w .magic) (to .state) ≡ false
-      → discarded d (length (w .reports)) start (to .state) ≡ false
-      → Brings start (w .payload) (to .state) (step (Call.datagram peer bytes now epoch nonce buffer) (to .state))
+      → w .body ≡ Input d start ack → step (Call.datagram peer bytes now epoch nonce buffer) (to .state) .answer ≡ 0 → Heard peer (w .magic) (to .state)
+      → Heeded d (length (w .reports)) start (to .state) → Brings start (w .payload) to (Call.datagram peer bytes now epoch nonce buffer)

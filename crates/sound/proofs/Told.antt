@@ -50,7 +50,7 @@ unfolding advantageUpdated localAdvantage
 updated f s = by-cases (bothKnown f s) (advantageUpdated f s .events ≡ s .events) (λ h. rw h) (λ h. rw h)
 
 -- with what it hands back, every call
-step-tells : (c : Call) (s : Seen) → handed c s ++ step c s .after .events ≡ s .events ++ step c s .told
+pub step-tells : (c : Call) (s : Seen) → handed c s ++ step c s .after .events ≡ s .events ++ step c s .told
 unfolding step synchronizeStep datagramStep actStep sendStep disconnectStep checksumStep checksumSent queueWire synchronized started advantageStep statsStep statusStep takeStep
 step-tells (Call.synchronize now epoch nonce buffer) s = decided-both _ s _ (Tells s) (refused-tells s) (done-tells s _ (request-leaves now nonce _))
 step-tells (Call.message from count w now epoch nonce buffer) s = message-tells from count w now epoch nonce buffer s
