@@ -9,7 +9,7 @@ use Rattle.codec.specs.Read.{datagram}
 use Rattle.codec.specs.Read.Got.{got}
 use Rattle.codec.proofs.Laws.{read-bytes}
 use Rattle.codec.proofs.Bouts.{p1Message, p1Bytes, p1-fits, P1}
-use Rattle.message_line.specs.Ascii.{ascii}
+use Rattle.text.specs.Ascii.{ascii}
 use Rattle.message_line.specs.Line.{field, kindName, fieldsText, headText, wireLine, lineOf}
 
 reads : datagram p1Bytes ≡ got p1Message []

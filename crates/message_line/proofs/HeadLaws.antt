@@ -20,9 +20,9 @@ use Rattle.codec.specs.declared.Message.{Message}
 use Rattle.codec.specs.declared.Received.{Received}
 use Rattle.codec.specs.declared.MessageBody.{MessageBody}
 use Rattle.codec.specs.declared.MessageBody.the-variants.{SyncRequest, SyncReply, Input, InputAck, QualityReport, QualityReply, ChecksumReport, KeepAlive}
-use Rattle.message_line.specs.Ascii.{ascii}
+use Rattle.text.specs.Ascii.{ascii}
 use Rattle.message_line.specs.Line.{fieldsText, headText, wireLine, refusedLine, lineOf}
-use Rattle.message_line.specs.Draft.{headOf}
+use Rattle.message_line.specs.Head.{headOf}
 
 -- the statuses are looked at in an Input alone
 fields-same : (body : MessageBody) (rs qs : List StatusReport) (n : ℕ) → ((d : Bool) (s a : ℕ) → body ≡ Input d s a → rs ≡ qs)

@@ -13,9 +13,9 @@ use Rattle.answer.specs.declared.Answer.the-variants.{Done, Full}
 use Rattle.text.specs.Append.{AppendedAs}
 use Rattle.text.specs.Hex.{hexOf}
 use Rattle.text.proofs.HexLaws.{hex-length}
-use Rattle.message_line.specs.Draft.{drafted}
+use Rattle.text.specs.Draft.{drafted}
 use Rattle.message_line.specs.Calls.{LineAs}
-use Rattle.message_line.specs.declared.draft.Draft.{Draft}
+use Rattle.text.specs.declared.draft.Draft.{Draft}
 use Rattle.message_line.specs.declared.Laid.{Laid}
 
 pub drafted-length : (d : Draft) → length (d .bytes) ≡ 256 → d .used ≤ 256 → length (drafted d) ≡ d .used

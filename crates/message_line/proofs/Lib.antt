@@ -1,5 +1,3 @@
-pub mod DraftLaws
-pub mod FieldLaws
 pub mod StatusLaws
 pub mod TextLaws
 pub mod HeadLaws

@@ -19,7 +19,7 @@ use Rattle.codec.specs.Read.{datagram, numberIn, wireIn}
 use Rattle.codec.specs.declared.StatusReport.{StatusReport}
 use Rattle.codec.specs.declared.MessageBody.{MessageBody}
 use Rattle.codec.specs.declared.MessageBody.the-variants.{SyncRequest, SyncReply, Input, InputAck, QualityReport, QualityReply, ChecksumReport, KeepAlive}
-use Rattle.message_line.specs.Ascii.{ascii}
+use Rattle.text.specs.Ascii.{ascii}
 use Rattle.message_line.specs.Printed.{Printed}
 use Rattle.message_line.specs.Line.{frameText, field, reportText, reportsText, bytesText, kindName, fieldsText, headText, wireLine, refusedLine, lineOf}
 

@@ -8,9 +8,9 @@ use lib.ListN.{length, take, getD}
 use lib.Seq.{take-suc}
 use Rattle.codec.specs.declared.StatusReport.{StatusReport}
 use Rattle.message_line.specs.Line.{reportText, reportsText}
-use Rattle.message_line.specs.Draft.{Adds}
-use Rattle.message_line.specs.declared.draft.Draft.{Draft}
-use Rattle.message_line.proofs.DraftLaws.{both-adds, wider}
+use Rattle.text.specs.Draft.{Adds}
+use Rattle.text.specs.declared.draft.Draft.{Draft}
+use Rattle.text.proofs.PieceLaws.{both-adds, wider}
 
 reports-snoc : (rs : List StatusReport) (r : StatusReport) → reportsText (rs ++ r ∷ []) ≡ reportsText rs ++ reportText r
 unfolding reportsText

@@ -9,7 +9,7 @@ use Rattle.base.specs.Pick.{pick}
 use Rattle.text.specs.Decimal.{decimalOf}
 use Rattle.codec.specs.declared.StatusReport.{StatusReport}
 use Rattle.codec.specs.declared.MessageBody.the-variants.{Input}
-use Rattle.message_line.specs.Ascii.{ascii}
+use Rattle.text.specs.Ascii.{ascii}
 use Rattle.message_line.specs.Line.{field, frameText, reportsText, bytesText, fieldsText}
 
 module _ (n : ℕ) where

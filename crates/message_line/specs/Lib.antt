@@ -1,5 +1,4 @@
-pub mod Ascii
 pub mod Line
-pub mod Draft
+pub mod Head
 pub mod Calls
 pub mod Printed

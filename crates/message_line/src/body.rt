@@ -1,6 +1,4 @@
 // A message's body: the name of its kind, and its fields up to an Input's payload.
-use crate::draft::Draft;
-use crate::draft::empty;
 use crate::draft::put;
 use crate::field::number;
 use crate::field::signed;
@@ -10,10 +8,11 @@ use codec::Message;
 use codec::MessageBody;
 use frame::BIAS16;
 use frame::BIAS32;
+use text::Draft;
 ghost use Prim.Native.Nat.{_≤_};
 ghost use Rattle.codec.specs.Message.{listed};
-ghost use Rattle.message_line.specs.Ascii.{ascii};
-ghost use Rattle.message_line.specs.Draft.{Holds, Adds};
+ghost use Rattle.text.specs.Ascii.{ascii};
+ghost use Rattle.text.specs.Draft.{Holds, Adds};
 ghost use Rattle.message_line.specs.Line.{kindName, fieldsText};
 
 // An advantage is printed as a frame is, with its own bias.
@@ -23,24 +22,24 @@ pub(crate) fn kind(body: MessageBody) -> Draft
     ensures { λ r. ⌜ Holds (ascii (kindName body)) 14 r ⌝ }
 {
     match body {
-        MessageBody::SyncRequest { random_request: _ } => put(empty(), b"SyncRequest"),
-        MessageBody::SyncReply { random_reply: _ } => put(empty(), b"SyncReply"),
+        MessageBody::SyncRequest { random_request: _ } => put(Draft::new(), b"SyncRequest"),
+        MessageBody::SyncReply { random_reply: _ } => put(Draft::new(), b"SyncReply"),
         MessageBody::Input {
             disconnect_requested: _,
             start_frame: _,
             ack_frame: _,
-        } => put(empty(), b"Input"),
-        MessageBody::InputAck { ack_frame: _ } => put(empty(), b"InputAck"),
+        } => put(Draft::new(), b"Input"),
+        MessageBody::InputAck { ack_frame: _ } => put(Draft::new(), b"InputAck"),
         MessageBody::QualityReport {
             frame_advantage: _,
             ping: _,
-        } => put(empty(), b"QualityReport"),
-        MessageBody::QualityReply { pong: _ } => put(empty(), b"QualityReply"),
+        } => put(Draft::new(), b"QualityReport"),
+        MessageBody::QualityReply { pong: _ } => put(Draft::new(), b"QualityReply"),
         MessageBody::ChecksumReport {
             checksum: _,
             frame: _,
-        } => put(empty(), b"ChecksumReport"),
-        MessageBody::KeepAlive => put(empty(), b"KeepAlive"),
+        } => put(Draft::new(), b"ChecksumReport"),
+        MessageBody::KeepAlive => put(Draft::new(), b"KeepAlive"),
     }
 }
 

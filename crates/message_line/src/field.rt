@@ -1,30 +1,19 @@
 // A field: its name, with the spaces around it, and its value in decimal.
-use crate::draft::Draft;
 use crate::draft::put;
 use codec::Wide;
-use text::Numeral;
+use text::Draft;
 ghost use mathlib.Core.List.{_++_};
-ghost use Prim.Native.Nat.{_+_, _≤_, _<_};
+ghost use Prim.Native.Nat.{_+_, _≤_};
 ghost use lib.ListN.{length};
-ghost use Rattle.text.specs.Decimal.{decimalOf, signedOf, textOf};
-ghost use Rattle.message_line.specs.Draft.{Adds};
+ghost use Rattle.text.specs.Decimal.{decimalOf, signedOf};
+ghost use Rattle.text.specs.Draft.{Adds};
 ghost use Rattle.message_line.specs.Line.{wideText};
-
-fn field(draft: Draft, name: &[u8], value: Numeral) -> Draft
-    requires { ⌜ 1 ≤ length (textOf value) ⌝ }
-    requires { ⌜ draft .used + (length (now name) + length (textOf value)) ≤ 256 ⌝ }
-    ensures { λ r. ⌜ Adds draft (now (name .entry) ++ textOf value) (length (now (name .entry)) + length (textOf value)) r ⌝ }
-{
-    let bytes = value.bytes;
-    let start = value.start;
-    put(put(draft, name), &bytes[start..])
-}
 
 pub(crate) fn number(draft: Draft, name: &[u8], n: u64) -> Draft
     requires { ⌜ draft .used + (length (now name) + 20) ≤ 256 ⌝ }
     ensures { λ r. ⌜ Adds draft (now (name .entry) ++ decimalOf n) (length (now (name .entry)) + 20) r ⌝ }
 {
-    field(draft, name, text::decimal(n, 0))
+    put(draft, name).put_decimal(n, 0)
 }
 
 // A u128 is one number.
@@ -32,7 +21,7 @@ pub(crate) fn wide(draft: Draft, name: &[u8], n: Wide) -> Draft
     requires { ⌜ draft .used + (length (now name) + 39) ≤ 256 ⌝ }
     ensures { λ r. ⌜ Adds draft (now (name .entry) ++ wideText n) (length (now (name .entry)) + 39) r ⌝ }
 {
-    field(draft, name, text::decimal(n.low, n.high))
+    put(draft, name).put_decimal(n.low, n.high)
 }
 
 // What people read of a frame or an advantage is signed.
@@ -40,5 +29,5 @@ pub(crate) fn signed(draft: Draft, name: &[u8], n: u32, bias: u32) -> Draft
     requires { ⌜ draft .used + (length (now name) + 11) ≤ 256 ⌝ }
     ensures { λ r. ⌜ Adds draft (now (name .entry) ++ signedOf bias n) (length (now (name .entry)) + 11) r ⌝ }
 {
-    field(draft, name, text::signed(n, bias))
+    put(draft, name).put_signed(n, bias)
 }

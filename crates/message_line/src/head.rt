@@ -1,13 +1,13 @@
 // A datagram's line up to the payload.
 use crate::body::fields;
 use crate::body::kind;
-use crate::draft::Draft;
-use crate::draft::empty;
 use crate::field::number;
 use codec::Message;
+use text::Draft;
 ghost use Prim.Native.Nat.{_≤_};
 ghost use Rattle.codec.specs.Message.{listed};
-ghost use Rattle.message_line.specs.Draft.{headOf, Holds};
+ghost use Rattle.text.specs.Draft.{Holds};
+ghost use Rattle.message_line.specs.Head.{headOf};
 ghost use Rattle.message_line.specs.Line.{headText};
 
 // The payload has `length` bytes.
@@ -18,7 +18,7 @@ pub(crate) fn head_of(datagram: &[u8], length: usize) -> Draft
     let answer = received.answer;
     let refusal = answer.number();
     if refusal != 0 {
-        return number(empty(), b"refused ", refusal as u64);
+        return number(Draft::new(), b"refused ", refusal as u64);
     }
     let message = received.message;
     head(message, length)

@@ -1,17 +1,17 @@
 // An Input's fields, up to its payload.
-use crate::draft::Draft;
 use crate::draft::put;
 use crate::field::number;
 use crate::field::signed;
 use codec::StatusReport;
 use codec::StatusReports;
 use frame::BIAS32;
+use text::Draft;
 ghost use Prim.Native.Nat.{_≤_};
 ghost use Rattle.base.specs.Pick.{pick};
 ghost use Rattle.codec.specs.Message.{listed};
 ghost use Rattle.codec.specs.declared.MessageBody.the-variants.{Input};
-ghost use Rattle.message_line.specs.Ascii.{ascii};
-ghost use Rattle.message_line.specs.Draft.{Adds};
+ghost use Rattle.text.specs.Ascii.{ascii};
+ghost use Rattle.text.specs.Draft.{Adds};
 ghost use Rattle.message_line.specs.Line.{field, reportText, reportsText, bytesText, fieldsText};
 
 pub(crate) fn input(

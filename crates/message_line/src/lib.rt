@@ -7,14 +7,14 @@ mod head;
 mod input;
 
 use answer::Answer;
-use draft::Draft;
+use text::Draft;
 ghost use mathlib.Core.Path.{_≡_};
 ghost use mathlib.Core.List.{_++_};
 ghost use Prim.Native.Nat.{_≤_};
 ghost use Rattle.answer.specs.declared.Answer.the-variants.{Full};
 ghost use Rattle.text.specs.Hex.{hexOf};
 ghost use Rattle.message_line.specs.Calls.{LineAs};
-ghost use Rattle.message_line.specs.Draft.{drafted};
+ghost use Rattle.text.specs.Draft.{drafted};
 ghost use Rattle.message_line.specs.Line.{lineOf};
 
 // What `line` answers, with the place after the line.

@@ -1,14 +1,16 @@
 -- Laws of decimal text, for those who keep its definitions shut: the number back from its digits, how many digits there are, and what they are.
 use borrow.Author.Tests.{lt-ltb, le-ltb, le-leb, lt-leb}
 use mathlib.Core.Path.{_≡_, refl, sym, _∙_, ap}
+use mathlib.Core.Bool.{true, false}
 use mathlib.Core.Logic.{⊎-elim}
 use mathlib.Core.List.{List, [], _∷_, _++_}
 use Prim.Native.Nat.{ℕ, zero, suc, _+_, _-_, _*_, _/_, _%_, _^_, _<_, _≤_}
 use native.Mathlib.Omega.{arith}
 use native.Mathlib.Nat.{lt-of-lt-of-le}
-use lib.Dec.{lit≤}
+use lib.Dec.{lit≤, leb}
 use lib.ListN.{length, getD, length-append, List·getD-append}
 use lib.Seq.{getD-at}
+use Rattle.base.specs.Pick.{pick}
 use Rattle.base.proofs.Digits.{below-or-not, div-below}
 use Rattle.text.specs.Decimal.{digits, decimalOf, signedOf, valueFrom, valueOf, AllDigits}
 
@@ -70,6 +72,11 @@ digits-length (suc f) (suc k) n h p =
 pub decimal-some : (n : ℕ) → 1 ≤ length (decimalOf n)
 unfolding decimalOf
 decimal-some n = digits-some 38 n
+
+pub signed-some : (bias n : ℕ) → 1 ≤ length (signedOf bias n)
+unfolding signedOf
+signed-some bias n =
+    elim (leb bias n) as (λ b. 1 ≤ length (pick b (decimalOf (n - bias)) (45 ∷ decimalOf (bias - n)))) [ true ↦ decimal-some (n - bias) | false ↦ omega arith ]
 
 pub decimal-length : (k n : ℕ) → n < 10 ^ k → 1 ≤ k → length (decimalOf n) ≤ k
 unfolding decimalOf

@@ -4,3 +4,6 @@ pub mod HexLaws
 pub mod NumeralLaws
 pub mod TenthLaws
 pub mod Settled
+pub mod PageLaws
+pub mod DraftLaws
+pub mod PieceLaws

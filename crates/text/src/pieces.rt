@@ -1,5 +1,7 @@
 // A piece of text laid into a lent buffer at a place.
+ghost use mathlib.Core.Path.{_≡_};
 ghost use Rattle.text.specs.Append.{AppendedAs};
+ghost use Rattle.text.specs.Page.{page, written};
 
 // Lays the piece at the place, or leaves the buffer as it is where the piece does not fit.
 pub fn append(out: &mut [u8], at: usize, piece: &[u8]) -> bool
@@ -15,4 +17,14 @@ pub fn append(out: &mut [u8], at: usize, piece: &[u8]) -> bool
     }
     bytes::copy(piece, &mut out[at..]);
     true
+}
+
+// The same, for text that goes on behind it: the place after the piece, or the place as it was.
+pub fn lay(out: &mut [u8], at: usize, piece: &[u8]) -> usize
+    ensures { λ r. ⌜ page (now (out .exit)) r ≡ written (now (piece .entry)) (page (now (out .entry)) at) ⌝ }
+{
+    if append(out, at, piece) {
+        return at + piece.len();
+    }
+    at
 }

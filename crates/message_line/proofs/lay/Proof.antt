@@ -3,7 +3,7 @@ use borrow.Author.Needs.{needs}
 use mathlib.Core.Path.{_≡_, sym}
 use native.Mathlib.Omega.{arith}
 use lib.ListN.{length}
-use Rattle.message_line.specs.Draft.{drafted}
+use Rattle.text.specs.Draft.{drafted}
 use Rattle.message_line.proofs.LayLaws.{drafted-length, no-room, both-laid}
 use Rattle.message_line.proofs.lay.Statement.{statement}
 use Rattle.message_line.proofs.lay.Tie as tie

@@ -3,9 +3,9 @@ use borrow.Author.Needs.{needs}
 use mathlib.Core.Path.{refl}
 use mathlib.Core.List.{append-nil}
 use native.Mathlib.Omega.{arith}
-use Rattle.message_line.specs.Ascii.{ascii}
+use Rattle.text.specs.Ascii.{ascii}
 use Rattle.message_line.specs.Line.{field, fieldsText}
-use Rattle.message_line.proofs.DraftLaws.{wider, both-adds}
+use Rattle.text.proofs.PieceLaws.{wider, both-adds}
 use Rattle.message_line.proofs.body.fields.Statement.{statement}
 use Rattle.message_line.proofs.body.fields.Tie as tie
 

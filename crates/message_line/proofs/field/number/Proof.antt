@@ -1,24 +1,24 @@
--- `number` is a field whose numeral is of one word, so it has at most 20 digits.
+-- `number` is a field whose value is of one word, so it has at most 20 digits.
 use borrow.Author.Needs.{needs}
+use native.Mathlib.Omega.{arith}
+use native.Mathlib.Nat.{add-zero}
 use Rattle.text.specs.Decimal.{decimalOf}
-use Rattle.text.proofs.DecimalLaws.{decimal-64, decimal-some}
-use Rattle.text.proofs.NumeralLaws.{one-word}
-use Rattle.message_line.proofs.FieldLaws.{value-fits, value-added}
+use Rattle.text.proofs.DecimalLaws.{decimal-64}
+use Rattle.text.proofs.PieceLaws.{put-adds, both-adds}
 use Rattle.message_line.proofs.field.number.Statement.{statement}
 use Rattle.message_line.proofs.field.number.Tie as tie
 
-decimal-requires : tie.Need-decimal-requires
-decimal-requires c κs = search needs
+put-requires : tie.Need-put-requires
+put-requires c κs = search needs
 
-field-requires : tie.Need-field-requires
-field-requires c κs =
-    let n = c .before .before .args .n in
-    value-fits (c .decimal .result) (decimalOf n) 20 (one-word _ _ (c .decimal .ensures)) (decimal-64 n (search needs)) _ _ (decimal-some n) (c .before .before .pre)
+put-decimal-requires : tie.Need-put-decimal-requires
+put-decimal-requires c κs = search needs
 
 returns : tie.Need-returns
 returns c =
-    let n = c .before .before .before .args .n in
-    value-added (c .before .decimal .result) (decimalOf n) 20 (one-word _ _ (c .before .decimal .ensures)) (decimal-64 n (search needs)) _ (c .before .before .before .args .name .now) _ (c .field .ensures)
+    let s = c .before .before .before in
+    let p = c .before .put .ensures in
+    both-adds (s .args .draft) (s .args .name .now) (decimalOf (s .args .n)) _ 20 _ _ p (put-adds _ _ (decimalOf (s .args .n)) 20 (decimal-64 (s .args .n) (search needs)) (omega (arith, p .used, s .pre)) (rw add-zero at (c .put-decimal .ensures)))
 
 pub number-spec : {M : Type 1} → statement M
-number-spec = tie.close (tie.spec decimal-requires field-requires returns)
+number-spec = tie.close (tie.spec put-requires put-decimal-requires returns)

@@ -1,9 +1,9 @@
 -- `head` puts the name, the magic and the fields one after another.
 use borrow.Author.Needs.{needs}
 use native.Mathlib.Omega.{arith}
-use Rattle.message_line.specs.Ascii.{ascii}
+use Rattle.text.specs.Ascii.{ascii}
 use Rattle.message_line.specs.Line.{field, kindName, headText}
-use Rattle.message_line.proofs.DraftLaws.{wider, both}
+use Rattle.text.proofs.PieceLaws.{wider, both}
 use Rattle.message_line.proofs.head.head.Statement.{statement}
 use Rattle.message_line.proofs.head.head.Tie as tie
 

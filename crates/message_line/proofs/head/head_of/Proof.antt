@@ -6,8 +6,8 @@ use Prim.Native.Nat.{ℕ}
 use native.Mathlib.Omega.{arith}
 use Rattle.base.proofs.Arrays.{unmap}
 use Rattle.text.specs.Decimal.{decimalOf}
-use Rattle.message_line.specs.Ascii.{ascii}
-use Rattle.message_line.proofs.DraftLaws.{wider, same-text, both}
+use Rattle.text.specs.Ascii.{ascii}
+use Rattle.text.proofs.PieceLaws.{fresh, wider, same-text, both}
 use Rattle.message_line.proofs.HeadLaws.{few-reports, refused-head, read-head}
 use Rattle.message_line.proofs.head.head_of.Statement.{statement}
 use Rattle.message_line.proofs.head.head_of.Tie as tie
@@ -18,8 +18,8 @@ read-requires c κs = search needs
 number-requires : tie.Need-number-requires
 number-requires c κs = search needs
 
-empty-requires : tie.Need-empty-requires
-empty-requires c κs = search needs
+new-requires : tie.Need-new-requires
+new-requires c κs = search needs
 
 slice-aggregate-number : tie.Need-slice-aggregate-number
 slice-aggregate-number c = search needs
@@ -38,7 +38,7 @@ returns c =
     wider _ _ _ _
     (same-text _ _ _ _
     (ap (λ (k : ℕ). ascii "refused " ++ decimalOf k) (n .ensures) ∙ refused-head _ (r .result) (r .ensures) _ (λ e. c .before .before .before .if1 .taken (n .ensures ∙ e)))
-    (both [] _ _ _ _ _ (c .before .before .empty .ensures) (c .number2 .ensures))) (omega arith)
+    (both [] _ _ _ _ _ (fresh _ (c .before .before .new .ensures)) (c .number2 .ensures))) (omega arith)
 
 head-requires : tie.Need-head-requires
 head-requires c κs = few-reports _ (c .before .before .before .read .result) (c .before .before .before .read .ensures) (search (unmap, needs))
@@ -55,7 +55,7 @@ head-of-spec =
     (tie.spec
     read-requires
     number-requires
-    empty-requires
+    new-requires
     slice-aggregate-number
     cast-number
     number-requires-2

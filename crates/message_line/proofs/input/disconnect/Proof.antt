@@ -1,9 +1,9 @@
 -- `disconnect` puts the word that its flag tells.
 use borrow.Author.Needs.{needs}
 use native.Mathlib.Omega.{arith}
-use Rattle.message_line.specs.Ascii.{ascii}
+use Rattle.text.specs.Ascii.{ascii}
 use Rattle.message_line.specs.Line.{field}
-use Rattle.message_line.proofs.DraftLaws.{wider}
+use Rattle.text.proofs.PieceLaws.{wider}
 use Rattle.message_line.proofs.input.disconnect.Statement.{statement}
 use Rattle.message_line.proofs.input.disconnect.Tie as tie
 

@@ -5,9 +5,9 @@ use native.Mathlib.Omega.{arith}
 use lib.ListN.{length, length-take}
 use Rattle.base.proofs.Arrays.{unmap}
 use Rattle.codec.specs.Message.{listed}
-use Rattle.message_line.specs.Ascii.{ascii}
+use Rattle.text.specs.Ascii.{ascii}
 use Rattle.message_line.specs.Line.{field}
-use Rattle.message_line.proofs.DraftLaws.{wider, same-piece, both-adds}
+use Rattle.text.proofs.PieceLaws.{wider, same-piece, both-adds}
 use Rattle.message_line.proofs.TextLaws.{input-fields}
 use Rattle.message_line.proofs.input.input.Statement.{statement}
 use Rattle.message_line.proofs.input.input.Tie as tie

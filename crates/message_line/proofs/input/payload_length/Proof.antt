@@ -1,9 +1,9 @@
 -- `payload_length` puts the number, and a space where it is not 0.
 use borrow.Author.Needs.{needs}
 use native.Mathlib.Omega.{arith}
-use Rattle.message_line.specs.Ascii.{ascii}
+use Rattle.text.specs.Ascii.{ascii}
 use Rattle.message_line.specs.Line.{field}
-use Rattle.message_line.proofs.DraftLaws.{wider, same-piece, both-adds}
+use Rattle.text.proofs.PieceLaws.{wider, same-piece, both-adds}
 use Rattle.message_line.proofs.TextLaws.{no-bytes, some-bytes}
 use Rattle.message_line.proofs.input.payload_length.Statement.{statement}
 use Rattle.message_line.proofs.input.payload_length.Tie as tie

@@ -1,9 +1,9 @@
 -- `status` puts the frame under the name that the flag tells.
 use borrow.Author.Needs.{needs}
 use native.Mathlib.Omega.{arith}
-use Rattle.message_line.specs.Ascii.{ascii}
+use Rattle.text.specs.Ascii.{ascii}
 use Rattle.message_line.specs.Line.{reportText, field}
-use Rattle.message_line.proofs.DraftLaws.{wider}
+use Rattle.text.proofs.PieceLaws.{wider}
 use Rattle.message_line.proofs.input.status.Statement.{statement}
 use Rattle.message_line.proofs.input.status.Tie as tie
 

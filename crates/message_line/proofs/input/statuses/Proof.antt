@@ -5,10 +5,10 @@ use Prim.Native.Nat.{_*_, _-_, _≤_}
 use native.Mathlib.Omega.{arith}
 use lib.ListN.{length, take}
 use Rattle.base.proofs.Arrays.{unmap}
-use Rattle.message_line.specs.Draft.{Adds}
+use Rattle.text.specs.Draft.{Adds}
 use Rattle.message_line.specs.Line.{reportsText}
 use Rattle.message_line.proofs.StatusLaws.{statuses-turn}
-use Rattle.message_line.proofs.DraftLaws.{wider}
+use Rattle.text.proofs.PieceLaws.{wider}
 use borrow.Author.Needs.{needs}
 use Rattle.message_line.proofs.input.statuses.Statement.{statement}
 use Rattle.message_line.proofs.input.statuses.Tie as tie

@@ -1,27 +1,27 @@
--- A draft that takes one piece after another holds their sequence.
-use borrow.Author.Tests.{le-ltb}
-use mathlib.Core.Path.{_≡_, refl, _∙_}
-use mathlib.Core.Bool.{Bool}
+-- Pieces that are put into a draft one after another, as long as there is room, are their sequence; the numbers bound how many bytes are used.
+use borrow.Author.Tests.{le-leb}
+use mathlib.Core.Path.{_≡_, _∙_}
 use mathlib.Core.List.{List, [], _++_, append-assoc}
 use Prim.Native.Nat.{ℕ, _+_, _≤_}
 use native.Mathlib.Omega.{arith}
-use lib.ListN.{length}
-use Rattle.base.proofs.Lay.{laid-front}
-use Rattle.text.specs.Append.{AppendedAs}
-use Rattle.message_line.specs.Draft.{drafted, Holds, Adds}
-use Rattle.message_line.specs.declared.draft.Draft.{Draft}
+use lib.ListN.{length, length-append, length-take}
+use Rattle.text.specs.Draft.{drafted, added, DraftedAs, Holds, Adds}
+use Rattle.text.specs.declared.draft.Draft.{Draft}
 
-pub nothing : (bytes : List ℕ) → Holds [] 0 (record { bytes = bytes; used = 0 })
-unfolding drafted
-nothing bytes = record { text = refl; used = omega arith }
+pub fresh : (r : Draft) → DraftedAs [] r → Holds [] 0 r
+fresh r a = record { text = a .text; used = omega (arith, a .used) }
 
--- a piece appended to the array
-pub appended : (d : Draft) (piece : List ℕ) (ok : Bool) (bytes : List ℕ) → length (d .bytes) ≡ 256 → d .used + length piece ≤ 256
-    → AppendedAs (d .bytes) (d .used) piece ok bytes → Adds d piece (length piece) (record { bytes = bytes; used = d .used + length piece })
+used-le : (d : Draft) → length (drafted d) ≤ d .used
 unfolding drafted
-appended d piece ok bytes long fits e =
-    let room : d .used + length piece ≤ length (d .bytes) = omega arith in
-    record { text = rw (e .lent, le-ltb _ _ room) (laid-front (d .bytes) (d .used) piece room); used = omega arith }
+used-le d = simp length-take (omega arith)
+
+-- a piece of at most so many bytes, for which there is room
+pub put-adds : (d r : Draft) (piece : List ℕ) (most : ℕ) → length piece ≤ most → d .used + most ≤ 256 → DraftedAs (added (drafted d) piece) r → Adds d piece most r
+unfolding added
+put-adds d r piece most few room a =
+    let n = used-le d in
+    let yes = le-leb (length (drafted d) + length piece) 256 (omega arith) in
+    record { text = rw yes at (a .text); used = omega (arith, rw (yes, length-append) at (a .used)) }
 
 pub wider : (line : List ℕ) (few most : ℕ) (r : Draft) → Holds line few r → few ≤ most → Holds line most r
 wider line few most r h w = record { text = h .text; used = omega (arith, h .used) }

@@ -1,23 +1,24 @@
--- Inside: a line while it is composed, up to the payload.
-use mathlib.Core.Path.{_≡_}
+-- A text while it is composed, of at most 256 bytes.
 use mathlib.Core.List.{List, _++_}
+use mathlib.Core.Path.{_≡_}
 use Prim.Native.Nat.{ℕ, _+_, _≤_}
-use lib.Dec.{eqb}
-use lib.ListN.{take}
+use lib.Dec.{leb}
+use lib.ListN.{length, take}
 use Rattle.base.specs.Pick.{pick}
-use Rattle.codec.specs.Read.{datagram, numberIn, wireIn}
-use Rattle.message_line.specs.Line.{headText, refusedLine}
-use Rattle.message_line.specs.declared.draft.Draft.{Draft}
-
--- a datagram's line up to the payload, of which n bytes follow
-unfoldable pub headOf : List ℕ → ℕ → List ℕ
-headOf d n =
-    let w = wireIn (datagram d) in
-    pick (eqb (numberIn (datagram d)) 0) (headText (w .magic) (w .body) (w .reports) n) (refusedLine (numberIn (datagram d)))
+use Rattle.text.specs.declared.draft.Draft.{Draft}
 
 -- the text in the front of a draft's array
 unfoldable pub drafted : Draft → List ℕ
 drafted d = take (d .used) (d .bytes)
+
+-- a piece after it, where there is room
+unfoldable pub added : List ℕ → List ℕ → List ℕ
+added text piece = pick (leb (length text + length piece) 256) (text ++ piece) text
+
+-- a draft of a text
+pub record DraftedAs (line : List ℕ) (r : Draft) : Type 0 where
+  pub text : drafted r ≡ line
+  pub used : r .used ≡ length line
 
 -- a draft that holds a text, of at most so many bytes
 pub record Holds (line : List ℕ) (most : ℕ) (r : Draft) : Type 0 where
