@@ -2,7 +2,7 @@
 use borrow.Author.Tests.{lt-ltb, le-ltb, ltb-false}
 use mathlib.Core.Path.{_≡_, refl, _∙_}
 use mathlib.Core.Bool.{Bool, true, false}
-use mathlib.Core.List.{List, _++_}
+use mathlib.Core.List.{List, [], _∷_, _++_}
 use Prim.Native.Nat.{ℕ, _+_, _*_, _<_, _≤_}
 use native.Mathlib.Omega.{arith}
 use lib.ListN.{length, length-append, length-take}
@@ -12,6 +12,7 @@ use Rattle.base.proofs.Lay.{laid-length, laid-join}
 use Rattle.answer.specs.declared.Answer.the-variants.{Done, Full}
 use Rattle.text.specs.Append.{AppendedAs}
 use Rattle.text.specs.Hex.{hexOf}
+use Rattle.text.specs.Page.{Page, page, written, writtenAll}
 use Rattle.text.proofs.HexLaws.{hex-length}
 use Rattle.text.specs.Draft.{drafted}
 use Rattle.message_line.specs.Calls.{LineAs}
@@ -58,3 +59,16 @@ line-inside {buffer} {text} {buffer′} {at} {r} a h = rw (a .end, a .lent) (ins
 
 pub same-line : (buffer : List ℕ) (at : ℕ) (line text : List ℕ) (r : Laid) (buffer′ : List ℕ) → line ≡ text → LineAs buffer at line r buffer′ → LineAs buffer at text r buffer′
 same-line buffer at line text r buffer′ e a = rw e at a
+
+-- and is one more piece on the page
+pub line-page : (buffer : List ℕ) (at : ℕ) (text : List ℕ) (r : Laid) (buffer′ : List ℕ) → LineAs buffer at text r buffer′
+    → page buffer′ (r .end) ≡ written text (page buffer at)
+unfolding written
+line-page buffer at text r buffer′ a =
+    rw (a .end, a .lent)
+    (elim (noRoom buffer at (length text)) as (λ t. page (pick t buffer (laidAt buffer at text)) (pick t at (at + length text)) ≡ pick t (page buffer at) (page (laidAt buffer at text) (at + length text)))
+    [ true ↦ refl | false ↦ refl ])
+
+pub three-pieces : (a b c : List ℕ) (p q r s : Page) → q ≡ written a p → r ≡ written b q → s ≡ written c r → s ≡ writtenAll (a ∷ b ∷ c ∷ []) p
+unfolding writtenAll
+three-pieces a b c p q r s e f g = g ∙ rw (f, e)

@@ -9,10 +9,12 @@ mod input;
 use answer::Answer;
 use text::Draft;
 ghost use mathlib.Core.Path.{_≡_};
-ghost use mathlib.Core.List.{_++_};
+ghost use mathlib.Core.List.{[], _∷_, _++_};
 ghost use Prim.Native.Nat.{_≤_};
 ghost use Rattle.answer.specs.declared.Answer.the-variants.{Full};
+ghost use Rattle.text.specs.Ascii.{ascii};
 ghost use Rattle.text.specs.Hex.{hexOf};
+ghost use Rattle.text.specs.Page.{page, writtenAll};
 ghost use Rattle.message_line.specs.Calls.{LineAs};
 ghost use Rattle.text.specs.Draft.{drafted};
 ghost use Rattle.message_line.specs.Line.{lineOf};
@@ -29,6 +31,17 @@ pub fn line(out: &mut [u8], at: usize, datagram: &[u8]) -> Laid
     let payload = codec::payload_of(datagram);
     let head = head::head_of(datagram, payload.len());
     lay(out, at, head, payload)
+}
+
+// The line after some words, with a newline at its end: each of the three where it fits. Gives the place after them.
+pub fn line_after(out: &mut [u8], at: usize, words: &[u8], datagram: &[u8]) -> usize
+    ensures { λ r. ⌜ page (now (out .exit)) r
+        ≡ writtenAll (now (words .entry) ∷ lineOf (now (datagram .entry)) ∷ ascii "\n" ∷ []) (page (now (out .entry)) at) ⌝ }
+{
+    let start = text::lay(out, at, words);
+    let laid = line(out, start, datagram);
+    let end = laid.end;
+    text::lay(out, end, b"\n")
 }
 
 // The whole line is known to fit before the first byte is written. The room is a difference, since

@@ -38,3 +38,8 @@ both line piece most more d r h a = record { text = a .text ∙ rw (h .text); us
 
 pub both-adds : (d : Draft) (first piece : List ℕ) (most more : ℕ) (e r : Draft) → Adds d first most e → Adds e piece more r → Adds d (first ++ piece) (most + more) r
 both-adds d first piece most more e r h a = record { text = a .text ∙ rw (h .text, append-assoc); used = omega (arith, h .used, a .used) }
+
+-- the same of a piece that is put after others
+pub then-put : (d e r : Draft) (first piece : List ℕ) (most more : ℕ) → Adds d first most e → length piece ≤ more → d .used + (most + more) ≤ 256
+    → DraftedAs (added (drafted e) piece) r → Adds d (first ++ piece) (most + more) r
+then-put d e r first piece most more h few room a = both-adds d first piece most more e r h (put-adds e r piece more few (omega (arith, h .used)) a)

@@ -1,10 +1,9 @@
 -- `number` is a field whose value is of one word, so it has at most 20 digits.
 use borrow.Author.Needs.{needs}
-use native.Mathlib.Omega.{arith}
 use native.Mathlib.Nat.{add-zero}
 use Rattle.text.specs.Decimal.{decimalOf}
 use Rattle.text.proofs.DecimalLaws.{decimal-64}
-use Rattle.text.proofs.PieceLaws.{put-adds, both-adds}
+use Rattle.text.proofs.PieceLaws.{then-put}
 use Rattle.message_line.proofs.field.number.Statement.{statement}
 use Rattle.message_line.proofs.field.number.Tie as tie
 
@@ -17,8 +16,7 @@ put-decimal-requires c κs = search needs
 returns : tie.Need-returns
 returns c =
     let s = c .before .before .before in
-    let p = c .before .put .ensures in
-    both-adds (s .args .draft) (s .args .name .now) (decimalOf (s .args .n)) _ 20 _ _ p (put-adds _ _ (decimalOf (s .args .n)) 20 (decimal-64 (s .args .n) (search needs)) (omega (arith, p .used, s .pre)) (rw add-zero at (c .put-decimal .ensures)))
+    then-put (s .args .draft) _ _ (s .args .name .now) (decimalOf (s .args .n)) _ 20 (c .before .put .ensures) (decimal-64 (s .args .n) (search needs)) (s .pre) (rw add-zero at (c .put-decimal .ensures))
 
 pub number-spec : {M : Type 1} → statement M
 number-spec = tie.close (tie.spec put-requires put-decimal-requires returns)

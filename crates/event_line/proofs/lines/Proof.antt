@@ -1,0 +1,51 @@
+-- `lines` lays one line where there is no event, and else each.
+use borrow.Author.Needs.{needs}
+use mathlib.Core.Path.{sym, _∙_}
+use Rattle.events.specs.Events.{held}
+use Rattle.event_line.proofs.EachLaws.{none-lines, some-lines}
+use Rattle.event_line.proofs.lines.Statement.{statement}
+use Rattle.event_line.proofs.lines.Tie as tie
+
+count-requires : tie.Need-count-requires
+count-requires c κs = search needs
+
+none-requires : tie.Need-none-requires
+none-requires c κs = search needs
+
+lay-into-requires : tie.Need-lay-into-requires
+lay-into-requires c κs = search needs
+
+same-length : tie.Need-same-length
+same-length c = search needs
+
+returns : tie.Need-returns
+returns c =
+    let a = c .before .before .before .before .before .before .before .before .args in
+    let n = c .before .before .before .before .before .before .count .ensures in
+    none-lines (a .name) (a .size) (held (a .events)) _ _ (sym n ∙ c .before .before .before .before .before .if1 .taken)
+    (rw (c .before .before .before .before .none .ensures .text) at (c .before .before .lay-into .ensures))
+
+each-requires : tie.Need-each-requires
+each-requires c κs = search needs
+
+same-length-2 : tie.Need-same-length-2
+same-length-2 c = search needs
+
+returns-2 : tie.Need-returns-2
+returns-2 c =
+    let a = c .before .before .before .before .before .before .before .args in
+    let n = c .before .before .before .before .before .count .ensures in
+    rw (some-lines (a .name) (a .size) (held (a .events)) (λ e. c .before .before .before .before .if1 .left (n ∙ e))) at (c .before .before .each .ensures)
+
+pub lines-spec : {M : Type 1} → statement M
+lines-spec =
+    tie.close
+    (tie.spec
+    count-requires
+    none-requires
+    lay-into-requires
+    same-length
+    returns
+    each-requires
+    same-length-2
+    returns-2)
