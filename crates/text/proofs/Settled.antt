@@ -4,6 +4,7 @@ use mathlib.Core.Bool.{Bool}
 use mathlib.Core.List.{List, []}
 use mathlib.Core.Path.{_≡_, sym, _∙_}
 use Prim.Native.Nat.{ℕ, _+_, _*_, _^_}
+use lib.ListN.{take}
 use Rattle.base.proofs.Settled.{settled}
 use Rattle.text.specs.declared.number.Numeral.{Numeral}
 use Rattle.text.specs.Decimal.{decimalOf, signedOf, textOf}
@@ -57,3 +58,6 @@ module _ (buffer : List ℕ) (at : ℕ) (r s : ℕ) (b c : List ℕ) where
 
   pub lay-into-settled : (d : Draft) → page b r ≡ written (drafted d) (page buffer at) → page c s ≡ written (drafted d) (page buffer at) → page b r ≡ page c s
   lay-into-settled d = lay-settled (drafted d)
+
+pub filled-settled : (buffer : List ℕ) (end : ℕ) (r s : List ℕ) → r ≡ take end buffer → s ≡ take end buffer → r ≡ s
+filled-settled buffer end = settled (λ r. r) (take end buffer)

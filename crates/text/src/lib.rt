@@ -11,4 +11,5 @@ pub use number::Numeral;
 pub use number::decimal;
 pub use number::signed;
 pub use pieces::append;
+pub use pieces::filled;
 pub use pieces::lay;

@@ -1,5 +1,6 @@
 // A piece of text laid into a lent buffer at a place.
 ghost use mathlib.Core.Path.{_≡_};
+ghost use lib.ListN.{take};
 ghost use Rattle.text.specs.Append.{AppendedAs};
 ghost use Rattle.text.specs.Page.{page, written};
 
@@ -27,4 +28,14 @@ pub fn lay(out: &mut [u8], at: usize, piece: &[u8]) -> usize
         return at + piece.len();
     }
     at
+}
+
+// The part of a buffer up to a place; all of it where the place lies beyond its end.
+pub fn filled(out: &[u8], end: usize) -> &[u8]
+    ensures { λ r. ⌜ now r ≡ take end (now (out .entry)) ⌝ }
+{
+    if end < out.len() {
+        return &out[..end];
+    }
+    out
 }
