@@ -3,43 +3,64 @@ use endpoint::Endpoint;
 use frame::BIAS32;
 use libc::STDOUT_FILENO;
 use status::Statuses;
-use std::num::wrapping_add_u32;
 
-// The ends' magics, which are their letters and their numbers as peers too.
-const A: u8 = b'A';
-const B: u8 = b'B';
+// The ends' magics, and their numbers as peers.
+const A: u16 = 65;
+const B: u16 = 66;
+
+struct Ends {
+    a: Endpoint,
+    b: Endpoint,
+}
 
 fn main() {
     let mut queue = [0u8; 128];
     let mut answers = [0u8; 128];
-    let a = Endpoint::new(running::two_players(A as u16, B as u32, 1), 0);
-    let b = Endpoint::new(running::two_players(B as u16, A as u32, 0), 0);
-    let b = running::synchronized(b.endpoint, A as u16);
-    let sent = send(running::synchronized(a.endpoint, B as u16), 0, 0x05, &mut queue);
-    let a = take(b"A: loses ", sent, &queue);
-    let sent = send(a, 1, 0x07, &mut queue);
-    let a = take(b"A: sends ", sent, &queue);
-    let b = arrive(b, sent, &queue, &mut answers);
-    // B's answer is lost too, so that A goes on sending frames 0 and 1.
-    let b = take(b"B: loses ", b, &answers);
-    let sent = send(a, 2, 0x02, &mut queue);
-    let a = take(b"A: sends ", sent, &queue);
-    let b = arrive(b, sent, &queue, &mut answers);
+    let ends = unanswered(&mut queue, &mut answers);
     // This answer arrives: from here on A packs against frame 2.
-    let a = answer(a, b, &answers);
-    let b = take(b"B: sends ", b, &answers);
-    let sent = send(a, 3, 0x02, &mut queue);
-    let a = take(b"A: loses ", sent, &queue);
-    let sent = send(a, 4, 0x01, &mut queue);
-    take(b"A: sends ", sent, &queue);
-    arrive(b, sent, &queue, &mut answers);
+    let a = answer(ends.a, ends.b, &answers);
+    let b = take(b"B: sends ", ends.b, &answers);
+    let a = lose(a, BIAS32 + 3, 0x02, &mut queue);
+    pass(a, b, BIAS32 + 4, 0x01, &mut queue, &mut answers);
 }
 
-// A's player moves.
-fn send(a: Endpoint, frame: u32, input: u8, queue: &mut [u8; 128]) -> Endpoint {
-    let frame = wrapping_add_u32(BIAS32, frame);
-    let ended = a.send_input(frame, &[input], Statuses::new(2), 100, queue);
-    ended.endpoint
+// Frame 0 is lost, and B's answer to frames 0 and 1, so that A sends them again with frame 2.
+fn unanswered(queue: &mut [u8; 128], answers: &mut [u8; 128]) -> Ends {
+    let a = lose(running::end(A, B, 1, 0), BIAS32, 0x05, queue);
+    let ends = pass(a, running::end(B, A, 0, 0), BIAS32 + 1, 0x07, queue, answers);
+    let b = take(b"B: loses ", ends.b, answers);
+    pass(ends.a, b, BIAS32 + 2, 0x02, queue, answers)
+}
+
+// A's player moves, and the packet is lost.
+fn lose(a: Endpoint, frame: u32, input: u8, queue: &mut [u8; 128]) -> Endpoint {
+    let sent = a.send_input(frame, &[input], Statuses::new(2), 100, queue);
+    take(b"A: loses ", sent.endpoint, queue)
+}
+
+// A's player moves, and the packet arrives at B.
+fn pass(a: Endpoint, b: Endpoint, frame: u32, input: u8, queue: &mut [u8; 128], answers: &mut [u8; 128]) -> Ends {
+    let sent = a.send_input(frame, &[input], Statuses::new(2), 100, queue);
+    let a = take(b"A: sends ", sent.endpoint, queue);
+    let b = arrive(b, sent.endpoint.messages(queue), answers);
+    Ends { a, b }
+}
+
+// B announces what the datagram has.
+fn arrive(b: Endpoint, datagram: &[u8], answers: &mut [u8; 128]) -> Endpoint {
+    let heard = b.datagram(A as u32, datagram, 120, 120, 0, answers);
+    let told = heard.endpoint.take_events();
+    let mut page = [0u8; 256];
+    let at = event_line::lines(&mut page, 0, b'B', told.events, 1);
+    io::write_all(STDOUT_FILENO, text::filled(&page, at));
+    told.endpoint
+}
+
+// B's answer arrives at A.
+fn answer(a: Endpoint, b: Endpoint, answers: &[u8; 128]) -> Endpoint {
+    let mut queue = [0u8; 16];
+    let heard = a.datagram(B as u32, b.messages(answers), 140, 140, 0, &mut queue);
+    heard.endpoint
 }
 
 // What an end has queued is shown, and the queue emptied.
@@ -48,22 +69,5 @@ fn take(words: &[u8], end: Endpoint, queue: &[u8; 128]) -> Endpoint {
     let at = message_line::line_after(&mut page, 0, words, end.messages(queue));
     io::write_all(STDOUT_FILENO, text::filled(&page, at));
     let ended = end.take_messages(queue);
-    ended.endpoint
-}
-
-// What A has queued arrives at B, which announces it.
-fn arrive(b: Endpoint, a: Endpoint, queue: &[u8; 128], answers: &mut [u8; 128]) -> Endpoint {
-    let ended = b.datagram(A as u32, a.messages(queue), 120, 120, 0, answers);
-    let taken = ended.endpoint.take_events();
-    let mut page = [0u8; 256];
-    let at = event_line::lines(&mut page, 0, B, taken.events, 1);
-    io::write_all(STDOUT_FILENO, text::filled(&page, at));
-    taken.endpoint
-}
-
-// What B has answered arrives at A.
-fn answer(a: Endpoint, b: Endpoint, answers: &[u8; 128]) -> Endpoint {
-    let mut queue = [0u8; 16];
-    let ended = a.datagram(B as u32, b.messages(answers), 140, 140, 0, &mut queue);
     ended.endpoint
 }

@@ -4,18 +4,16 @@ use frame::BIAS32;
 use libc::STDOUT_FILENO;
 use status::Statuses;
 
-// The ends' magics, which are their letters and their numbers as peers too.
-const A: u8 = b'A';
-const B: u8 = b'B';
+// The ends' magics, and their numbers as peers.
+const A: u16 = 65;
+const B: u16 = 66;
 
 fn main() {
     let mut queue = [0u8; 128];
-    let a = Endpoint::new(running::two_players(A as u16, B as u32, 1), 0);
-    let a = running::synchronized(a.endpoint, B as u16);
-    let b = Endpoint::new(running::two_players(B as u16, A as u32, 0), 0);
-    let b = running::synchronized(b.endpoint, A as u16);
+    let b = running::end(B, A, 0, 0);
     // The packet with frame 0, which the line keeps, arrives twice.
-    let sent = a.send_input(BIAS32, &[0x05u8], Statuses::new(2), 100, &mut queue);
+    let sent = running::end(A, B, 1, 0)
+        .send_input(BIAS32, b"\x05", Statuses::new(2), 100, &mut queue);
     let kept = queue;
     let first = sent.endpoint.messages(&kept);
     let b = arrive(b, first, 110);
@@ -23,7 +21,7 @@ fn main() {
     // The packet with frames 0 and 1 arrives, and then the first once more.
     let taken = sent.endpoint.take_messages(&queue);
     let sent = taken.endpoint
-        .send_input(BIAS32 + 1, &[0x07u8], Statuses::new(2), 130, &mut queue);
+        .send_input(BIAS32 + 1, b"\x07", Statuses::new(2), 130, &mut queue);
     let b = arrive(b, sent.endpoint.messages(&queue), 140);
     arrive(b, first, 150);
 }
@@ -35,7 +33,7 @@ fn arrive(b: Endpoint, datagram: &[u8], now: u64) -> Endpoint {
     let taken = ended.endpoint.take_events();
     let mut page = [0u8; 512];
     let at = message_line::line_after(&mut page, 0, b"A: sends ", datagram);
-    let at = event_line::lines(&mut page, at, B, taken.events, 1);
+    let at = event_line::lines(&mut page, at, b'B', taken.events, 1);
     let answer = taken.endpoint.messages(&queue);
     let at = message_line::line_after(&mut page, at, b"B: sends ", answer);
     io::write_all(STDOUT_FILENO, text::filled(&page, at));

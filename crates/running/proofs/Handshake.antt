@@ -22,8 +22,8 @@ use Rattle.protocol.proofs.Bouts.{after}
 use Rattle.running.specs.Running.{twoPlayers, synchronized}
 
 -- an endpoint of peer 3, made at clock 1000
-abbrev new : (magic other : ℕ) → Seen
-new magic other = made (twoPlayers magic 3 other) 1000
+abbrev new : (magic player : ℕ) → Seen
+new magic player = made (twoPlayers magic 3 player) 1000
 
 -- a reply under the other end's magic, and the nonce for the next request
 abbrev reply : (remote nonce next : ℕ) → Call
@@ -41,7 +41,7 @@ handshake remote =
     ∷ Call.takeEvents
     ∷ []
 
-pub shaken : (magic other remote : ℕ) → after (handshake remote) (new magic other)
-    ≡ withQuality (startedAt 71000 (new magic other .quality)) (synchronized remote (new magic other))
+pub shaken : (magic player remote : ℕ) → after (handshake remote) (new magic player)
+    ≡ withQuality (startedAt 71000 (new magic player .quality)) (synchronized remote (new magic player))
 unfolding kept has without issued fits freshStatuses hasRoom inserted sorted termsWith sizes made refused decided queueWire done bufferFull isFull nonceIssued request started synchronizes counted running replied onSyncReply synchronizeStep filtered ignored resumed heard onBody messageStep takeStep step twoPlayers synchronized
-shaken magic other remote = refl
+shaken magic player remote = refl

@@ -6,12 +6,12 @@ use Rattle.setup.specs.declared.DesyncDetection.the-variants.{On}
 use Rattle.protocol.specs.declared.Phase.the-variants.{Running}
 use Rattle.protocol.specs.Seen.{Seen, withPhase, withSync}
 
--- one player at each end, inputs of a byte; `other` is the handle of the player at the other end
-unfoldable pub twoPlayers : (magic peer other : ℕ) → Setup
-twoPlayers magic peer other =
+-- one player at each end, inputs of a byte; `player` is the one at the other end
+unfoldable pub twoPlayers : (magic peer player : ℕ) → Setup
+twoPlayers magic peer player =
     record {
       «num_players» = 2;
-      handles = record { list = other ∷ 0 ∷ 0 ∷ 0 ∷ []; count = 1 };
+      handles = record { list = player ∷ 0 ∷ 0 ∷ 0 ∷ []; count = 1 };
       «local_players» = 1;
       «input_size» = 1;
       «max_prediction» = 8;

@@ -1,6 +1,7 @@
 // An endpoint that runs already, for programs that do not show the handshake: a plain setup of a bout between two players, and what the
 // handshake leaves of an endpoint that was made.
 ghost use mathlib.Core.Path.{_≡_};
+ghost use Rattle.protocol.specs.Seen.{made};
 ghost use Rattle.endpoint.specs.Endpoint.{seen};
 ghost use Rattle.running.specs.Running.{twoPlayers, synchronized};
 use endpoint::Endpoint;
@@ -11,14 +12,14 @@ use setup::DesyncDetection;
 use setup::Handles;
 use setup::Setup;
 
-// Two players, one at each end, whose inputs are a byte; `other` is the handle of the player at the other end.
-pub fn two_players(magic: u16, peer: u32, other: u32) -> Setup
-    ensures { λ r. ⌜ r ≡ twoPlayers magic peer other ⌝ }
+// Two players, one at each end, whose inputs are a byte; `player` is the one at the other end.
+pub fn two_players(magic: u16, peer: u32, player: u32) -> Setup
+    ensures { λ r. ⌜ r ≡ twoPlayers magic peer player ⌝ }
 {
     Setup {
         num_players: 2,
         handles: Handles {
-            list: [other, 0, 0, 0],
+            list: [player, 0, 0, 0],
             count: 1,
         },
         local_players: 1,
@@ -49,4 +50,12 @@ pub fn synchronized(endpoint: Endpoint, magic: u16) -> Endpoint
         },
         ..endpoint
     }
+}
+
+// An end of such a bout, running. The other end's number as a peer is its magic.
+pub fn end(own: u16, other: u16, player: u32, now: u64) -> Endpoint
+    ensures { λ r. ⌜ seen r ≡ synchronized other (made (twoPlayers own other player) now) ⌝ }
+{
+    let made = Endpoint::new(two_players(own, other as u32, player), now);
+    synchronized(made.endpoint, other)
 }
