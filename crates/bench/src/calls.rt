@@ -28,7 +28,7 @@ fn waiting(end: Endpoint) -> u64 {
 // The Input of one frame after the other, each packed against the one before.
 pub fn input(setup: Setup, payload: &[u8], count: u32) -> u64 {
     let mut out = [0u8; 64];
-    let mut end = ends::running(setup, OTHER);
+    let mut end = ends::ready(setup, OTHER);
     let mut sum = 0u64;
     let mut i = 0u32;
     while i < count {
@@ -72,7 +72,7 @@ fn one_frame(players: u32, i: u32) -> Message {
 // An endpoint with three inputs that wait.
 fn waited() -> Endpoint {
     let mut out = [0u8; 256];
-    let mut end = ends::running(ends::small(), OTHER);
+    let mut end = ends::ready(ends::small(), OTHER);
     let mut i = 0u32;
     while i < WAITING {
         let input = [i as u8; 1];
@@ -143,7 +143,7 @@ pub fn input_ack(count: u32) -> u64 {
 
 pub fn keep_alive(count: u32) -> u64 {
     let mut out = [0u8; 64];
-    let mut end = ends::running(ends::small(), OTHER);
+    let mut end = ends::ready(ends::small(), OTHER);
     let mut i = 0u32;
     while i < count {
         let message = ends::plain(OTHER, MessageBody::KeepAlive);
@@ -157,7 +157,7 @@ pub fn keep_alive(count: u32) -> u64 {
 // At a time when no timer is due.
 pub fn act(count: u32) -> u64 {
     let mut out = [0u8; 64];
-    let mut end = ends::running(ends::small(), OTHER);
+    let mut end = ends::ready(ends::small(), OTHER);
     let statuses = Statuses::new(2);
     let mut i = 0u32;
     while i < count {

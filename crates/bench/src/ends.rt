@@ -1,9 +1,7 @@
-// Endpoints as the items have them: made, synchronized by five replies, and with empty queues.
+// Endpoints as the items have them: made, as a handshake leaves them, and with empty queues.
 use codec::Message;
 use codec::MessageBody;
 use endpoint::Endpoint;
-use setup::Choices;
-use setup::DesyncDetection;
 use setup::Handles;
 use setup::Setup;
 
@@ -18,45 +16,21 @@ pub const START: u64 = 1000;
 
 // Two players, one at each end, S = 1.
 pub fn small() -> Setup {
-    setup_of(
-        2,
-        Handles {
-            list: [1, 0, 0, 0],
-            count: 1,
-        },
-        1,
-        1,
-    )
+    running::two_players(MAGIC, PEER, 1)
 }
 
 // Four players, whose inputs all come from the other end, S = 16.
 pub fn large() -> Setup {
-    setup_of(
-        4,
-        Handles {
+    let setup = small();
+    Setup {
+        num_players: 4,
+        handles: Handles {
             list: [0, 1, 2, 3],
             count: 4,
         },
-        4,
-        16,
-    )
-}
-
-fn setup_of(num_players: u32, handles: Handles, local_players: u32, input_size: u32) -> Setup {
-    Setup {
-        num_players,
-        handles,
-        local_players,
-        input_size,
-        max_prediction: 8,
-        disconnect_timeout: 2000,
-        disconnect_notify_start: 500,
-        fps: 60,
-        magic: MAGIC,
-        peer_addr: PEER,
-        choices: Choices {
-            desync_detection: DesyncDetection::Off,
-        },
+        local_players: 4,
+        input_size: 16,
+        ..setup
     }
 }
 
@@ -70,24 +44,9 @@ pub fn plain(magic: u16, body: MessageBody) -> Message {
     }
 }
 
-pub fn running(setup: Setup, other: u16) -> Endpoint {
-    let mut out = [0u8; 64];
+pub fn ready(setup: Setup, other: u16) -> Endpoint {
     let made = Endpoint::new(setup, START);
-    let begun = made.endpoint.synchronize(START, START, 1, &mut out);
-    let mut end = begun.endpoint;
-    let mut nonce = 1u32;
-    while nonce <= 5 {
-        let reply = plain(
-            other,
-            MessageBody::SyncReply {
-                random_reply: nonce,
-            },
-        );
-        let ended = end.message(PEER, reply, b"", START, START, nonce + 1, &mut out);
-        end = ended.endpoint;
-        nonce += 1;
-    }
-    emptied(end)
+    running::synchronized(made.endpoint, other)
 }
 
 // Both queues emptied in place: a store each, and no call that is timed.

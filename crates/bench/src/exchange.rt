@@ -31,8 +31,8 @@ struct Played {
 pub fn run(count: u32) -> u64 {
     let mut out_a = [0u8; 256];
     let mut out_b = [0u8; 256];
-    let a = ends::running(ends::small(), OTHER);
-    let b = ends::running(other_end(), MAGIC);
+    let a = ends::ready(ends::small(), OTHER);
+    let b = ends::ready(other_end(), MAGIC);
     let mut pair = Pair { a, b, sum: 0 };
     let mut i = 0u32;
     while i < count {

@@ -1,16 +1,11 @@
 // One end of the line: an endpoint, the buffer that it is lent, and what its owner keeps for it. A method makes one call of the endpoint, or shows what one tells.
 use crate::lines;
 use crate::queue;
-use codec::Wide;
 use endpoint::Ended;
 use endpoint::Endpoint;
 use events::Entry;
 use events::Event;
 use events::Events;
-use setup::Choices;
-use setup::DesyncDetection;
-use setup::Handles;
-use setup::Setup;
 use status::Statuses;
 
 const NUM_PLAYERS: usize = 2;
@@ -29,27 +24,6 @@ pub(crate) struct End {
     pub endpoint: Endpoint,
     pub queue: [u8; 1024],
     pub statuses: Statuses,
-}
-
-fn setup(own: Seat, other: Seat) -> Setup {
-    Setup {
-        num_players: NUM_PLAYERS as u32,
-        handles: Handles {
-            list: [other.player, 0, 0, 0],
-            count: 1,
-        },
-        local_players: 1,
-        input_size: 1,
-        max_prediction: 8,
-        disconnect_timeout: 2000,
-        disconnect_notify_start: 500,
-        fps: 60,
-        magic: own.name as u16,
-        peer_addr: other.name as u32,
-        choices: Choices {
-            desync_detection: DesyncDetection::On { interval: 1 },
-        },
-    }
 }
 
 fn epoch(now: u32) -> u64 {
@@ -77,7 +51,8 @@ fn with_event(statuses: Statuses, entry: Entry) -> Statuses {
 
 impl End {
     pub(crate) fn new(own: Seat, other: Seat, now: u32) -> End {
-        let made = Endpoint::new(setup(own, other), now as u64);
+        let setup = running::two_players(own.name as u16, other.name as u32, other.player);
+        let made = Endpoint::new(setup, now as u64);
         let answer = made.answer;
         lines::refusal(own.name, answer);
         let endpoint = made.endpoint;
@@ -120,16 +95,6 @@ impl End {
         let ended = self.endpoint
             .send_input(frame, &bytes, statuses, now as u64, &mut queue);
         End { statuses, ..self }.after(ended, queue)
-    }
-
-    // Which checksum it is makes no difference here.
-    pub(crate) fn send_checksum_report(self, frame: i32, now: u32) -> End {
-        let frame = frame::from_signed(frame);
-        let checksum = Wide { low: 7, high: 0 };
-        let mut queue = self.queue;
-        let ended = self.endpoint
-            .send_checksum_report(frame, checksum, now as u64, &mut queue);
-        self.after(ended, queue)
     }
 
     // Before the endpoint acts, it is told at which frame the game stands.
@@ -215,9 +180,5 @@ impl End {
 
     pub(crate) fn show_state(self) {
         lines::state(self.seat.name, self.endpoint.state());
-    }
-
-    pub(crate) fn show_checksums(self) {
-        lines::checksums(self.seat.name, self.endpoint.checksums());
     }
 }

@@ -1,15 +1,13 @@
-// What the bouts print: a line begins with the letter of the end that it is about.
+// What the bout prints: a line begins with the letter of the end that it is about.
 use crate::queue;
 use answer::Answer;
-use checksums::Checksums;
 use endpoint::StatsResult;
-use events::Entry;
-use events::Event;
 use events::Events;
 use frame::BIAS32;
 use libc::STDOUT_FILENO;
 use protocol::Phase;
 use quality::NetworkStats;
+use text::Draft;
 
 pub(crate) fn heading(text: &[u8]) {
     put(b"# ");
@@ -25,12 +23,11 @@ fn number(n: u64) {
     io::print_decimal(STDOUT_FILENO, n);
 }
 
-// Frames and advantages are read as signed numbers.
+// Advantages are read as signed numbers.
 fn signed(n: u32) {
-    let numeral = text::signed(n, BIAS32);
-    let bytes = numeral.bytes;
-    let start = numeral.start;
-    put(&bytes[start..]);
+    let draft = Draft::new().put_signed(n, BIAS32);
+    let bytes = draft.bytes;
+    put(text::filled(&bytes, draft.used));
 }
 
 fn begin(name: u8) {
@@ -51,51 +48,12 @@ pub(crate) fn refusal(name: u8, answer: Answer) {
     put(b"\n");
 }
 
+// An input is one byte.
 pub(crate) fn events(name: u8, events: Events) {
-    let n = events.count();
-    if n == 0 {
-        begin(name);
-        put(b"no event\n");
-    }
-    let mut i = 0;
-    while i < n {
-        begin(name);
-        event(events.entry(i));
-        put(b"\n");
-        i += 1;
-    }
-}
-
-fn event(entry: Entry) {
-    let event = entry.event;
-    match event {
-        Event::Synchronizing { total, count } => {
-            put(b"Synchronizing ");
-            number(count as u64);
-            put(b" of ");
-            number(total as u64);
-        }
-        Event::Synchronized => put(b"Synchronized"),
-        Event::Input { frame, player } => {
-            let input = entry.input;
-            moved(frame, player, input[0]);
-        }
-        Event::Disconnected => put(b"Disconnected"),
-        Event::NetworkInterrupted { disconnect_timeout } => {
-            put(b"NetworkInterrupted ");
-            number(disconnect_timeout);
-        }
-        Event::NetworkResumed => put(b"NetworkResumed"),
-    }
-}
-
-fn moved(frame: u32, player: u32, input: u8) {
-    put(b"Input frame ");
-    signed(frame);
-    put(b" player ");
-    number(player as u64);
-    put(b": ");
-    io::print_hex(STDOUT_FILENO, input as u64, 2);
+    // The lines of this bout are shorter; one that did not fit would not show.
+    let mut page = [0u8; 1024];
+    let end = event_line::lines(&mut page, 0, name, events, 1);
+    put(text::filled(&page, end));
 }
 
 // A queue, message by message, after the word for what becomes of it.
@@ -104,20 +62,16 @@ pub(crate) fn messages(name: u8, fate: &[u8], queue: &[u8]) {
     while at < queue.len() {
         let end = queue::message_end(queue, at);
         begin(name);
-        put(fate);
-        message(&queue[at..end]);
+        message(fate, &queue[at..end]);
         at = end;
     }
 }
 
 // As the printing program shows it.
-fn message(datagram: &[u8]) {
-    // The lines of these bouts are shorter; one that did not fit would show as none.
-    let mut out = [0u8; 256];
-    let line = message_line::line(&mut out, 0, datagram);
-    let end = line.end;
-    put(&out[..end]);
-    put(b"\n");
+fn message(fate: &[u8], datagram: &[u8]) {
+    let mut page = [0u8; 256];
+    let end = message_line::line_after(&mut page, 0, fate, datagram);
+    put(text::filled(&page, end));
 }
 
 pub(crate) fn stats(name: u8, result: StatsResult) {
@@ -149,19 +103,4 @@ pub(crate) fn state(name: u8, phase: Phase) {
         Phase::Disconnected => put(b"state Disconnected\n"),
         Phase::Shutdown => put(b"state Shutdown\n"),
     }
-}
-
-// In the order of their coming.
-pub(crate) fn checksums(name: u8, checksums: Checksums) {
-    let n = checksums.count();
-    begin(name);
-    put(b"checksums ");
-    number(n as u64);
-    if 0 < n {
-        put(b", first frame ");
-        signed(checksums.entry(0).frame);
-        put(b", last frame ");
-        signed(checksums.entry(n - 1).frame);
-    }
-    put(b"\n");
 }

@@ -29,14 +29,6 @@ impl Table {
         table
     }
 
-    // The same with the handshake's events taken.
-    pub(crate) fn ready() -> Table {
-        let table = Table::synchronized();
-        let a = table.a.take_events();
-        let b = table.b.take_events();
-        Table { a, b }
-    }
-
     // What A has queued arrives at B, then what B has, with its answers, at A.
     pub(crate) fn meet(self, now: u32) -> Table {
         let b = self.b.receive(self.a, now);

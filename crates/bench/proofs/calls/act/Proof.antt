@@ -16,8 +16,8 @@ abbrev μ-loop : tie.MeasureT-loop
 small-requires : tie.Need-small-requires Inv-loop μ-loop
 small-requires c κs = search needs
 
-running-requires : tie.Need-running-requires Inv-loop μ-loop
-running-requires c κs = search needs
+ready-requires : tie.Need-ready-requires Inv-loop μ-loop
+ready-requires c κs = search needs
 
 new-requires : tie.Need-new-requires Inv-loop μ-loop
 new-requires c κs = search needs
@@ -59,7 +59,7 @@ act-spec =
     Inv-loop
     μ-loop
     small-requires
-    running-requires
+    ready-requires
     new-requires
     loop-holds
     add-act

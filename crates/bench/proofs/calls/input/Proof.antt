@@ -13,8 +13,8 @@ Inv-loop setup payload count out₀ end₀ sum₀ i₀ out end sum i = 64 ≡ le
 abbrev μ-loop : tie.MeasureT-loop
 μ-loop setup payload count out₀ end₀ sum₀ i₀ out end sum i = count - i
 
-running-requires : tie.Need-running-requires Inv-loop μ-loop
-running-requires c κs = search needs
+ready-requires : tie.Need-ready-requires Inv-loop μ-loop
+ready-requires c κs = search needs
 
 loop-holds : tie.Need-loop-holds Inv-loop μ-loop
 loop-holds c = search needs
@@ -58,7 +58,7 @@ input-spec =
     (tie.spec
     Inv-loop
     μ-loop
-    running-requires
+    ready-requires
     loop-holds
     one-frame-requires
     cast-message

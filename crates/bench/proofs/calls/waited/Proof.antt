@@ -16,8 +16,8 @@ abbrev μ-loop : tie.MeasureT-loop
 small-requires : tie.Need-small-requires Inv-loop μ-loop
 small-requires c κs = search needs
 
-running-requires : tie.Need-running-requires Inv-loop μ-loop
-running-requires c κs = search needs
+ready-requires : tie.Need-ready-requires Inv-loop μ-loop
+ready-requires c κs = search needs
 
 loop-holds : tie.Need-loop-holds Inv-loop μ-loop
 loop-holds c = search needs
@@ -62,7 +62,7 @@ waited-spec =
     Inv-loop
     μ-loop
     small-requires
-    running-requires
+    ready-requires
     loop-holds
     cast-t8
     frame-of-requires

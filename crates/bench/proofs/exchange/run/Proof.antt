@@ -16,14 +16,14 @@ abbrev μ-loop : tie.MeasureT-loop
 small-requires : tie.Need-small-requires Inv-loop μ-loop
 small-requires c κs = search needs
 
-running-requires : tie.Need-running-requires Inv-loop μ-loop
-running-requires c κs = search needs
+ready-requires : tie.Need-ready-requires Inv-loop μ-loop
+ready-requires c κs = search needs
 
 other-end-requires : tie.Need-other-end-requires Inv-loop μ-loop
 other-end-requires c κs = search needs
 
-running-requires-2 : tie.Need-running-requires-2 Inv-loop μ-loop
-running-requires-2 c κs = search needs
+ready-requires-2 : tie.Need-ready-requires-2 Inv-loop μ-loop
+ready-requires-2 c κs = search needs
 
 loop-holds : tie.Need-loop-holds Inv-loop μ-loop
 loop-holds c = search needs
@@ -56,9 +56,9 @@ run-spec =
     Inv-loop
     μ-loop
     small-requires
-    running-requires
+    ready-requires
     other-end-requires
-    running-requires-2
+    ready-requires-2
     loop-holds
     slice-aggregate-frame
     slice-aggregate-frame-2

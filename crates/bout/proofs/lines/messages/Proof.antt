@@ -20,9 +20,6 @@ message-end-requires c κs = omega arith
 begin-requires : tie.Need-begin-requires Inv-loop μ-loop
 begin-requires c κs = tt
 
-put-requires : tie.Need-put-requires Inv-loop μ-loop
-put-requires c κs = tt
-
 sub-message : tie.Need-sub-message Inv-loop μ-loop
 sub-message c = omega arith
 
@@ -53,7 +50,6 @@ messages-spec =
     loop-holds
     message-end-requires
     begin-requires
-    put-requires
     sub-message
     part-message-start
     part-message-end
