@@ -1,5 +1,6 @@
 // Checksum reports in falling frame order: none is so old that it could go, so the store fills up, and the report that finds no room is refused.
 // docs/FAILURES.md goes through it.
+use answer::Answer;
 use checksums::Checksums;
 use codec::Message;
 use codec::MessageBody;
@@ -8,82 +9,69 @@ use endpoint::Ended;
 use endpoint::Endpoint;
 use frame::BIAS32;
 use libc::STDOUT_FILENO;
-use std::num::wrapping_add_u32;
-use std::num::wrapping_sub_u32;
 use std::num::wrapping_sub_usize;
+use text::Draft;
 
-// The magics of the endpoint and of the other end, whose number as a peer is the same.
-const OWN: u16 = 66;
-const OTHER: u16 = 65;
+// The ends' magics, and their numbers as peers.
+const A: u16 = 65;
+const B: u16 = 66;
 
 fn main() {
-    let full = show(100, report(falling(), 100));
-    let refused = show(99, report(full, 99));
-    if same(full.checksums(), refused.checksums()) {
-        put(b"All 64 are as they were\n");
+    let full = report(falling(), BIAS32 + 100);
+    show(BIAS32 + 100, full.answer, full.endpoint.checksums());
+    let refused = report(full.endpoint, BIAS32 + 99);
+    show(BIAS32 + 99, refused.answer, refused.endpoint.checksums());
+    if same(full.endpoint.checksums(), refused.endpoint.checksums()) {
+        io::write_all(STDOUT_FILENO, b"All 64 are as they were\n");
     }
-    let later = show(164, report(refused, 164));
-    show(99, report(later, 99));
+    let later = report(refused.endpoint, BIAS32 + 164);
+    show(BIAS32 + 164, later.answer, later.endpoint.checksums());
+    let early = report(later.endpoint, BIAS32 + 99);
+    show(BIAS32 + 99, early.answer, early.endpoint.checksums());
 }
 
-// After the reports of frames 163 down to 101.
+// B after A's reports of frames 163 down to 101.
 fn falling() -> Endpoint {
-    let made = Endpoint::new(running::two_players(OWN, OTHER as u32, 0), 0);
-    let mut end = running::synchronized(made.endpoint, OTHER);
-    let mut frame: u32 = 164;
-    while 101 < frame {
+    let mut b = running::end(B, A, 0, 0);
+    let mut frame = BIAS32 + 164;
+    while BIAS32 + 101 < frame {
         frame -= 1;
-        let ended = report(end, frame);
-        end = ended.endpoint;
+        let ended = report(b, frame);
+        b = ended.endpoint;
     }
-    end
+    b
 }
 
-// The other end reports a frame's checksum, for which the frame's number serves.
-fn report(end: Endpoint, frame: u32) -> Ended {
+// A's report of a frame arrives at B. The frame's number serves as its checksum.
+fn report(b: Endpoint, frame: u32) -> Ended {
+    let checksum = Wide {
+        low: frame as u64,
+        high: 0,
+    };
     let message = Message {
-        magic: OTHER,
-        body: MessageBody::ChecksumReport {
-            checksum: Wide {
-                low: frame as u64,
-                high: 0,
-            },
-            frame: wrapping_add_u32(BIAS32, frame),
-        },
+        magic: A,
+        body: MessageBody::ChecksumReport { checksum, frame },
         reports: codec::no_reports(),
     };
     let mut queue = [0u8; 64];
-    end.message(OTHER as u32, message, b"", 100, 100, 0, &mut queue)
+    b.message(A as u32, message, b"", 100, 100, 0, &mut queue)
 }
 
-// A report's answer, and the checksums then held, which stand in the order of their coming.
-fn show(frame: u32, ended: Ended) -> Endpoint {
-    let answer = ended.answer;
-    let held = ended.endpoint.checksums();
+// What a report was answered, and the checksums then held, which stand in the order of their coming.
+fn show(frame: u32, answer: Answer, held: Checksums) {
     let count = held.count();
-    field(b"Report of frame ", frame as u64);
-    field(b": answer ", answer.number() as u64);
-    field(b", checksums ", count as u64);
-    field(b", first frame ", frame_at(held, 0));
-    field(b", last frame ", frame_at(held, wrapping_sub_usize(count, 1)));
-    put(b"\n");
-    ended.endpoint
+    let first = held.entry(0);
+    let last = held.entry(wrapping_sub_usize(count, 1));
+    let line = Draft::new().put(b"Report of frame ").put_signed(frame, BIAS32);
+    let line = line.put(b": answer ").put_decimal(answer.number() as u64, 0);
+    let line = line.put(b", checksums ").put_decimal(count as u64, 0);
+    let line = line.put(b", first frame ").put_signed(first.frame, BIAS32);
+    let line = line.put(b", last frame ").put_signed(last.frame, BIAS32).put(b"\n");
+    let bytes = line.bytes;
+    io::write_all(STDOUT_FILENO, text::filled(&bytes, line.used));
 }
 
-fn frame_at(held: Checksums, i: usize) -> u64 {
-    wrapping_sub_u32(held.entry(i).frame, BIAS32) as u64
-}
-
-fn field(name: &[u8], number: u64) {
-    put(name);
-    io::print_decimal(STDOUT_FILENO, number);
-}
-
-fn put(text: &[u8]) {
-    io::write_all(STDOUT_FILENO, text);
-}
-
-// Frame by frame, all that fit, with their checksums.
+// All that fit, place by place.
 fn same(before: Checksums, after: Checksums) -> bool {
     let mut i = 0;
     while i < 64 {
