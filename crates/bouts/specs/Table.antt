@@ -12,7 +12,7 @@ use Rattle.codec.specs.Bytes.{bytes}
 use Rattle.codec.specs.Read.{plain, datagram, numberIn}
 use Rattle.codec.specs.declared.MessageBody.{MessageBody}
 use Rattle.codec.specs.declared.MessageBody.the-variants.{SyncRequest, InputAck, QualityReport, QualityReply}
-use Rattle.message_line.specs.Ascii.{ascii}
+use Rattle.text.specs.Ascii.{ascii}
 use Rattle.message_line.specs.Line.{lineOf}
 use Rattle.events.specs.declared.Entry.{Entry}
 use Rattle.events.specs.declared.Event.the-variants as Event
