@@ -14,20 +14,17 @@ use text::Draft;
 
 // The ends' magics, and their numbers as peers.
 const A: u16 = 65;
+
 const B: u16 = 66;
 
 fn main() {
-    let full = report(falling(), BIAS32 + 100);
-    show(BIAS32 + 100, full.answer, full.endpoint.checksums());
-    let refused = report(full.endpoint, BIAS32 + 99);
-    show(BIAS32 + 99, refused.answer, refused.endpoint.checksums());
-    if same(full.endpoint.checksums(), refused.endpoint.checksums()) {
+    let full = show(BIAS32 + 100, report(falling(), BIAS32 + 100));
+    let refused = show(BIAS32 + 99, report(full, BIAS32 + 99));
+    if same(full.checksums(), refused.checksums()) {
         io::write_all(STDOUT_FILENO, b"All 64 are as they were\n");
     }
-    let later = report(refused.endpoint, BIAS32 + 164);
-    show(BIAS32 + 164, later.answer, later.endpoint.checksums());
-    let early = report(later.endpoint, BIAS32 + 99);
-    show(BIAS32 + 99, early.answer, early.endpoint.checksums());
+    let later = show(BIAS32 + 164, report(refused, BIAS32 + 164));
+    show(BIAS32 + 99, report(later, BIAS32 + 99));
 }
 
 // B after A's reports of frames 163 down to 101.
@@ -57,16 +54,28 @@ fn report(b: Endpoint, frame: u32) -> Ended {
     b.message(A as u32, message, b"", 100, 100, 0, &mut queue)
 }
 
-// What a report was answered, and the checksums then held, which stand in the order of their coming.
-fn show(frame: u32, answer: Answer, held: Checksums) {
+// What a report was answered, and the checksums then held.
+fn show(frame: u32, ended: Ended) -> Endpoint {
+    let answer = ended.answer;
+    tell(frame, answer, ended.endpoint.checksums());
+    ended.endpoint
+}
+
+// Checksums stand in the order of their coming.
+fn tell(frame: u32, answer: Answer, held: Checksums) {
     let count = held.count();
     let first = held.entry(0);
     let last = held.entry(wrapping_sub_usize(count, 1));
-    let line = Draft::new().put(b"Report of frame ").put_signed(frame, BIAS32);
-    let line = line.put(b": answer ").put_decimal(answer.number() as u64, 0);
+    let line = Draft::new()
+        .put(b"Report of frame ")
+        .put_signed(frame, BIAS32);
+    let line = line.put(b": answer ")
+        .put_decimal(answer.number() as u64, 0);
     let line = line.put(b", checksums ").put_decimal(count as u64, 0);
     let line = line.put(b", first frame ").put_signed(first.frame, BIAS32);
-    let line = line.put(b", last frame ").put_signed(last.frame, BIAS32).put(b"\n");
+    let line = line.put(b", last frame ")
+        .put_signed(last.frame, BIAS32)
+        .put(b"\n");
     let bytes = line.bytes;
     io::write_all(STDOUT_FILENO, text::filled(&bytes, line.used));
 }

@@ -26,7 +26,9 @@ pub(crate) fn event(draft: Draft, entry: Entry, size: usize) -> Draft
         }
         Event::Disconnected => draft.put(b"Disconnected"),
         Event::NetworkInterrupted { disconnect_timeout } => {
-            draft.put(b"NetworkInterrupted ").put_decimal(disconnect_timeout, 0)
+            draft
+                .put(b"NetworkInterrupted ")
+                .put_decimal(disconnect_timeout, 0)
         }
         Event::NetworkResumed => draft.put(b"NetworkResumed"),
     }
@@ -37,7 +39,9 @@ fn moved(draft: Draft, frame: u32, player: u32, input: [u8; 16], size: usize) ->
     ensures { λ r. ⌜ Adds draft (inputText frame player size input) 75 r ⌝ }
 {
     let next = draft.put(b"Input frame ").put_signed(frame, BIAS32);
-    let next = next.put(b" player ").put_decimal(player as u64, 0).put(b": ");
+    let next = next.put(b" player ")
+        .put_decimal(player as u64, 0)
+        .put(b": ");
     if size < 16 {
         return next.put_hex(&input[..size]);
     }

@@ -6,6 +6,7 @@ use status::Statuses;
 
 // The ends' magics, and their numbers as peers.
 const A: u16 = 65;
+
 const B: u16 = 66;
 
 struct Ends {
@@ -16,20 +17,18 @@ struct Ends {
 fn main() {
     let mut queue = [0u8; 128];
     let mut answers = [0u8; 128];
-    let ends = unanswered(&mut queue, &mut answers);
+    let a = running::end(A, B, 1, 0);
+    let b = running::end(B, A, 0, 0);
+    let a = lose(a, BIAS32, 0x05, &mut queue);
+    let ends = pass(a, b, BIAS32 + 1, 0x07, &mut queue, &mut answers);
+    // B's answer is lost too, so that A sends frames 0 and 1 again with frame 2.
+    let b = take(b"B: loses ", ends.b, &answers);
+    let ends = pass(ends.a, b, BIAS32 + 2, 0x02, &mut queue, &mut answers);
     // This answer arrives: from here on A packs against frame 2.
     let a = answer(ends.a, ends.b, &answers);
     let b = take(b"B: sends ", ends.b, &answers);
     let a = lose(a, BIAS32 + 3, 0x02, &mut queue);
     pass(a, b, BIAS32 + 4, 0x01, &mut queue, &mut answers);
-}
-
-// Frame 0 is lost, and B's answer to frames 0 and 1, so that A sends them again with frame 2.
-fn unanswered(queue: &mut [u8; 128], answers: &mut [u8; 128]) -> Ends {
-    let a = lose(running::end(A, B, 1, 0), BIAS32, 0x05, queue);
-    let ends = pass(a, running::end(B, A, 0, 0), BIAS32 + 1, 0x07, queue, answers);
-    let b = take(b"B: loses ", ends.b, answers);
-    pass(ends.a, b, BIAS32 + 2, 0x02, queue, answers)
 }
 
 // A's player moves, and the packet is lost.
@@ -39,7 +38,14 @@ fn lose(a: Endpoint, frame: u32, input: u8, queue: &mut [u8; 128]) -> Endpoint {
 }
 
 // A's player moves, and the packet arrives at B.
-fn pass(a: Endpoint, b: Endpoint, frame: u32, input: u8, queue: &mut [u8; 128], answers: &mut [u8; 128]) -> Ends {
+fn pass(
+    a: Endpoint,
+    b: Endpoint,
+    frame: u32,
+    input: u8,
+    queue: &mut [u8; 128],
+    answers: &mut [u8; 128],
+) -> Ends {
     let sent = a.send_input(frame, &[input], Statuses::new(2), 100, queue);
     let a = take(b"A: sends ", sent.endpoint, queue);
     let b = arrive(b, sent.endpoint.messages(queue), answers);

@@ -6,22 +6,24 @@ use status::Statuses;
 
 // The ends' magics, and their numbers as peers.
 const A: u16 = 65;
+
 const B: u16 = 66;
 
 fn main() {
     let mut queue = [0u8; 128];
+    let statuses = Statuses::new(2);
+    let a = running::end(A, B, 1, 0);
     let b = running::end(B, A, 0, 0);
     // The packet with frame 0, which the line keeps, arrives twice.
-    let sent = running::end(A, B, 1, 0)
-        .send_input(BIAS32, b"\x05", Statuses::new(2), 100, &mut queue);
+    let sent = a.send_input(BIAS32, b"\x05", statuses, 100, &mut queue);
     let kept = queue;
     let first = sent.endpoint.messages(&kept);
     let b = arrive(b, first, 110);
     let b = arrive(b, first, 120);
     // The packet with frames 0 and 1 arrives, and then the first once more.
     let taken = sent.endpoint.take_messages(&queue);
-    let sent = taken.endpoint
-        .send_input(BIAS32 + 1, b"\x07", Statuses::new(2), 130, &mut queue);
+    let a = taken.endpoint;
+    let sent = a.send_input(BIAS32 + 1, b"\x07", statuses, 130, &mut queue);
     let b = arrive(b, sent.endpoint.messages(&queue), 140);
     arrive(b, first, 150);
 }

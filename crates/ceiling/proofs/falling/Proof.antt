@@ -4,25 +4,22 @@ use Rattle.ceiling.proofs.falling.Statement.{statement}
 use Rattle.ceiling.proofs.falling.Tie as tie
 
 abbrev Inv-loop : tie.InvT-loop
-Inv-loop end₀ frame₀ end frame = Unit {0}
+Inv-loop b₀ frame₀ b frame = Unit {0}
 
 abbrev μ-loop : tie.MeasureT-loop
-μ-loop end₀ frame₀ end frame = frame
+μ-loop b₀ frame₀ b frame = frame
 
-cast-two-players : tie.Need-cast-two-players Inv-loop μ-loop
-cast-two-players c = omega arith
+end-requires : tie.Need-end-requires Inv-loop μ-loop
+end-requires c κs = tt
 
-two-players-requires : tie.Need-two-players-requires Inv-loop μ-loop
-two-players-requires c κs = tt
-
-new-requires : tie.Need-new-requires Inv-loop μ-loop
-new-requires c κs = tt
-
-synchronized-requires : tie.Need-synchronized-requires Inv-loop μ-loop
-synchronized-requires c κs = tt
+add-frame : tie.Need-add-frame Inv-loop μ-loop
+add-frame c = omega arith
 
 loop-holds : tie.Need-loop-holds Inv-loop μ-loop
 loop-holds c = tt
+
+add-loop : tie.Need-add-loop Inv-loop μ-loop
+add-loop c = omega arith
 
 sub-frame : tie.Need-sub-frame Inv-loop μ-loop
 sub-frame c = omega arith
@@ -45,11 +42,10 @@ falling-spec =
     (tie.spec
     Inv-loop
     μ-loop
-    cast-two-players
-    two-players-requires
-    new-requires
-    synchronized-requires
+    end-requires
+    add-frame
     loop-holds
+    add-loop
     sub-frame
     report-requires
     loop-less
