@@ -3,6 +3,7 @@ pub mod Sizes
 pub mod Put
 pub mod Reports
 pub mod Bodies
+pub mod Octets
 pub mod Laid
 pub mod Numbers
 pub mod Fronts
@@ -16,5 +17,6 @@ pub mod Laws
 pub mod Settled
 pub mod Examples
 pub mod Bouts
+pub mod Typed
 pub mod Meant
 pub mod KindNumbers

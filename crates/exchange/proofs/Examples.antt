@@ -1,5 +1,5 @@
 -- Worked: two endpoints, one with a player of two bytes and one with two players of one, and an exchange between them: of seven Inputs two are lost, one comes
--- late and one twice; acks arrive in Inputs and by themselves; events are taken on the way. Four frames arrive at the one end, three at the other.
+-- late and one twice, one comes as bytes; acks arrive in Inputs and by themselves; events are taken on the way. Four frames arrive at the one end, three at the other.
 use mathlib.Core.Bool.{true, false}
 use mathlib.Core.List.{List, [], _∷_, _++_}
 use mathlib.Core.Logic.{inl, inr}
@@ -18,10 +18,14 @@ use Rattle.history.specs.History.{blank, highest, newestOf, foundIn, atLine, ab
 use Rattle.nonces.specs.Nonces.{issued, fits}
 use Rattle.status.specs.Status.{defaultStatus, reported, merged}
 use Rattle.status.specs.Statuses.{mergedAll, fresh as freshStatuses}
-use Rattle.codec.specs.Message.{Wire, FitsBody, FitsReports}
+use Rattle.codec.specs.Message.{Wire, Fits, FitsBody, FitsReports}
+use Rattle.codec.specs.Bytes.{bytes}
 use Rattle.codec.specs.Read.{plain}
 use Rattle.codec.specs.declared.MessageBody.{MessageBody}
 use Rattle.codec.specs.declared.MessageBody.the-variants.{SyncRequest, SyncReply, Input, InputAck}
+use Rattle.codec.proofs.Laws.{read-bytes}
+use Rattle.codec.proofs.Octets.{bytes-bytes}
+use Rattle.codec.proofs.Meant.{input-is}
 use Rattle.events.specs.Events.{hasRoom, inputOf, inputEntry, announced}
 use Rattle.events.specs.declared.Entry.{Entry}
 use Rattle.events.specs.declared.Event.{Event}
@@ -40,6 +44,7 @@ use Rattle.protocol.specs.Sending.{droppedTo, acknowledged, badFrame, pendingQu
 use Rattle.protocol.specs.Receiving.{referenceFrame, taken, receivedIf, receive, announcedEach, discarded, packetOverflows, statusesMerged, informed, gotten, inputTaken, inputUnless, onInput, onInputAck}
 use Rattle.protocol.specs.Call.{Call}
 use Rattle.protocol.specs.Step.{fresh, synchronizeStep, filtered, ignored, resumed, heard, onBody, messageStep, sendStep, step}
+use Rattle.protocol.proofs.Datagrams.{bytes-message}
 use Rattle.protocol.proofs.Bouts.{fr, none, epochAt, hand, starting}
 use Rattle.sound.specs.Each.{Each}
 use Rattle.sound.specs.Typed.{Typed, TypedSetup}
@@ -400,13 +405,30 @@ third =
     (send 2 9 9 ∷ send 3 9 10 ∷ [])
     (send-typed 2 9 9 (omega arith) (omega arith) (omega arith), (send-typed 3 9 10 (omega arith) (omega arith) (omega arith), tt)) (tt, (tt, tt)))
 
+-- bytes that are handed over do what their message does
+as-bytes : (w : Wire) (now : ℕ) (x : End) → Fits w → next (Call.datagram 3 (bytes w) now (epochAt now) 0 65536) x ≡ next (hand w now 0) x
+as-bytes w now x f = rw (bytes-message 3 w now (epochAt now) 0 65536 (x .state) f)
+
+I3-fits : Fits I3
+unfolding Each
+I3-fits =
+    record {
+      magic = omega arith;
+      body = (omega arith, omega arith);
+      frames = none-typed;
+      statuses = omega arith;
+      length = omega arith;
+      bytes = bytes-typed (15 ∷ 1 ∷ 15 ∷ 2 ∷ []) (omega arith, (omega arith, (omega arith, (omega arith, tt))));
+      none = λ e. absurd (let n : _≡_ {A = ℕ} 0 1 = (let z = input-is false (fr 2) (fr 1) in cc) in omega arith);
+    }
+
 fourth : Run a3 b4
 unfolding Each
 fourth =
     atB-all
-    (atB third (hand I3 2004 0)
-    (input-typed 7 2 (fr 1) (15 ∷ 1 ∷ 15 ∷ 2 ∷ []) 2004 (omega arith) (omega arith) (omega arith) (omega arith, (omega arith, (omega arith, (omega arith, tt)))) (omega arith))
-    (λ _. I3-queued))
+    (rw (as-bytes I3 2004 b2 I3-fits) at
+    (atB third (Call.datagram 3 (bytes I3) 2004 (epochAt 2004) 0 65536) (omega arith, bytes-bytes I3 I3-fits, (omega arith, omega arith, omega arith, omega arith))
+    (rw (read-bytes I3 I3-fits) (λ _. λ _. I3-queued))))
     (Call.takeEvents ∷ send 2 1 1 ∷ []) (tt, (send-typed 2 1 1 (omega arith) (omega arith) (omega arith), tt)) (tt, (tt, tt))
 
 pub sample : Run a4 b4

@@ -14,6 +14,7 @@ pub mod Outputs
 pub mod Requests
 pub mod Hearing
 pub mod Acts
+pub mod Typed
 pub mod Sound
 pub mod Runs
 pub mod Examples

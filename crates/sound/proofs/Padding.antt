@@ -1,7 +1,7 @@
 -- Inputs as they are kept: the blank one, and those padded from bytes of a width.
-use mathlib.Core.List.{List, [], _∷_, _++_, map}
+use mathlib.Core.List.{List, [], _∷_, map}
 use mathlib.Core.Path.{_≡_, refl}
-use Prim.Native.Nat.{ℕ, zero, suc, _-_, _≤_, _<_}
+use Prim.Native.Nat.{ℕ, zero, suc, _-_, _≤_}
 use native.Mathlib.Omega.{arith}
 use lib.Bits.{bitXor, xor-lt}
 use lib.ListN.{length, take, drop, replicate}
@@ -10,6 +10,7 @@ use Rattle.base.specs.Little.{Bytes}
 use Rattle.base.proofs.Arrays.{drop-replicate}
 use Rattle.base.proofs.Bytes.{bytes-take}
 use Rattle.frame.specs.Bias.{nullFrame}
+use Rattle.codec.proofs.Octets.{bytes-none, bytes-cons, bytes-append}
 use Rattle.packing.specs.Packing.{xors, pack}
 use Rattle.packing.specs.Pad.{zeros, padded}
 use Rattle.packing.specs.declared.input_bytes.InputBytes.{InputBytes}
@@ -21,18 +22,6 @@ use Rattle.sound.specs.Each.{Each}
 use Rattle.sound.specs.Sound.{Kept}
 
 -- ---- bytes
-
-bytes-none : Bytes []
-bytes-none zero = omega arith
-bytes-none (suc i) = omega arith
-
-bytes-cons : (x : ℕ) (l : List ℕ) → x < 256 → Bytes l → Bytes (x ∷ l)
-bytes-cons x l h k zero = h
-bytes-cons x l h k (suc i) = k i
-
-bytes-append : (l m : List ℕ) → Bytes l → Bytes m → Bytes (l ++ m)
-bytes-append [] m h k = k
-bytes-append (x ∷ l) m h k = bytes-cons x (l ++ m) (h 0) (bytes-append l m (λ i. h (suc i)) k)
 
 bytes-zeros : (n : ℕ) → Bytes (replicate n 0)
 bytes-zeros zero = bytes-none
