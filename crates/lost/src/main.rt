@@ -9,71 +9,58 @@ const A: u16 = 65;
 
 const B: u16 = 66;
 
-struct Ends {
-    a: Endpoint,
-    b: Endpoint,
-}
-
 fn main() {
     let mut queue = [0u8; 128];
     let mut answers = [0u8; 128];
     let a = running::end(A, B, 1, 0);
     let b = running::end(B, A, 0, 0);
-    let a = lose(a, BIAS32, 0x05, &mut queue);
-    let ends = pass(a, b, BIAS32 + 1, 0x07, &mut queue, &mut answers);
+    let a = send(b"A: loses ", a, BIAS32, 0x05, &mut queue);
+    let a = send(b"A: sends ", a, BIAS32 + 1, 0x07, &mut queue);
     // B's answer is lost too, so that A sends frames 0 and 1 again with frame 2.
-    let b = take(b"B: loses ", ends.b, &answers);
-    let ends = pass(ends.a, b, BIAS32 + 2, 0x02, &mut queue, &mut answers);
+    let b = arrive(b"B: loses ", b, a, &queue, &mut answers);
+    let a = send(b"A: sends ", a, BIAS32 + 2, 0x02, &mut queue);
+    let b = arrive(b"B: sends ", b, a, &queue, &mut answers);
     // This answer arrives: from here on A packs against frame 2.
-    let a = answer(ends.a, ends.b, &answers);
-    let b = take(b"B: sends ", ends.b, &answers);
-    let a = lose(a, BIAS32 + 3, 0x02, &mut queue);
-    pass(a, b, BIAS32 + 4, 0x01, &mut queue, &mut answers);
+    let a = answer(a, b, &answers, &mut queue);
+    let a = send(b"A: loses ", a, BIAS32 + 3, 0x02, &mut queue);
+    let a = send(b"A: sends ", a, BIAS32 + 4, 0x01, &mut queue);
+    arrive(b"B: sends ", b, a, &queue, &mut answers);
 }
 
-// A's player moves, and the packet is lost.
-fn lose(a: Endpoint, frame: u32, input: u8, queue: &mut [u8; 128]) -> Endpoint {
-    let sent = a.send_input(frame, &[input], Statuses::new(2), 100, queue);
-    take(b"A: loses ", sent.endpoint, queue)
+// A's player moves. What A had queued before is gone by then; the packet is shown after the words for what becomes of it.
+fn send(words: &[u8; 9], a: Endpoint, frame: u32, input: u8, queue: &mut [u8; 128]) -> Endpoint {
+    let taken = a.take_messages(queue);
+    let sent = taken
+        .endpoint
+        .send_input(frame, &[input], Statuses::new(2), 100, queue);
+    let mut page = [0u8; 256];
+    let end = message_line::line_after(&mut page, 0, words, sent.endpoint.messages(queue));
+    io::write_all(STDOUT_FILENO, text::filled(&page, end));
+    sent.endpoint
 }
 
-// A's player moves, and the packet arrives at B.
-fn pass(
-    a: Endpoint,
+// What A has queued arrives at B, which announces it and answers.
+fn arrive(
+    words: &[u8; 9],
     b: Endpoint,
-    frame: u32,
-    input: u8,
-    queue: &mut [u8; 128],
+    a: Endpoint,
+    queue: &[u8; 128],
     answers: &mut [u8; 128],
-) -> Ends {
-    let sent = a.send_input(frame, &[input], Statuses::new(2), 100, queue);
-    let a = take(b"A: sends ", sent.endpoint, queue);
-    let b = arrive(b, sent.endpoint.messages(queue), answers);
-    Ends { a, b }
-}
-
-// B announces what the datagram has.
-fn arrive(b: Endpoint, datagram: &[u8], answers: &mut [u8; 128]) -> Endpoint {
-    let heard = b.datagram(A as u32, datagram, 120, 120, 0, answers);
+) -> Endpoint {
+    let taken = b.take_messages(answers);
+    let heard = taken
+        .endpoint
+        .datagram(A as u32, a.messages(queue), 120, 120, 0, answers);
     let told = heard.endpoint.take_events();
     let mut page = [0u8; 256];
-    let at = event_line::lines(&mut page, 0, b'B', told.events, 1);
-    io::write_all(STDOUT_FILENO, text::filled(&page, at));
+    let end = event_line::lines(&mut page, 0, b'B', told.events, 1);
+    let end = message_line::line_after(&mut page, end, words, told.endpoint.messages(answers));
+    io::write_all(STDOUT_FILENO, text::filled(&page, end));
     told.endpoint
 }
 
 // B's answer arrives at A.
-fn answer(a: Endpoint, b: Endpoint, answers: &[u8; 128]) -> Endpoint {
-    let mut queue = [0u8; 16];
-    let heard = a.datagram(B as u32, b.messages(answers), 140, 140, 0, &mut queue);
+fn answer(a: Endpoint, b: Endpoint, answers: &[u8; 128], queue: &mut [u8; 128]) -> Endpoint {
+    let heard = a.datagram(B as u32, b.messages(answers), 140, 140, 0, queue);
     heard.endpoint
-}
-
-// What an end has queued is shown, and the queue emptied.
-fn take(words: &[u8], end: Endpoint, queue: &[u8; 128]) -> Endpoint {
-    let mut page = [0u8; 256];
-    let at = message_line::line_after(&mut page, 0, words, end.messages(queue));
-    io::write_all(STDOUT_FILENO, text::filled(&page, at));
-    let ended = end.take_messages(queue);
-    ended.endpoint
 }
