@@ -1,0 +1,9 @@
+pub mod Hosts
+pub mod Tells
+pub mod EventLaws
+pub mod HandleLaws
+pub mod RequestLaws
+pub mod Makes
+pub mod Advances
+pub mod Polls
+pub mod Settled

@@ -1,0 +1,87 @@
+-- What a frame gives, frame by frame: that the code's reading of slots, inputs and statuses is the session's.
+use borrow.Author.Tests.{lt-ltb, le-ltb, eq-eqb, ne-eqb}
+use mathlib.Core.Bool.{Bool, true, false, _&&_}
+use mathlib.Core.List.{List, [], _∷_, _++_, map}
+use mathlib.Core.Path.{_≡_, refl, ap, sym, _∙_}
+use Prim.Native.Nat.{ℕ, zero, suc, _+_, _-_, _≤_, _<_, min}
+use native.Mathlib.Nat.{add-suc, suc-add, add-zero}
+use native.Mathlib.Numerals.{add-one}
+use native.Mathlib.Omega.{arith}
+use lib.Dec.{ltb, eqb}
+use lib.ListN.{length, take, set}
+use lib.Seq.{take-suc-set}
+use Rattle.base.specs.Pick.{pick}
+use Rattle.status.specs.declared.ConnectionStatus.{ConnectionStatus}
+use Rattle.watching.specs.declared.InputStatus.the-variants.{Confirmed, Disconnected}
+use Rattle.watching.specs.declared.PlayerInput.{PlayerInput}
+use Rattle.watching.specs.declared.SyncedInput.{SyncedInput}
+use Rattle.watching.specs.Watch.{Watch, playersOf}
+use Rattle.watching.specs.Advance.{framesToAdvance, framesRefusal, syncedAt, requestAt, requestsFrom}
+use Rattle.spectator.specs.declared.requests.Request.{Request}
+use Rattle.spectator.specs.Stores.{requestOf}
+use Rattle.spectator.specs.Requesting.{syncedOf, requestIn, requestsIn, refusalIn, refusalsIn, framesFor}
+
+-- ---- one player
+
+and-false : (b : Bool) → b && false ≡ false
+and-false true = refl
+and-false false = refl
+
+module _ (frame : ℕ) (x : PlayerInput) (s : ConnectionStatus) where
+  pub synced-gone : s .disconnected ≡ true → s .«last_frame» < frame → record { input = x .input; status = Disconnected } ≡ syncedOf frame x s
+  synced-gone d h = rw (d, lt-ltb (s .«last_frame») frame h)
+
+  pub synced-connected : s .disconnected ≡ false → record { input = x .input; status = Confirmed } ≡ syncedOf frame x s
+  synced-connected d = rw d
+
+  pub synced-later : frame ≤ s .«last_frame» → record { input = x .input; status = Confirmed } ≡ syncedOf frame x s
+  synced-later h = rw (le-ltb (s .«last_frame») frame h, and-false)
+
+-- ---- refusals, one after the other
+
+module _ (slots : ℕ) (l : List PlayerInput) where
+  pub refusals-next : (m frame : ℕ) → refusalIn slots frame l ≡ 0 → refusalsIn slots (suc m) frame l ≡ refusalsIn slots m (suc frame) l
+  unfolding refusalsIn
+  refusals-next m frame h = rw (eq-eqb (refusalIn slots frame l) 0 h)
+
+  pub refusals-here : (m frame : ℕ) → (refusalIn slots frame l ≡ 0 → ⊥) → refusalsIn slots (suc m) frame l ≡ refusalIn slots frame l
+  unfolding refusalsIn
+  refusals-here m frame h = rw (ne-eqb (refusalIn slots frame l) 0 h)
+
+  pub refusals-none : (frame : ℕ) → refusalsIn slots 0 frame l ≡ 0
+  unfolding refusalsIn
+  refusals-none frame = refl
+
+-- ---- requests, one more at the end
+
+module _ (slots players : ℕ) (l : List PlayerInput) (s : List ConnectionStatus) where
+  requests-more : (n frame : ℕ) → requestsIn slots (suc n) frame players l s ≡ requestsIn slots n frame players l s ++ requestIn slots (frame + n) players l s ∷ []
+  unfolding requestsIn
+  requests-more zero frame = rw add-zero
+  requests-more (suc n) frame = ap (λ (r : List (List SyncedInput)). requestIn slots frame players l s ∷ r) (requests-more n (suc frame) ∙ rw (suc-add, add-suc))
+
+map-append : {X Y : Type 0} (f : X → Y) (a b : List X) → map f (a ++ b) ≡ map f a ++ map f b
+map-append f [] b = refl
+map-append {X} {Y} f (x ∷ a) b = ap (λ (r : List Y). f x ∷ r) (map-append f a b)
+
+module _ (slots players frame k : ℕ) (l : List PlayerInput) (s : List ConnectionStatus) (frames : List Request) (x : Request) where
+  pub request-turn : k < length frames → map requestOf (take k frames) ≡ requestsIn slots k frame players l s → requestOf x ≡ requestIn slots (frame + k) players l s
+      → map requestOf (take (k + 1) (set frames k x)) ≡ requestsIn slots (k + 1) frame players l s
+  request-turn h e q = rw (add-one, take-suc-set, map-append requestOf (take k frames) (x ∷ []), e, q, requests-more slots players l s k frame)
+
+-- ---- the session's own
+
+module _ (w : Watch) where
+  pub refusals-are : (n frame : ℕ) → refusalsIn (w .limits .slots) n frame (w .inputs) ≡ framesRefusal n frame w
+  unfolding refusalsIn refusalIn framesRefusal
+  refusals-are zero frame = refl
+  refusals-are (suc n) frame = rw (refusals-are n (suc frame))
+
+  pub requests-are : (n frame : ℕ) → requestsIn (w .limits .slots) n frame (playersOf w) (w .inputs) (w .statuses) ≡ requestsFrom n frame w
+  unfolding requestsIn requestIn requestsFrom requestAt syncedAt
+  requests-are zero frame = refl
+  requests-are (suc n) frame = ap (λ (r : List (List SyncedInput)). requestAt frame w ∷ r) (requests-are n (suc frame))
+
+  pub frames-are : framesFor (w .limits) (w .newest - w .current) ≡ framesToAdvance w
+  unfolding framesFor framesToAdvance
+  frames-are = refl

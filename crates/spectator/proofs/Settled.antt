@@ -1,0 +1,89 @@
+-- Two answers that a call's contract allows are equal, as are the states and the lent buffers after them, for each public function.
+use mathlib.Core.List.{List}
+use mathlib.Core.Path.{_≡_, sym, _∙_}
+use Prim.Native.Nat.{ℕ}
+use lib.ListN.{length, take}
+use Rattle.base.proofs.Settled.{settled}
+use Rattle.answer.specs.Number.{number-tells}
+use Rattle.codec.specs.Message.{Wire}
+use Rattle.endpoint.specs.Taken.{handedBack}
+use Rattle.endpoint.specs.declared.getters.StatsResult.{StatsResult}
+use Rattle.watching.specs.declared.SessionSetup.{SessionSetup}
+use Rattle.watching.specs.declared.SessionState.{SessionState}
+use Rattle.watching.specs.Call.{Call}
+use Rattle.watching.specs.Step.{Did, step}
+use Rattle.watching.specs.Value.{Value, valueOf}
+use Rattle.spectator.specs.declared.SpectatorSession.{SpectatorSession}
+use Rattle.spectator.specs.declared.Ended.{Ended}
+use Rattle.spectator.specs.declared.advancing.Advanced.{Advanced}
+use Rattle.spectator.specs.declared.getters.FramesBehind.{FramesBehind}
+use Rattle.spectator.specs.declared.getters.TakenEvents.{TakenEvents}
+use Rattle.spectator.specs.declared.polling.Polled.{Polled}
+use Rattle.spectator.specs.declared.telling.SessionEvents.{SessionEvents}
+use Rattle.spectator.specs.Stores.{toldOf, framesOf}
+use Rattle.spectator.specs.Session.{seen, DidAs, DoneAs}
+use Rattle.spectator.specs.Answers.{told, shownStats, shownBehind, polledPart, MadeAs, TakenAs, PolledAs, AdvancedAs}
+
+pub new-settled : (g : SessionSetup) (now : ℕ) (r s : Ended) → MadeAs g now r → MadeAs g now s → (r .answer ≡ s .answer) × (seen (r .session) ≡ seen (s .session))
+new-settled g now r s a b = (number-tells (r .answer) (s .answer) (a .answer ∙ sym (b .answer)), a .made ∙ sym (b .made))
+
+pub count-settled : (e : SessionEvents) (m n : ℕ) → m ≡ length (toldOf e) → n ≡ length (toldOf e) → m ≡ n
+count-settled e m n = settled (λ x. x) (length (toldOf e)) m n
+
+module _ (e : SpectatorSession) where
+  module _ (d : Did) where
+    done-settled : (r s : Ended) → DoneAs e d r → DoneAs e d s → (r .answer ≡ s .answer) × (seen (r .session) ≡ seen (s .session))
+    done-settled r s a b = (number-tells (r .answer) (s .answer) (a .answer ∙ sym (b .answer)), a .after ∙ sym (b .after))
+
+    did-settled : (buffer : List ℕ) (r s : Ended) (b c : List ℕ) → DidAs e d buffer r b → DidAs e d buffer s c → (r .answer ≡ s .answer) × (seen (r .session) ≡ seen (s .session)) × (b ≡ c)
+    did-settled buffer r s b c x y = (number-tells (r .answer) (s .answer) (x .answer ∙ sym (y .answer)), x .after ∙ sym (y .after), x .lent ∙ sym (y .lent))
+
+  module _ (now epoch nonce : ℕ) (buffer : List ℕ) (r s : Ended) (b c : List ℕ) where
+    abbrev Same : Type 0
+    Same = (r .answer ≡ s .answer) × (seen (r .session) ≡ seen (s .session)) × (b ≡ c)
+
+    abbrev Both : Call → Type 0
+    Both x = DidAs e (step x (seen e)) buffer r b → DidAs e (step x (seen e)) buffer s c → Same
+
+    pub synchronize-settled : Both (Call.synchronize now epoch nonce (length buffer))
+    synchronize-settled = did-settled (step (Call.synchronize now epoch nonce (length buffer)) (seen e)) buffer r s b c
+
+    pub message-settled : (from count : ℕ) (w : Wire) → Both (Call.message from count w now epoch nonce (length buffer))
+    message-settled from count w = did-settled (step (Call.message from count w now epoch nonce (length buffer)) (seen e)) buffer r s b c
+
+    pub datagram-settled : (from : ℕ) (bytes : List ℕ) → Both (Call.datagram from bytes now epoch nonce (length buffer))
+    datagram-settled from bytes = did-settled (step (Call.datagram from bytes now epoch nonce (length buffer)) (seen e)) buffer r s b c
+
+  pub poll-remote-clients-settled : (d : Did) (part : ℕ) (buffer : List ℕ) (r s : Polled) (b c : List ℕ) → PolledAs e d part buffer r b → PolledAs e d part buffer s c
+      → (r .answer ≡ s .answer) × (seen (r .session) ≡ seen (s .session)) × (r .filled ≡ s .filled) × (b ≡ c)
+  poll-remote-clients-settled d part buffer r s b c x y =
+      (number-tells (r .answer) (s .answer) (x .answer ∙ sym (y .answer)), x .after ∙ sym (y .after), x .filled ∙ sym (y .filled), x .lent ∙ sym (y .lent))
+
+  pub advance-frame-settled : (r s : Advanced) → AdvancedAs e r → AdvancedAs e s
+      → (r .answer ≡ s .answer) × (seen (r .session) ≡ seen (s .session)) × (framesOf (r .requests) ≡ framesOf (s .requests))
+  advance-frame-settled r s x y = (number-tells (r .answer) (s .answer) (x .answer ∙ sym (y .answer)), x .after ∙ sym (y .after), x .requests ∙ sym (y .requests))
+
+  pub take-messages-settled : (buffer : ℕ) (r s : Ended) → DoneAs e (step (Call.takeMessages buffer) (seen e)) r → DoneAs e (step (Call.takeMessages buffer) (seen e)) s
+      → (r .answer ≡ s .answer) × (seen (r .session) ≡ seen (s .session))
+  take-messages-settled buffer = done-settled (step (Call.takeMessages buffer) (seen e))
+
+  pub messages-settled : (buffer a b : List ℕ) → a ≡ take (handedBack (length buffer) (seen e .host)) buffer → b ≡ take (handedBack (length buffer) (seen e .host)) buffer → a ≡ b
+  messages-settled buffer a b = settled (λ x. x) (take (handedBack (length buffer) (seen e .host)) buffer) a b
+
+  pub events-settled : (r s : TakenEvents) → TakenAs e r → TakenAs e s → (Value.events (toldOf (r .events)) ≡ Value.events (toldOf (s .events))) × (seen (r .session) ≡ seen (s .session))
+  events-settled r s x y = (x .events ∙ sym (y .events), x .after ∙ sym (y .after))
+
+  pub network-stats-settled : (epoch : ℕ) (r s : StatsResult) → shownStats r ≡ told (Call.networkStats epoch) (seen e) → shownStats s ≡ told (Call.networkStats epoch) (seen e) → shownStats r ≡ shownStats s
+  network-stats-settled epoch r s = settled shownStats (told (Call.networkStats epoch) (seen e)) r s
+
+  pub frames-behind-host-settled : (r s : FramesBehind) → shownBehind r ≡ told Call.framesBehindHost (seen e) → shownBehind s ≡ told Call.framesBehindHost (seen e) → shownBehind r ≡ shownBehind s
+  frames-behind-host-settled r s = settled shownBehind (told Call.framesBehindHost (seen e)) r s
+
+  pub current-state-settled : (r s : SessionState) → Value.state r ≡ valueOf Call.currentState (seen e) → Value.state s ≡ valueOf Call.currentState (seen e) → r ≡ s
+  current-state-settled r s x y = let z : Value.state r ≡ Value.state s = x ∙ sym y in cc
+
+  pub current-frame-settled : (r s : ℕ) → Value.frame r ≡ valueOf Call.currentFrame (seen e) → Value.frame s ≡ valueOf Call.currentFrame (seen e) → r ≡ s
+  current-frame-settled r s x y = let z : Value.frame r ≡ Value.frame s = x ∙ sym y in cc
+
+  pub num-players-settled : (r s : ℕ) → Value.count r ≡ valueOf Call.numPlayers (seen e) → Value.count s ≡ valueOf Call.numPlayers (seen e) → r ≡ s
+  num-players-settled r s x y = let z : Value.count r ≡ Value.count s = x ∙ sym y in cc

@@ -1,0 +1,20 @@
+use borrow.Author.Needs.{needs}
+use mathlib.Core.Path.{_≡_, sym, _∙_}
+use Rattle.spectator.proofs.Tells.{behind-overflow, behind-told}
+use Rattle.spectator.proofs.SpectatorSession.frames_behind_host.Statement.{statement}
+use Rattle.spectator.proofs.SpectatorSession.frames_behind_host.Tie as tie
+
+behind-overflows-requires : tie.Need-behind-overflows-requires
+behind-overflows-requires c κs = search needs
+
+returns : tie.Need-returns
+returns c = behind-overflow (c .before .before .args .self) (sym (c .before .behind-overflows .ensures) ∙ c .if1 .taken)
+
+behind-requires : tie.Need-behind-requires
+behind-requires c κs = search needs
+
+returns-2 : tie.Need-returns-2
+returns-2 c = behind-told (c .before .before .before .args .self) (c .behind .result) (sym (c .before .before .behind-overflows .ensures) ∙ c .before .if1 .left) (c .behind .ensures)
+
+pub frames-behind-host-spec : {M : Type 1} → statement M
+frames-behind-host-spec = tie.close (tie.spec behind-overflows-requires returns behind-requires returns-2)

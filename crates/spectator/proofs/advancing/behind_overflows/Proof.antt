@@ -1,0 +1,20 @@
+use borrow.Author.Needs.{needs}
+use borrow.Author.Tests.{lt-ltb, le-ltb}
+use mathlib.Core.Path.{_≡_}
+use Rattle.spectator.proofs.advancing.behind_overflows.Statement.{statement}
+use Rattle.spectator.proofs.advancing.behind_overflows.Tie as tie
+
+add-raised : tie.Need-add-raised
+add-raised c = search needs
+
+sub-result : tie.Need-sub-result
+sub-result c = search needs
+
+returns : tie.Need-returns
+returns c = rw (lt-ltb _ _ (c .if1 .taken))
+
+returns-2 : tie.Need-returns-2
+returns-2 c = rw (le-ltb _ _ (c .if1 .left))
+
+pub behind-overflows-spec : {M : Type 1} → statement M
+behind-overflows-spec = tie.close (tie.spec add-raised sub-result returns returns-2)

@@ -1,0 +1,73 @@
+-- The invariant: the first k frames are there.
+use borrow.Author.Needs.{needs}
+use mathlib.Core.List.{map}
+use mathlib.Core.Path.{_≡_, refl, sym, _∙_}
+use Prim.Native.Nat.{_+_, _-_, _^_, _≤_}
+use native.Mathlib.Omega.{arith}
+use lib.ListN.{length, take, length-set}
+use Rattle.base.proofs.Arrays.{unmap}
+use Rattle.status.specs.Statuses.{held}
+use Rattle.spectator.specs.Stores.{inputsOf, requestOf, framesOf}
+use Rattle.spectator.specs.Requesting.{requestsIn}
+use Rattle.spectator.proofs.RequestLaws.{request-turn}
+use Rattle.spectator.proofs.inputs.Inputs.requests_from.Statement.{statement}
+use Rattle.spectator.proofs.inputs.Inputs.requests_from.Tie as tie
+
+abbrev Inv-loop : tie.InvT-loop
+Inv-loop self statuses slots players frame n requests₀ k₀ requests k =
+    (k ≤ n) × (n ≤ 63) × (frame + n ≤ 2 ^ 32) × (length (requests .frames) ≡ 63)
+    × (map requestOf (take k (requests .frames)) ≡ requestsIn slots k frame players (inputsOf self) (held statuses))
+
+abbrev μ-loop : tie.MeasureT-loop
+μ-loop self statuses slots players frame n requests₀ k₀ requests k = n - k
+
+none-requires : tie.Need-none-requires Inv-loop μ-loop
+none-requires c κs = search needs
+
+loop-holds : tie.Need-loop-holds Inv-loop μ-loop
+unfolding requestsIn
+loop-holds c = (omega arith, c .before .pre .1, c .before .pre .0, search (unmap, needs), refl)
+
+add-request-at : tie.Need-add-request-at Inv-loop μ-loop
+add-request-at c = omega arith
+
+request-at-requires : tie.Need-request-at-requires Inv-loop μ-loop
+request-at-requires c κs = search needs
+
+cast-request : tie.Need-cast-request Inv-loop μ-loop
+cast-request c = omega arith
+
+mul-request : tie.Need-mul-request Inv-loop μ-loop
+mul-request c = omega arith
+
+element-set-from-request : tie.Need-element-set-from-request Inv-loop μ-loop
+element-set-from-request c = omega arith
+
+add-k : tie.Need-add-k Inv-loop μ-loop
+add-k c = omega arith
+
+loop-less : tie.Need-loop-less Inv-loop μ-loop
+loop-less c = omega arith
+
+loop-again : tie.Need-loop-again Inv-loop μ-loop
+loop-again c =
+    let a = c .before .before .before .before .args in
+    let l = c .before .before .loop in (
+      omega arith,
+      l .inv .1,
+      l .inv .2,
+      rw length-set (l .inv .3),
+      request-turn (a .slots) (a .players) (a .frame) (l .k) (inputsOf (a .self)) (held (a .statuses)) (l .requests .frames) (c .request-at .result) (omega arith) (l .inv .4) (c .request-at .ensures),
+    )
+
+returns : tie.Need-returns Inv-loop μ-loop
+unfolding framesOf
+returns c =
+    let a = c .before .before .before .args in
+    let l = c .before .loop in
+    let m : l .k ≡ a .n = omega arith in
+    rw m at (l .inv .4)
+
+pub requests-from-spec : {M : Type 1} → statement M
+requests-from-spec =
+    tie.close (tie.spec Inv-loop μ-loop none-requires loop-holds add-request-at request-at-requires cast-request mul-request element-set-from-request add-k loop-less loop-again returns)

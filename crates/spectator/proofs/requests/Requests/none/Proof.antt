@@ -1,0 +1,11 @@
+use mathlib.Core.Path.{refl}
+use Rattle.spectator.specs.Stores.{framesOf}
+use Rattle.spectator.proofs.requests.Requests.none.Statement.{statement}
+use Rattle.spectator.proofs.requests.Requests.none.Tie as tie
+
+returns : tie.Need-returns
+unfolding framesOf
+returns c = refl
+
+pub none-spec : {M : Type 1} → statement M
+none-spec = tie.close (tie.spec returns)

@@ -1,0 +1,12 @@
+-- A new store's count is 0, so its view is empty.
+use mathlib.Core.Path.{refl}
+use Rattle.spectator.specs.Stores.{toldOf}
+use Rattle.spectator.proofs.telling.SessionEvents.new.Statement.{statement}
+use Rattle.spectator.proofs.telling.SessionEvents.new.Tie as tie
+
+returns : tie.Need-returns
+unfolding toldOf
+returns c = refl
+
+pub new-spec : {M : Type 1} → statement M
+new-spec = tie.close (tie.spec returns)

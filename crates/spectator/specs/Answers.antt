@@ -1,0 +1,78 @@
+-- What the session's own calls answer.
+use mathlib.Core.List.{List, [], _++_}
+use mathlib.Core.Path.{_≡_}
+use Prim.Native.Nat.{ℕ}
+use lib.Dec.{eqb}
+use Rattle.base.specs.Pick.{pick}
+use Rattle.base.specs.Lay.{laidAt}
+use Rattle.answer.specs.Number.{numberOf}
+use Rattle.codec.specs.Bytes.{queueOf}
+use Rattle.protocol.specs.Value.{filledPart}
+use Rattle.endpoint.specs.declared.getters.StatsResult.{StatsResult}
+use Rattle.endpoint.specs.declared.getters.StatsResult.the-variants.{Stats, Refused}
+use Rattle.watching.specs.declared.SessionSetup.{SessionSetup}
+use Rattle.events.specs.declared.Entry.{Entry}
+use Rattle.protocol.specs.Seen.{Seen, withEvents}
+use Rattle.protocol.specs.Step.{takeStep}
+use Rattle.watching.specs.Watch.{Watch, withHost}
+use Rattle.watching.specs.Handling.{handledAll}
+use Rattle.watching.specs.Advance.{requestsOf}
+use Rattle.watching.specs.Call.{Call}
+use Rattle.watching.specs.Step.{Did, fresh, hostActs, step}
+use Rattle.watching.specs.Value.{Value, valueOf}
+use Rattle.spectator.specs.declared.SpectatorSession.{SpectatorSession}
+use Rattle.spectator.specs.declared.Ended.{Ended}
+use Rattle.spectator.specs.declared.advancing.Advanced.{Advanced}
+use Rattle.spectator.specs.declared.getters.FramesBehind.{FramesBehind}
+use Rattle.spectator.specs.declared.getters.FramesBehind.the-variants.{Frames, Overflow}
+use Rattle.spectator.specs.declared.getters.TakenEvents.{TakenEvents}
+use Rattle.spectator.specs.declared.polling.Polled.{Polled}
+use Rattle.spectator.specs.Stores.{toldOf, framesOf}
+use Rattle.spectator.specs.Session.{seen}
+
+-- new: its number, and the session in any case
+pub record MadeAs (g : SessionSetup) (now : ℕ) (r : Ended) : Type 0 where
+  pub answer : numberOf (r .answer) ≡ fresh g now .0
+  pub made : seen (r .session) ≡ fresh g now .1
+
+-- a call that changes nothing: its number, and its value where that is 0
+unfoldable pub told : Call → Watch → ℕ × Value
+told c w = (step c w .answer, pick (eqb (step c w .answer) 0) (valueOf c w) Value.nothing)
+
+abbrev pub shownStats : StatsResult → ℕ × Value
+shownStats (Stats stats) = (0, Value.stats stats)
+shownStats (Refused answer) = (numberOf answer, Value.nothing)
+
+abbrev pub shownBehind : FramesBehind → ℕ × Value
+shownBehind (Frames n) = (0, Value.count n)
+shownBehind Overflow = (6, Value.nothing)
+
+pub record TakenAs (s : SpectatorSession) (r : TakenEvents) : Type 0 where
+  pub events : Value.events (toldOf (r .events)) ≡ valueOf Call.events (seen s)
+  pub after : seen (r .session) ≡ step Call.events (seen s) .after
+
+-- how many bytes a poll hands back: the filled part of the buffer, none where it is refused
+unfoldable pub polledPart : (now epoch nonce buffer : ℕ) → Watch → ℕ
+polledPart now epoch nonce buffer w =
+    pick (eqb (step (Call.pollRemoteClients now epoch nonce buffer) w .answer) 0) (filledPart (hostActs now epoch nonce buffer w .after)) 0
+
+pub record PolledAs (s : SpectatorSession) (d : Did) (part : ℕ) (buffer : List ℕ) (r : Polled) (buffer′ : List ℕ) : Type 0 where
+  pub answer : numberOf (r .answer) ≡ d .answer
+  pub after : seen (r .session) ≡ d .after
+  pub lent : buffer′ ≡ laidAt buffer (s .host .queued) (queueOf (d .out))
+  pub filled : r .filled ≡ part
+  pub same : (d .answer ≡ 0 → ⊥) → r .session ≡ s
+
+-- what is left of a poll once the host has acted: its messages are taken from a buffer, and all its events handled
+pub record TakenInAs (s : SpectatorSession) (old : List Entry) (acted : Seen) (buffer : ℕ) (r : Polled) : Type 0 where
+  pub answer : numberOf (r .answer) ≡ takeStep buffer acted .answer
+  pub done : takeStep buffer acted .answer ≡ 0 → seen (r .session) ≡ handledAll (old ++ acted .events) (withHost (withEvents [] (takeStep buffer acted .after)) (seen s))
+  pub filled : r .filled ≡ pick (eqb (takeStep buffer acted .answer) 0) (filledPart acted) 0
+  pub same : (takeStep buffer acted .answer ≡ 0 → ⊥) → r .session ≡ s
+
+-- the frames advanced, none where it is refused
+pub record AdvancedAs (s : SpectatorSession) (r : Advanced) : Type 0 where
+  pub answer : numberOf (r .answer) ≡ step Call.advanceFrame (seen s) .answer
+  pub after : seen (r .session) ≡ step Call.advanceFrame (seen s) .after
+  pub requests : framesOf (r .requests) ≡ pick (eqb (step Call.advanceFrame (seen s) .answer) 0) (requestsOf (seen s)) []
+  pub same : (step Call.advanceFrame (seen s) .answer ≡ 0 → ⊥) → r .session ≡ s

@@ -1,0 +1,5 @@
+pub mod Stores
+pub mod Session
+pub mod Requesting
+pub mod Parts
+pub mod Answers

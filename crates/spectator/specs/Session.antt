@@ -1,0 +1,57 @@
+-- What is seen of a session, and what its calls answer: one equation over `step` for each.
+use mathlib.Core.List.{List, []}
+use mathlib.Core.Path.{_≡_}
+use Prim.Native.Nat.{ℕ}
+use Rattle.base.specs.Lay.{laidAt}
+use Rattle.answer.specs.Number.{numberOf}
+use Rattle.codec.specs.Bytes.{queueOf}
+use Rattle.status.specs.Statuses.{held as heldStatuses}
+use Rattle.endpoint.specs.Endpoint.{seen as seenHost}
+use Rattle.endpoint.specs.declared.Endpoint.{Endpoint}
+use Rattle.watching.specs.Watch.{Watch}
+use Rattle.watching.specs.Step.{Did}
+use Rattle.spectator.specs.declared.SpectatorSession.{SpectatorSession}
+use Rattle.spectator.specs.declared.Ended.{Ended}
+use Rattle.spectator.specs.Stores.{inputsOf, toldOf}
+
+-- what is seen of its host, the lists that its stores hold, and its plain fields
+unfoldable pub seen : SpectatorSession → Watch
+seen s =
+    record {
+      host = seenHost (s .host);
+      limits = s .limits;
+      state = s .state;
+      inputs = inputsOf (s .inputs);
+      statuses = heldStatuses (s .statuses);
+      events = toldOf (s .events);
+      current = s .«current_frame»;
+      newest = s .«last_recv_frame»;
+    }
+
+-- the same session with another host
+abbrev pub hosted : SpectatorSession → Endpoint → SpectatorSession
+hosted s e =
+    record {
+      host = e;
+      limits = s .limits;
+      state = s .state;
+      inputs = s .inputs;
+      statuses = s .statuses;
+      events = s .events;
+      «current_frame» = s .«current_frame»;
+      «last_recv_frame» = s .«last_recv_frame»;
+    }
+
+-- a call that may queue messages: its number, the state after it, and the lent buffer, in which what it queues stands behind what was queued.
+-- A refusal gives the very session back
+pub record DidAs (s : SpectatorSession) (d : Did) (buffer : List ℕ) (r : Ended) (buffer′ : List ℕ) : Type 0 where
+  pub answer : numberOf (r .answer) ≡ d .answer
+  pub after : seen (r .session) ≡ d .after
+  pub lent : buffer′ ≡ laidAt buffer (s .host .queued) (queueOf (d .out))
+  pub same : (d .answer ≡ 0 → ⊥) → r .session ≡ s
+
+-- one that has no buffer
+pub record DoneAs (s : SpectatorSession) (d : Did) (r : Ended) : Type 0 where
+  pub answer : numberOf (r .answer) ≡ d .answer
+  pub after : seen (r .session) ≡ d .after
+  pub same : (d .answer ≡ 0 → ⊥) → r .session ≡ s

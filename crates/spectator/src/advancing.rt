@@ -1,0 +1,140 @@
+// Advancing: one frame, or, too far behind, several. It does not poll by itself.
+ghost use mathlib.Core.Path.{_≡_};
+ghost use Prim.Native.Nat.{_-_, min};
+ghost use mathlib.Core.List.{[]};
+ghost use Rattle.base.specs.First.{firstOf};
+ghost use Rattle.answer.specs.Number.{numberOf};
+ghost use Rattle.quality.specs.Advantage.{differenceOverflows};
+ghost use Rattle.watching.specs.Watch.{isRunning};
+ghost use Rattle.watching.specs.Advance.{advanceRefusals};
+ghost use Rattle.spectator.specs.Session.{seen};
+ghost use Rattle.spectator.specs.Stores.{framesOf};
+ghost use Rattle.spectator.specs.Requesting.{framesFor};
+ghost use Rattle.spectator.specs.Answers.{AdvancedAs};
+use crate::Requests;
+use crate::SpectatorSession;
+use answer::Answer;
+use watching::Limits;
+use watching::SessionState;
+
+// The frames to advance one after the other, with the session that stands at the last of them.
+pub struct Advanced {
+    pub answer: Answer,
+    pub requests: Requests,
+    pub session: SpectatorSession,
+}
+
+fn least(a: u32, b: u32) -> u32
+    ensures { λ r. ⌜ r ≡ min a b ⌝ }
+{
+    if a < b { a } else { b }
+}
+
+// Whether newest less current leaves i32.
+pub(crate) fn behind_overflows(newest: u32, current: u32) -> bool
+    ensures { λ r. ⌜ r ≡ differenceOverflows newest current ⌝ }
+{
+    let raised = newest as u64 + 0x8000_0000;
+    raised < current as u64 || 0x1_0000_0000 <= raised - current as u64
+}
+
+fn is_running(state: SessionState) -> bool
+    ensures { λ r. ⌜ r ≡ isRunning state ⌝ }
+{
+    match state {
+        SessionState::Synchronizing => false,
+        SessionState::Running => true,
+    }
+}
+
+// How far the newest frame is ahead; 0 where it is not.
+pub(crate) fn behind(newest: u32, current: u32) -> u32
+    ensures { λ r. ⌜ r ≡ newest - current ⌝ }
+{
+    if newest < current {
+        return 0;
+    }
+    newest - current
+}
+
+// Fewer than the slots.
+fn most_frames(slots: u32) -> u32
+    ensures { λ r. ⌜ r ≡ min (slots - 1) 63 ⌝ }
+{
+    if slots == 0 {
+        return 0;
+    }
+    least(slots - 1, 63)
+}
+
+fn frames_to_advance(limits: Limits, behind: u32) -> u32
+    ensures { λ r. ⌜ r ≡ framesFor limits behind ⌝ }
+{
+    if limits.max_frames_behind < behind {
+        return least(
+            least(limits.catchup_speed, behind),
+            most_frames(limits.slots),
+        );
+    }
+    1
+}
+
+impl SpectatorSession {
+    // 14, then 6.
+    fn advance_refusal(self) -> Answer
+        ensures { λ r. ⌜ numberOf r ≡ firstOf (advanceRefusals (seen self)) ⌝ }
+    {
+        let state = self.state;
+        if !is_running(state) {
+            return Answer::NotSynchronized;
+        }
+        if behind_overflows(self.last_recv_frame, self.current_frame) {
+            return Answer::Overflow;
+        }
+        if self.current_frame == 0xFFFF_FFFF {
+            return Answer::Overflow;
+        }
+        Answer::Done
+    }
+
+    fn not_advanced(self, answer: Answer) -> Advanced
+        ensures { λ r. ⌜ (r .answer ≡ answer) × (framesOf (r .requests) ≡ []) × (r .session ≡ self) ⌝ }
+    {
+        let requests = Requests::none();
+        Advanced {
+            answer,
+            requests,
+            session: self,
+        }
+    }
+
+    pub fn advance_frame(self) -> Advanced
+        ensures { λ r. ⌜ AdvancedAs self r ⌝ }
+    {
+        let answer = self.advance_refusal();
+        let Answer::Done = answer else {
+            return self.not_advanced(answer);
+        };
+        let n = frames_to_advance(
+            self.limits,
+            behind(self.last_recv_frame, self.current_frame),
+        );
+        let slots = self.limits.slots;
+        let frame = self.current_frame + 1;
+        let answer = self.inputs.frames_refusal(slots, frame, n);
+        let Answer::Done = answer else {
+            return self.not_advanced(answer);
+        };
+        let players = least(self.host.setup.num_players, 4) as usize;
+        let requests = self.inputs
+            .requests_from(self.statuses, slots, players, frame, n);
+        Advanced {
+            answer,
+            requests,
+            session: SpectatorSession {
+                current_frame: self.current_frame + n,
+                ..self
+            },
+        }
+    }
+}

@@ -1,0 +1,64 @@
+// What a session tells of itself, and its events taken.
+ghost use mathlib.Core.Path.{_≡_};
+ghost use Rattle.watching.specs.Call.{Call};
+ghost use Rattle.watching.specs.Value.{Value, valueOf};
+ghost use Rattle.spectator.specs.Session.{seen};
+ghost use Rattle.spectator.specs.Answers.{told, shownBehind, TakenAs};
+use crate::SessionEvents;
+use crate::SpectatorSession;
+use crate::advancing::behind;
+use crate::advancing::behind_overflows;
+use watching::SessionState;
+
+// The answer of `frames_behind_host`.
+pub enum FramesBehind {
+    Frames(u32),
+    Overflow,
+}
+
+pub struct TakenEvents {
+    pub events: SessionEvents,
+    pub session: SpectatorSession,
+}
+
+impl SpectatorSession {
+    pub fn current_state(self) -> SessionState
+        ensures { λ r. ⌜ Value.state r ≡ valueOf Call.currentState (seen self) ⌝ }
+    {
+        self.state
+    }
+
+    // How many frames are received and not advanced yet.
+    pub fn frames_behind_host(self) -> FramesBehind
+        ensures { λ r. ⌜ shownBehind r ≡ told Call.framesBehindHost (seen self) ⌝ }
+    {
+        if behind_overflows(self.last_recv_frame, self.current_frame) {
+            return FramesBehind::Overflow;
+        }
+        FramesBehind::Frames(behind(self.last_recv_frame, self.current_frame))
+    }
+
+    // The events held, and the session without them.
+    pub fn events(self) -> TakenEvents
+        ensures { λ r. ⌜ TakenAs self r ⌝ }
+    {
+        let taken = self.events;
+        let events = self.events.take_all();
+        TakenEvents {
+            events: taken,
+            session: SpectatorSession { events, ..self },
+        }
+    }
+
+    pub fn current_frame(self) -> u32
+        ensures { λ r. ⌜ Value.frame r ≡ valueOf Call.currentFrame (seen self) ⌝ }
+    {
+        self.current_frame
+    }
+
+    pub fn num_players(self) -> u32
+        ensures { λ r. ⌜ Value.count r ≡ valueOf Call.numPlayers (seen self) ⌝ }
+    {
+        self.host.setup.num_players
+    }
+}

@@ -1,0 +1,91 @@
+// The calls that are the host's alone: what it refuses, the session refuses.
+ghost use mathlib.Core.Path.{_≡_};
+ghost use lib.ListN.{length, take};
+ghost use Rattle.codec.specs.Message.{meant};
+ghost use Rattle.endpoint.specs.Taken.{handedBack};
+ghost use Rattle.endpoint.specs.Endpoint.{seen as seenHost};
+ghost use Rattle.watching.specs.Call.{Call};
+ghost use Rattle.watching.specs.Step.{step};
+ghost use Rattle.spectator.specs.Session.{seen, hosted, DidAs, DoneAs};
+ghost use Rattle.spectator.specs.Answers.{told, shownStats};
+use crate::Ended;
+use crate::SpectatorSession;
+use codec::Message;
+use endpoint::Ended as HostEnded;
+use endpoint::StatsResult;
+
+impl SpectatorSession {
+    fn by_host(self, ended: HostEnded) -> Ended
+        ensures { λ r. ⌜ (r .answer ≡ ended .answer) × (r .session ≡ hosted self (ended .endpoint)) ⌝ }
+    {
+        let answer = ended.answer;
+        let host = ended.endpoint;
+        Ended {
+            answer,
+            session: SpectatorSession { host, ..self },
+        }
+    }
+
+    // The handshake with the host begins.
+    pub fn synchronize(self, now: u64, epoch: u64, nonce: u32, out: &mut [u8]) -> Ended
+        ensures { λ r. ⌜ DidAs self (step (Call.synchronize now epoch nonce (length (out .entry .now))) (seen self)) (out .entry .now) r (out .exit .now) ⌝ }
+    {
+        let ended = self.host.synchronize(now, epoch, nonce, out);
+        self.by_host(ended)
+    }
+
+    // Another peer's message is ignored.
+    pub fn message(
+        self,
+        from: u32,
+        message: Message,
+        payload: &[u8],
+        now: u64,
+        epoch: u64,
+        nonce: u32,
+        out: &mut [u8],
+    ) -> Ended
+        ensures { λ r. ⌜ DidAs self (step (Call.message from (message .reports .count) (meant message (payload .entry .now)) now epoch nonce (length (out .entry .now))) (seen self)) (out .entry .now) r (out .exit .now) ⌝ }
+    {
+        let ended = self.host
+            .message(from, message, payload, now, epoch, nonce, out);
+        self.by_host(ended)
+    }
+
+    // The reader's refusal comes first.
+    pub fn datagram(
+        self,
+        from: u32,
+        datagram: &[u8],
+        now: u64,
+        epoch: u64,
+        nonce: u32,
+        out: &mut [u8],
+    ) -> Ended
+        ensures { λ r. ⌜ DidAs self (step (Call.datagram from (datagram .entry .now) now epoch nonce (length (out .entry .now))) (seen self)) (out .entry .now) r (out .exit .now) ⌝ }
+    {
+        let ended = self.host.datagram(from, datagram, now, epoch, nonce, out);
+        self.by_host(ended)
+    }
+
+    // The queue is emptied, where the buffer holds what is queued.
+    pub fn take_messages(self, out: &[u8]) -> Ended
+        ensures { λ r. ⌜ DoneAs self (step (Call.takeMessages (length (now (out .entry)))) (seen self)) r ⌝ }
+    {
+        let ended = self.host.take_messages(out);
+        self.by_host(ended)
+    }
+
+    // The filled part of the buffer that `take_messages` takes: empty where it refuses.
+    pub fn messages(self, out: &[u8]) -> &[u8]
+        ensures { λ r. ⌜ now r ≡ take (handedBack (length (now (out .entry))) (seen self .host)) (now (out .entry)) ⌝ }
+    {
+        self.host.messages(out)
+    }
+
+    pub fn network_stats(self, epoch: u64) -> StatsResult
+        ensures { λ r. ⌜ shownStats r ≡ told (Call.networkStats epoch) (seen self) ⌝ }
+    {
+        self.host.network_stats(epoch)
+    }
+}

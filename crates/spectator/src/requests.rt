@@ -1,0 +1,142 @@
+// The frames that a session advances, each with one input per player.
+ghost use mathlib.Core.Path.{_≡_};
+ghost use mathlib.Core.List.{[], _∷_};
+ghost use Prim.Native.Nat.{_+_, _^_, _≤_};
+ghost use lib.ListN.{take, getD};
+ghost use Rattle.answer.specs.Number.{numberOf};
+ghost use Rattle.status.specs.Status.{defaultStatus};
+ghost use Rattle.status.specs.Statuses.{held};
+ghost use Rattle.spectator.specs.Stores.{inputsOf, requestOf, framesOf};
+ghost use Rattle.spectator.specs.Requesting.{syncedOf, syncedIn, requestIn, requestsIn, refusalIn, refusalsIn};
+use crate::Inputs;
+use answer::Answer;
+use status::ConnectionStatus;
+use status::Statuses;
+use watching::InputStatus;
+use watching::PlayerInput;
+use watching::SyncedInput;
+
+// One frame.
+pub struct Request {
+    pub inputs: [SyncedInput; 4],
+    pub count: usize,
+}
+
+pub struct Requests {
+    pub frames: [Request; 63],
+    pub used: usize,
+}
+
+// A player that the host reported as disconnected before the frame is so in it.
+fn synced(input: PlayerInput, status: ConnectionStatus, frame: u32) -> SyncedInput
+    ensures { λ r. ⌜ r ≡ syncedOf frame input status ⌝ }
+{
+    let bytes = input.input;
+    if status.disconnected && status.last_frame < frame {
+        return SyncedInput {
+            input: bytes,
+            status: InputStatus::Disconnected,
+        };
+    }
+    SyncedInput {
+        input: bytes,
+        status: InputStatus::Confirmed,
+    }
+}
+
+impl Inputs {
+    fn synced_at(self, statuses: Statuses, slots: u32, frame: u32, player: u32) -> SyncedInput
+        ensures { λ r. ⌜ r ≡ syncedIn slots frame player (inputsOf self) (held statuses) ⌝ }
+    {
+        synced(
+            self.at(slots, frame, player),
+            statuses.get(player as usize),
+            frame,
+        )
+    }
+
+    // Of at most 4 players.
+    fn request_at(self, statuses: Statuses, slots: u32, frame: u32, players: usize) -> Request
+        ensures { λ r. ⌜ requestOf r ≡ requestIn slots frame players (inputsOf self) (held statuses) ⌝ }
+    {
+        let inputs = [
+            self.synced_at(statuses, slots, frame, 0),
+            self.synced_at(statuses, slots, frame, 1),
+            self.synced_at(statuses, slots, frame, 2),
+            self.synced_at(statuses, slots, frame, 3),
+        ];
+        Request {
+            inputs,
+            count: players,
+        }
+    }
+
+    // 16 where the frame is not received yet, 17 where another one has taken its slot.
+    fn frame_refusal(self, slots: u32, frame: u32) -> Answer
+        ensures { λ r. ⌜ numberOf r ≡ refusalIn slots frame (inputsOf self) ⌝ }
+    {
+        let held = self.at(slots, frame, 0);
+        if held.frame < frame {
+            return Answer::PredictionThreshold;
+        }
+        if frame < held.frame {
+            return Answer::SpectatorTooFarBehind;
+        }
+        Answer::Done
+    }
+
+    // Of n frames, the refusal of the first that is not there.
+    pub(crate) fn frames_refusal(self, slots: u32, frame: u32, n: u32) -> Answer
+        requires { ⌜ frame + n ≤ 2 ^ 32 ⌝ }
+        ensures { λ r. ⌜ numberOf r ≡ refusalsIn slots n frame (inputsOf self) ⌝ }
+    {
+        let mut k = 0;
+        while k < n {
+            let answer = self.frame_refusal(slots, frame + k);
+            let Answer::Done = answer else {
+                return answer;
+            };
+            k += 1;
+        }
+        Answer::Done
+    }
+
+    pub(crate) fn requests_from(
+        self,
+        statuses: Statuses,
+        slots: u32,
+        players: usize,
+        frame: u32,
+        n: u32,
+    ) -> Requests
+        requires { ⌜ (frame + n ≤ 2 ^ 32) × (n ≤ 63) ⌝ }
+        ensures { λ r. ⌜ framesOf r ≡ requestsIn slots n frame players (inputsOf self) (held statuses) ⌝ }
+    {
+        let mut requests = Requests::none();
+        let mut k = 0;
+        while k < n {
+            let request = self.request_at(statuses, slots, frame + k, players);
+            requests.frames[k as usize] = request;
+            k += 1;
+        }
+        requests.used = n as usize;
+        requests
+    }
+}
+
+impl Requests {
+    pub(crate) fn none() -> Requests
+        ensures { λ r. ⌜ framesOf r ≡ [] ⌝ }
+    {
+        Requests {
+            frames: [Request {
+                inputs: [SyncedInput {
+                    input: [0; 16],
+                    status: InputStatus::Confirmed,
+                }; 4],
+                count: 0,
+            }; 63],
+            used: 0,
+        }
+    }
+}

@@ -1,0 +1,351 @@
+-- Worked examples of a session, computed from `step` on a fresh one: what the source does, with the changes that document 01 states.
+use mathlib.Core.Bool.{Bool, true, false}
+use mathlib.Core.List.{List, [], _∷_, map}
+use mathlib.Core.Path.{_≡_, refl}
+use Prim.Native.Nat.{ℕ, _+_, _-_, _^_}
+use lib.ListN.{length, take, replicate}
+use Rattle.base.specs.Keyed.{kept, has, without}
+use Rattle.frame.specs.Bias.{bias32, bias16, nullFrame}
+use Rattle.packing.specs.Packing.{xors, framesOf, unpack, pack, decodableLength, decodable}
+use Rattle.packing.specs.Pad.{zeros, padded}
+use Rattle.pending.specs.Pending.{dropTo, lastTo, room}
+use Rattle.history.specs.History.{blank, highest, newestOf, foundIn, atLine, above, numbered, packetOf, takenIn}
+use Rattle.nonces.specs.Nonces.{issued, fits}
+use Rattle.status.specs.Status.{defaultStatus, reported, merged}
+use Rattle.status.specs.Statuses.{mergedAll, fresh as freshStatuses}
+use Rattle.codec.specs.Message.{Wire}
+use Rattle.codec.specs.declared.StatusReport.{StatusReport}
+use Rattle.codec.specs.declared.MessageBody.{MessageBody}
+use Rattle.codec.specs.declared.MessageBody.the-variants.{SyncRequest, SyncReply, Input, InputAck, QualityReport, QualityReply}
+use Rattle.events.specs.declared.Entry.{Entry}
+use Rattle.events.specs.declared.Event.{Event}
+use Rattle.events.specs.declared.Event.the-variants as Event
+use Rattle.events.specs.Events.{hasRoom, inputOf, inputEntry, announced}
+use Rattle.timers.specs.Timers.{madeAt}
+use Rattle.protocol.specs.declared.Phase.the-variants as Phase
+use Rattle.setup.specs.declared.DesyncDetection.the-variants.{Off}
+use Rattle.setup.specs.Setup.{badSetup, anyAbove, anyTwice, inserted, sorted, termsWith}
+use Rattle.protocol.specs.Seen.{Seen, made, withEvents as withHostEvents, withQuality, withQueued}
+use Rattle.outbox.specs.Outbox.{sizes}
+use Rattle.protocol.specs.Did.{refused as hostRefused, decided as hostDecided, queueWire, done}
+use Rattle.protocol.specs.Room.{bufferFull, isFull}
+use Rattle.protocol.specs.Handshake.{nonceIssued, request, started, synchronized, counted, running, replied, onSyncReply}
+use Rattle.protocol.specs.Sending.{droppedTo, acknowledged, pendingQueued}
+use Rattle.protocol.specs.Receiving.{referenceFrame, taken, receivedIf, receive, announcedEach, discarded, packetOverflows, statusesMerged, informed, gotten, inputTaken, inputUnless, onInput}
+use Rattle.protocol.specs.Act.{resent, reported as actReported, keptAlive, interrupted, timedOut, acted}
+use Rattle.quality.specs.Quality.{clamped, roundTrip, tripNoted}
+use Rattle.quality.specs.Advantage.{advantageOf, advantageOverflows}
+use Rattle.protocol.specs.Reports.{reportQueued, roundTripNoted, onQualityReply, statsOf}
+use Rattle.protocol.specs.Advantage.{localAdvantage, advantageUpdated}
+use Rattle.protocol.specs.Value.{filledPart}
+use Rattle.protocol.specs.Step.{synchronizeStep, filtered, ignored, resumed, heard, onBody, messageStep, actStep, advantageStep, takeStep}
+use Rattle.watching.specs.declared.InputStatus.the-variants.{Confirmed, Disconnected}
+use Rattle.watching.specs.declared.SessionEntry.{SessionEntry}
+use Rattle.watching.specs.declared.SessionEvent.{SessionEvent}
+use Rattle.watching.specs.declared.SessionEvent.the-variants as SessionEvent
+use Rattle.watching.specs.declared.SessionSetup.{SessionSetup}
+use Rattle.watching.specs.declared.SessionState.the-variants.{Synchronizing, Running}
+use Rattle.watching.specs.declared.SyncedInput.{SyncedInput}
+use Rattle.watching.specs.declared.PlayerInput.{PlayerInput}
+use Rattle.watching.specs.Setup.{hostSetup, badLimits, badSession}
+use Rattle.watching.specs.Watch.{Watch, madeWatch, withHost, withState, withCurrent, withNewest, withEvents}
+use Rattle.watching.specs.Inputs.{blankInput, freshInputs, inputStored, inputAt}
+use Rattle.watching.specs.Handling.{lastOf, toldTo, tell, inputHandled, handled, handledAll}
+use Rattle.watching.specs.Advance.{framesToAdvance, framesRefusal, syncedAt, requestAt, requestsFrom, requestsOf, advanceRefusal}
+use Rattle.watching.specs.Call.{Call}
+use Rattle.watching.specs.Step.{Did, fresh, refused, decided, byHost, hostActs, hostTakes, pollRefusal, polled, pollStep, advanceStep, framesBehindStep, step}
+use Rattle.watching.specs.Value.{Value, valueOf}
+
+-- ---- the session of the examples
+
+-- two players, one byte each, peer 3; slots, session events, max_frames_behind and catchup_speed as given
+abbrev pub setupWith : (slots events behind speed : ℕ) → SessionSetup
+setupWith slots events behind speed =
+    record {
+      «num_players» = 2;
+      «input_size» = 1;
+      «max_prediction» = 2;
+      «disconnect_timeout» = 100000;
+      «disconnect_notify_start» = 50000;
+      fps = 60;
+      magic = 7;
+      «peer_addr» = 3;
+      choices = record { «desync_detection» = Off };
+      limits = record { slots = slots; «session_events» = events; «max_frames_behind» = behind; «catchup_speed» = speed };
+    }
+
+-- made at clock 1000
+abbrev pub new : (slots events behind speed : ℕ) → Watch
+new slots events behind speed = fresh (setupWith slots events behind speed) 1000 .1
+
+-- ---- short words for calls
+
+-- frame f, biased
+abbrev pub fr : ℕ → ℕ
+fr f = bias32 + f
+
+abbrev pub wire : MessageBody → List StatusReport → List ℕ → Wire
+wire body reports payload = record { magic = 9; body = body; reports = reports; payload = payload }
+
+abbrev pub report : Bool → ℕ → StatusReport
+report disconnected frame = record { disconnected = disconnected; «last_frame» = frame }
+
+abbrev pub none : List StatusReport
+none = report false nullFrame ∷ report false nullFrame ∷ []
+
+-- the epoch clock stands 70,000 ahead of the monotonic one
+abbrev pub epochAt : ℕ → ℕ
+epochAt now = 70000 + now
+
+-- a message from a peer at a clock, with a new nonce
+abbrev pub handFrom : (from : ℕ) → Wire → (now nonce : ℕ) → Call
+handFrom from w now nonce = Call.message from (length (w .reports)) w now (epochAt now) nonce 65536
+
+abbrev pub reply : (nonce next : ℕ) → Call
+reply nonce next = handFrom 3 (wire (SyncReply nonce) [] []) 1000 next
+
+-- an Input at clock 1000, acknowledging nothing: two bytes for each frame
+abbrev pub packet : (start : ℕ) → List StatusReport → List ℕ → Call
+packet start reports payload = handFrom 3 (wire (Input false start nullFrame) reports payload) 1000 0
+
+abbrev pub pollAt : (now buffer : ℕ) → Call
+pollAt now buffer = Call.pollRemoteClients now (epochAt now) 99 buffer
+
+abbrev pub poll : Call
+poll = pollAt 1000 65536
+
+-- calls one after the other
+abbrev pub after : List Call → Watch → Watch
+after [] w = w
+after (c ∷ cs) w = after cs (step c w .after)
+
+-- a request and five replies
+abbrev pub handshake : List Call
+handshake = Call.synchronize 1000 (epochAt 1000) 1 65536 ∷ reply 1 2 ∷ reply 2 3 ∷ reply 3 4 ∷ reply 4 5 ∷ reply 5 6 ∷ []
+
+-- the host in Running since clock 1000, nothing queued
+abbrev readyHost : Seen
+readyHost =
+    record {
+      setup = record { players = 2; handles = 0 ∷ 1 ∷ []; localPlayers = 1; inputSize = 1; maxPrediction = 2; disconnectTimeout = 100000; notifyStart = 50000; fps = 60; magic = 7; peer = 3; choices = record { «desync_detection» = Off } };
+      carried = record { sender = record { pending = []; acked = blank }; receiver = record { history = blank ∷ [] } };
+      phase = Phase.Running;
+      sync = record { remaining = 0; nonces = []; remoteMagic = 9 };
+      clocks = madeAt 1000;
+      flags = record { «disconnect_notify_sent» = false; «disconnect_event_sent» = false };
+      quality = record { «local_frame_advantage» = bias32; «remote_frame_advantage» = bias32; «round_trip_time» = 0; «stats_start_time» = epochAt 1000 };
+      statuses = record { disconnected = false; «last_frame» = nullFrame } ∷ record { disconnected = false; «last_frame» = nullFrame } ∷ [];
+      checksums = [];
+      events = [];
+      queued = 0;
+    }
+
+-- a session in Running, its events taken: the handshake comes to it with a poll (`handshakes`)
+abbrev pub ready : (slots events behind speed : ℕ) → Watch
+ready slots events behind speed =
+    record {
+      host = readyHost;
+      limits = record { slots = slots; «session_events» = events; «max_frames_behind» = behind; «catchup_speed» = speed };
+      state = Running;
+      inputs = freshInputs slots;
+      statuses = readyHost .statuses;
+      events = [];
+      current = nullFrame;
+      newest = nullFrame;
+    }
+
+-- the session before that poll: the host holds its events, and five requests are queued
+abbrev plain : Event → Entry
+plain event = record { event = event; input = replicate 16 0 }
+
+abbrev synced : (slots events behind speed : ℕ) → Watch
+synced slots events behind speed =
+    let w : Watch = ready slots events behind speed in
+    withState Synchronizing (withHost (withHostEvents (plain (Event.Synchronizing 5 1) ∷ plain (Event.Synchronizing 5 2) ∷ plain (Event.Synchronizing 5 3) ∷ plain (Event.Synchronizing 5 4) ∷ plain Event.Synchronized ∷ []) (withQueued 50 (w .host))) w)
+
+-- an event of peer 3
+abbrev by3 : SessionEvent → SessionEntry
+by3 event = record { addr = 3; event = event }
+
+-- one byte as a player's input
+abbrev byte : ℕ → List ℕ
+byte b = b ∷ 0 ∷ 0 ∷ 0 ∷ 0 ∷ 0 ∷ 0 ∷ 0 ∷ 0 ∷ 0 ∷ 0 ∷ 0 ∷ 0 ∷ 0 ∷ 0 ∷ 0 ∷ []
+
+abbrev confirmed : ℕ → SyncedInput
+confirmed b = record { input = byte b; status = Confirmed }
+
+abbrev gone : ℕ → SyncedInput
+gone b = record { input = byte b; status = Disconnected }
+
+abbrev advance : Watch → ℕ × Value
+advance w = (step Call.advanceFrame w .answer, valueOf Call.advanceFrame w)
+
+-- ---- setup
+
+-- within the ceilings at both ends; 8 before 1
+setups :
+    (fresh (setupWith 2 1 0 0) 1000 .0 ≡ 0)
+    × (fresh (setupWith 64 128 65535 65535) 1000 .0 ≡ 0)
+    × (fresh (setupWith 1 1 0 0) 1000 .0 ≡ 1)
+    × (fresh (setupWith 65 1 0 0) 1000 .0 ≡ 1)
+    × (fresh (setupWith 2 0 0 0) 1000 .0 ≡ 1)
+    × (fresh (setupWith 2 129 0 0) 1000 .0 ≡ 1)
+    × (fresh (setupWith 2 1 65536 0) 1000 .0 ≡ 1)
+    × (fresh (setupWith 2 1 0 65536) 1000 .0 ≡ 1)
+    × (fresh (setupWith 1 1 0 0) (2 ^ 62) .0 ≡ 8)
+    -- its handles are 0 up to players - 1, and neither side has a frame
+    × (new 2 1 0 0 .host .setup .handles ≡ 0 ∷ 1 ∷ [])
+    × (new 2 1 0 0 .current ≡ nullFrame)
+    × (new 2 1 0 0 .newest ≡ nullFrame)
+unfolding kept has without xors framesOf unpack pack decodableLength decodable zeros padded dropTo lastTo room blank highest newestOf foundIn atLine above numbered packetOf takenIn issued fits defaultStatus reported merged mergedAll freshStatuses hasRoom inputOf inputEntry announced badSetup anyAbove anyTwice inserted sorted termsWith made hostRefused hostDecided queueWire sizes done bufferFull isFull nonceIssued request started synchronized counted running replied onSyncReply droppedTo acknowledged pendingQueued referenceFrame taken receivedIf receive announcedEach discarded packetOverflows statusesMerged informed gotten inputTaken inputUnless onInput resent actReported keptAlive interrupted timedOut acted clamped reportQueued roundTrip roundTripNoted onQualityReply advantageOf advantageOverflows localAdvantage advantageUpdated synchronizeStep filtered ignored resumed heard onBody messageStep actStep advantageStep takeStep statsOf filledPart hostSetup badLimits badSession madeWatch blankInput freshInputs inputStored inputAt lastOf toldTo tell inputHandled handled handledAll framesToAdvance framesRefusal syncedAt requestAt requestsFrom requestsOf advanceRefusal fresh refused decided byHost hostActs hostTakes pollRefusal polled pollStep advanceStep framesBehindStep step valueOf
+setups = (refl, refl, refl, refl, refl, refl, refl, refl, refl, refl, refl, refl)
+
+-- ---- handshake
+
+-- Running comes with the poll that handles Synchronized, not with the fifth reply; each event has the host's peer number
+handshakes :
+    (step Call.advanceFrame (new 4 8 2 1) .answer ≡ 14)
+    × (after handshake (new 4 8 2 1) ≡ synced 4 8 2 1)
+    × (step poll (synced 4 8 2 1) .after .events
+    ≡ by3 (SessionEvent.Synchronizing 5 1)
+    ∷ by3 (SessionEvent.Synchronizing 5 2)
+    ∷ by3 (SessionEvent.Synchronizing 5 3)
+    ∷ by3 (SessionEvent.Synchronizing 5 4)
+    ∷ by3 SessionEvent.Synchronized
+    ∷ [])
+    × (after (poll ∷ Call.events ∷ []) (synced 4 8 2 1) ≡ ready 4 8 2 1)
+    -- beyond M the oldest are dropped
+    × (step poll (synced 4 2 2 1) .after .events ≡ by3 (SessionEvent.Synchronizing 5 4) ∷ by3 SessionEvent.Synchronized ∷ [])
+    -- another peer's message is ignored, 0; what the host refuses, the session refuses
+    × (step (handFrom 4 (wire (SyncReply 1) [] []) 1000 2) (after (Call.synchronize 1000 (epochAt 1000) 1 65536 ∷ []) (new 4 8 2 1))
+    ≡ record { answer = 0; after = after (Call.synchronize 1000 (epochAt 1000) 1 65536 ∷ []) (new 4 8 2 1); out = [] })
+    × (step (Call.synchronize 1000 (epochAt 1000) 1 65536) (ready 4 8 2 1) .answer ≡ 2)
+    × (step (Call.synchronize 1000 (epochAt 1000) 1 9) (new 4 8 2 1) ≡ record { answer = 5; after = new 4 8 2 1; out = [] })
+unfolding kept has without xors framesOf unpack pack decodableLength decodable zeros padded dropTo lastTo room blank highest newestOf foundIn atLine above numbered packetOf takenIn issued fits defaultStatus reported merged mergedAll freshStatuses hasRoom inputOf inputEntry announced badSetup anyAbove anyTwice inserted sorted termsWith made hostRefused hostDecided queueWire sizes done bufferFull isFull nonceIssued request started synchronized counted running replied onSyncReply droppedTo acknowledged pendingQueued referenceFrame taken receivedIf receive announcedEach discarded packetOverflows statusesMerged informed gotten inputTaken inputUnless onInput resent actReported keptAlive interrupted timedOut acted clamped reportQueued roundTrip roundTripNoted onQualityReply advantageOf advantageOverflows localAdvantage advantageUpdated synchronizeStep filtered ignored resumed heard onBody messageStep actStep advantageStep takeStep statsOf filledPart hostSetup badLimits badSession madeWatch blankInput freshInputs inputStored inputAt lastOf toldTo tell inputHandled handled handledAll framesToAdvance framesRefusal syncedAt requestAt requestsFrom requestsOf advanceRefusal fresh refused decided byHost hostActs hostTakes pollRefusal polled pollStep advanceStep framesBehindStep step valueOf
+handshakes = (refl, refl, refl, refl, refl, refl, refl, refl)
+
+-- ---- inputs
+
+-- frames 0 and 1 of both players; player 1 is disconnected at frame 0
+abbrev two : Call
+two = packet (fr 0) (report false (fr 1) ∷ report true (fr 0) ∷ []) (5 ∷ 6 ∷ 7 ∷ 8 ∷ [])
+
+abbrev told : Watch
+told = after (two ∷ []) (ready 4 8 2 1)
+
+abbrev stored : Watch
+stored = after (poll ∷ []) told
+
+watches :
+    -- nothing is there: 16
+    (step Call.advanceFrame (ready 4 8 2 1) .answer ≡ 16)
+    -- a message alone brings no frame: its events wait for the poll
+    × (told .newest ≡ nullFrame)
+    × (step Call.advanceFrame told .answer ≡ 16)
+    × (stored .newest ≡ fr 1)
+    × (stored .statuses ≡ record { disconnected = false; «last_frame» = fr 1 } ∷ record { disconnected = true; «last_frame» = fr 0 } ∷ [])
+    × (valueOf Call.framesBehindHost stored ≡ Value.count 2)
+    -- each frame once; the player is gone from the frame after its last
+    × (advance stored ≡ (0, Value.requests ((confirmed 5 ∷ confirmed 6 ∷ []) ∷ [])))
+    × (advance (after (Call.advanceFrame ∷ []) stored) ≡ (0, Value.requests ((confirmed 7 ∷ gone 8 ∷ []) ∷ [])))
+    × (after (Call.advanceFrame ∷ Call.advanceFrame ∷ []) stored .current ≡ fr 1)
+    × (step Call.advanceFrame (after (Call.advanceFrame ∷ Call.advanceFrame ∷ []) stored) .answer ≡ 16)
+    -- the host's advantage is that of the last event's frame: 1 - 1
+    × (stored .host .quality .«local_frame_advantage» ≡ bias32)
+    -- the poll hands back what the host had queued for its inputs, and what its act adds
+    × (valueOf poll told ≡ Value.part 10)
+    × (stored .host .queued ≡ 0)
+    × (valueOf (pollAt 1201 65536) told ≡ Value.part 34)
+unfolding kept has without xors framesOf unpack pack decodableLength decodable zeros padded dropTo lastTo room blank highest newestOf foundIn atLine above numbered packetOf takenIn issued fits defaultStatus reported merged mergedAll freshStatuses hasRoom inputOf inputEntry announced badSetup anyAbove anyTwice inserted sorted termsWith made hostRefused hostDecided queueWire sizes done bufferFull isFull nonceIssued request started synchronized counted running replied onSyncReply droppedTo acknowledged pendingQueued referenceFrame taken receivedIf receive announcedEach discarded packetOverflows statusesMerged informed gotten inputTaken inputUnless onInput resent actReported keptAlive interrupted timedOut acted clamped reportQueued roundTrip roundTripNoted onQualityReply advantageOf advantageOverflows localAdvantage advantageUpdated synchronizeStep filtered ignored resumed heard onBody messageStep actStep advantageStep takeStep statsOf filledPart hostSetup badLimits badSession madeWatch blankInput freshInputs inputStored inputAt lastOf toldTo tell inputHandled handled handledAll framesToAdvance framesRefusal syncedAt requestAt requestsFrom requestsOf advanceRefusal fresh refused decided byHost hostActs hostTakes pollRefusal polled pollStep advanceStep framesBehindStep step valueOf
+watches = (refl, refl, refl, refl, refl, refl, refl, refl, refl, refl, refl, refl, refl, refl)
+
+-- ---- falling behind
+
+-- frames 0 to 2 in a session of four slots that goes faster from max_frames_behind on
+abbrev three : (behind speed : ℕ) → Watch
+three behind speed = after (packet (fr 0) none (1 ∷ 1 ∷ 2 ∷ 2 ∷ 3 ∷ 3 ∷ []) ∷ poll ∷ []) (ready 4 8 behind speed)
+
+abbrev pair : ℕ → List SyncedInput
+pair b = confirmed b ∷ confirmed b ∷ []
+
+-- frames 0 to 4 in a session of two slots
+abbrev five : Watch
+five = after (packet (fr 0) none (1 ∷ 1 ∷ 2 ∷ 2 ∷ 3 ∷ 3 ∷ 4 ∷ 4 ∷ 5 ∷ 5 ∷ []) ∷ poll ∷ []) (ready 2 8 9 1)
+
+-- a session whose first frame is 7, and then 8
+abbrev seventh : Watch
+seventh = after (packet (fr 7) none (1 ∷ 1 ∷ []) ∷ poll ∷ []) (ready 4 8 9 1)
+
+abbrev eighth : Watch
+eighth = after (packet (fr 8) none (1 ∷ 1 ∷ []) ∷ poll ∷ []) seventh
+
+catches-up :
+    -- three behind is not above three: one frame
+    (advance (three 3 2) ≡ (0, Value.requests (pair 1 ∷ [])))
+    -- it is above two: as many as the speed says, but no more than there are, and fewer than slots
+    × (advance (three 2 2) ≡ (0, Value.requests (pair 1 ∷ pair 2 ∷ [])))
+    × (after (Call.advanceFrame ∷ []) (three 2 2) .current ≡ fr 1)
+    × (advance (three 2 100) ≡ (0, Value.requests (pair 1 ∷ pair 2 ∷ pair 3 ∷ [])))
+    -- a speed of 0 gives an empty list
+    × (advance (three 2 0) ≡ (0, Value.requests []))
+    × (after (Call.advanceFrame ∷ []) (three 2 0) .current ≡ nullFrame)
+    -- two slots hold frames 3 and 4: frame 0 is gone
+    × (step Call.advanceFrame five ≡ record { answer = 17; after = five; out = [] })
+    -- a first frame other than 0: 16 while slot 0 is blank, then 17
+    × (step Call.advanceFrame seventh .answer ≡ 16)
+    × (step Call.advanceFrame eighth .answer ≡ 17)
+unfolding kept has without xors framesOf unpack pack decodableLength decodable zeros padded dropTo lastTo room blank highest newestOf foundIn atLine above numbered packetOf takenIn issued fits defaultStatus reported merged mergedAll freshStatuses hasRoom inputOf inputEntry announced badSetup anyAbove anyTwice inserted sorted termsWith made hostRefused hostDecided queueWire sizes done bufferFull isFull nonceIssued request started synchronized counted running replied onSyncReply droppedTo acknowledged pendingQueued referenceFrame taken receivedIf receive announcedEach discarded packetOverflows statusesMerged informed gotten inputTaken inputUnless onInput resent actReported keptAlive interrupted timedOut acted clamped reportQueued roundTrip roundTripNoted onQualityReply advantageOf advantageOverflows localAdvantage advantageUpdated synchronizeStep filtered ignored resumed heard onBody messageStep actStep advantageStep takeStep statsOf filledPart hostSetup badLimits badSession madeWatch blankInput freshInputs inputStored inputAt lastOf toldTo tell inputHandled handled handledAll framesToAdvance framesRefusal syncedAt requestAt requestsFrom requestsOf advanceRefusal fresh refused decided byHost hostActs hostTakes pollRefusal polled pollStep advanceStep framesBehindStep step valueOf
+catches-up = (refl, refl, refl, refl, refl, refl, refl, refl, refl)
+
+-- ---- overflow
+
+-- frame i32 max received first; and a session that stands there
+abbrev farthest : Watch
+farthest = after (packet (fr (2 ^ 31 - 1)) none (1 ∷ 1 ∷ []) ∷ poll ∷ []) (ready 4 8 9 1)
+
+abbrev last : Watch
+last = withCurrent (2 ^ 32 - 1) farthest
+
+-- a round trip so long that the product leaves i32
+abbrev slow : Watch
+slow = let w : Watch = ready 4 8 9 1 in withHost (withQuality (tripNoted 71582790 (w .host .quality)) (w .host)) w
+
+abbrev slowly : Watch
+slowly = after (two ∷ poll ∷ []) slow
+
+overflows :
+    -- i32 max less -1
+    (step Call.framesBehindHost farthest .answer ≡ 6)
+    × (step Call.advanceFrame farthest .answer ≡ 6)
+    -- current + 1, with newest - current 0
+    × (step Call.framesBehindHost last .answer ≡ 0)
+    × (step Call.advanceFrame last .answer ≡ 6)
+    -- 14 before 6
+    × (step Call.advanceFrame (withNewest (2 ^ 32 - 1) (new 4 8 9 1)) .answer ≡ 14)
+    -- a refusal 6 of the advantage leaves it as it was, and all else is done
+    × (slowly .host .quality .«local_frame_advantage» ≡ bias32)
+    × (slowly .newest ≡ fr 1)
+    × (slowly .statuses ≡ stored .statuses)
+    × (slowly .inputs ≡ stored .inputs)
+unfolding kept has without xors framesOf unpack pack decodableLength decodable zeros padded dropTo lastTo room blank highest newestOf foundIn atLine above numbered packetOf takenIn issued fits defaultStatus reported merged mergedAll freshStatuses hasRoom inputOf inputEntry announced badSetup anyAbove anyTwice inserted sorted termsWith made hostRefused hostDecided queueWire sizes done bufferFull isFull nonceIssued request started synchronized counted running replied onSyncReply droppedTo acknowledged pendingQueued referenceFrame taken receivedIf receive announcedEach discarded packetOverflows statusesMerged informed gotten inputTaken inputUnless onInput resent actReported keptAlive interrupted timedOut acted clamped reportQueued roundTrip roundTripNoted onQualityReply advantageOf advantageOverflows localAdvantage advantageUpdated synchronizeStep filtered ignored resumed heard onBody messageStep actStep advantageStep takeStep statsOf filledPart hostSetup badLimits badSession madeWatch blankInput freshInputs inputStored inputAt lastOf toldTo tell inputHandled handled handledAll framesToAdvance framesRefusal syncedAt requestAt requestsFrom requestsOf advanceRefusal fresh refused decided byHost hostActs hostTakes pollRefusal polled pollStep advanceStep framesBehindStep step valueOf
+overflows = (refl, refl, refl, refl, refl, refl, refl, refl, refl)
+
+-- ---- the poll's refusals
+
+-- 640 events held by the host
+abbrev crowded : Watch
+crowded = let w : Watch = ready 4 2 9 1 in withHost (withHostEvents (replicate 640 (record { event = Event.NetworkResumed; input = replicate 16 0 })) (w .host)) w
+
+polls :
+    -- 8; a buffer shorter than what is queued already and now: 5, and nothing is handled
+    (step (pollAt (2 ^ 62) 65536) told ≡ record { answer = 8; after = told; out = [] })
+    × (step (pollAt 1000 9) told ≡ record { answer = 5; after = told; out = [] })
+    × (step (pollAt 1000 10) told .answer ≡ 0)
+    × (step (pollAt 1201 33) told ≡ record { answer = 5; after = told; out = [] })
+    × (step (pollAt 1201 34) told .answer ≡ 0)
+    -- the host's own act has no room for the event of an interruption; the poll handles all, the new one last
+    × (actStep 2 (crowded .statuses) 60000 130000 99 65536 (crowded .host) .answer ≡ 5)
+    × (step (pollAt 60000 65536) crowded .answer ≡ 0)
+    × (step (pollAt 60000 65536) crowded .after .events ≡ by3 SessionEvent.NetworkResumed ∷ by3 (SessionEvent.NetworkInterrupted 50000) ∷ [])
+unfolding kept has without xors framesOf unpack pack decodableLength decodable zeros padded dropTo lastTo room blank highest newestOf foundIn atLine above numbered packetOf takenIn issued fits defaultStatus reported merged mergedAll freshStatuses hasRoom inputOf inputEntry announced badSetup anyAbove anyTwice inserted sorted termsWith made hostRefused hostDecided queueWire sizes done bufferFull isFull nonceIssued request started synchronized counted running replied onSyncReply droppedTo acknowledged pendingQueued referenceFrame taken receivedIf receive announcedEach discarded packetOverflows statusesMerged informed gotten inputTaken inputUnless onInput resent actReported keptAlive interrupted timedOut acted clamped reportQueued roundTrip roundTripNoted onQualityReply advantageOf advantageOverflows localAdvantage advantageUpdated synchronizeStep filtered ignored resumed heard onBody messageStep actStep advantageStep takeStep statsOf filledPart hostSetup badLimits badSession madeWatch blankInput freshInputs inputStored inputAt lastOf toldTo tell inputHandled handled handledAll framesToAdvance framesRefusal syncedAt requestAt requestsFrom requestsOf advanceRefusal fresh refused decided byHost hostActs hostTakes pollRefusal polled pollStep advanceStep framesBehindStep step valueOf
+polls = (refl, refl, refl, refl, refl, refl, refl, refl)
