@@ -6,7 +6,6 @@ use mathlib.Core.Path.{_≡_, refl, ap, _∙_}
 use Prim.Native.Nat.{ℕ, _+_, _<_}
 use native.Mathlib.Numerals.{add-one}
 use native.Mathlib.Omega.{arith}
-use lib.Dec.{eqb}
 use lib.ListN.{length, drop, getD}
 use lib.Seq.{drop-cons, drop-length}
 use Rattle.base.specs.Pick.{pick}
@@ -20,9 +19,8 @@ use Rattle.quality.specs.declared.Quality.{Quality}
 use Rattle.quality.specs.declared.Advantage.the-variants.{Frames, Overflow}
 use Rattle.quality.specs.Quality.{localSet}
 use Rattle.quality.specs.Advantage.{advantageOf, advantageOverflows, shownAdvantage}
-use Rattle.status.specs.Statuses.{held as heldStatuses}
 use Rattle.protocol.specs.Seen.{Seen, withQuality}
-use Rattle.protocol.specs.Did.{Did, refused, decided}
+use Rattle.protocol.specs.Did.{refused, decided}
 use Rattle.protocol.specs.Sending.{newest}
 use Rattle.protocol.specs.Advantage.{bothKnown, localAdvantage, advantageUpdated}
 use Rattle.protocol.specs.Step.{changed, advantageStep}
@@ -36,7 +34,7 @@ use Rattle.spectator.specs.declared.handling.Parts.{Parts}
 use Rattle.spectator.specs.declared.inputs.Inputs.{Inputs}
 use Rattle.spectator.specs.declared.telling.SessionEvents.{SessionEvents}
 use Rattle.spectator.specs.Stores.{inputsOf, toldOf}
-use Rattle.spectator.specs.Parts.{assembled, qualityAfter, runningParts, TermsOf, ChangedAs}
+use Rattle.spectator.specs.Parts.{qualityAfter, runningParts, ChangedAs}
 
 -- ---- the advantage
 

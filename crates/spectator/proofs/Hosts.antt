@@ -5,7 +5,7 @@ use Prim.Native.Nat.{ℕ}
 use Rattle.answer.specs.Number.{numberOf}
 use Rattle.protocol.specs.Did.{Did as HostDid}
 use Rattle.endpoint.specs.declared.Ended.{Ended as HostEnded}
-use Rattle.endpoint.specs.Endpoint.{seen as seenHost, DidAs as HostDidAs, DoneAs as HostDoneAs}
+use Rattle.endpoint.specs.Endpoint.{DidAs as HostDidAs, DoneAs as HostDoneAs}
 use Rattle.watching.specs.Step.{byHost}
 use Rattle.spectator.specs.declared.SpectatorSession.{SpectatorSession}
 use Rattle.spectator.specs.declared.Ended.{Ended}

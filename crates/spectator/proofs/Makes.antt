@@ -1,13 +1,13 @@
 -- What `new` refuses, and that what it makes is the session of its setup.
 use mathlib.Core.Bool.{Bool, true, false, _||_}
 use mathlib.Core.List.{[], _∷_}
-use mathlib.Core.Path.{_≡_, refl, sym, _∙_}
+use mathlib.Core.Path.{_≡_, refl, _∙_}
 use Prim.Native.Nat.{ℕ}
 use lib.Dec.{eqb}
 use Rattle.base.specs.Pick.{pick}
 use Rattle.base.specs.First.{firstOf}
 use Rattle.frame.specs.Bias.{nullFrame}
-use Rattle.answer.specs.Number.{numberOf, number-tells}
+use Rattle.answer.specs.Number.{numberOf}
 use Rattle.answer.specs.declared.Answer.{Answer}
 use Rattle.status.specs.declared.list.Statuses.{Statuses}
 use Rattle.status.specs.Statuses.{held as heldStatuses, fresh as freshStatuses}
@@ -22,7 +22,6 @@ use Rattle.watching.specs.Setup.{hostSetup, badLimits, badSession}
 use Rattle.watching.specs.Inputs.{freshInputs}
 use Rattle.watching.specs.Watch.{madeWatch}
 use Rattle.watching.specs.Step.{fresh}
-use Rattle.spectator.specs.declared.Ended.{Ended}
 use Rattle.spectator.specs.declared.inputs.Inputs.{Inputs}
 use Rattle.spectator.specs.declared.telling.SessionEvents.{SessionEvents}
 use Rattle.spectator.specs.Stores.{inputsOf, toldOf}

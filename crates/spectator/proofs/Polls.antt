@@ -1,7 +1,7 @@
 -- A poll: what it reads of the host, what is left of it once the host has acted, and the whole.
 use borrow.Author.Tests.{eq-eqb, ne-eqb, lt-ltb, ltb-false, ltb-true}
 use mathlib.Core.Bool.{Bool, true, false, not, _&&_, _||_}
-use mathlib.Core.List.{List, [], _∷_, _++_, flatten}
+use mathlib.Core.List.{List, [], _∷_, flatten}
 use mathlib.Core.Path.{_≡_, refl, sym, ap, _∙_}
 use Prim.Native.Nat.{ℕ, _+_, _≤_, _<_}
 use native.Mathlib.Decide.{decLt, ℕ-discrete}
@@ -14,13 +14,11 @@ use Rattle.base.specs.First.{firstOf}
 use Rattle.base.specs.Lay.{laidAt}
 use Rattle.base.proofs.Lay.{laid-none}
 use Rattle.answer.specs.Number.{numberOf}
-use Rattle.answer.specs.declared.Answer.{Answer}
 use Rattle.answer.specs.declared.Answer.the-variants.{Done}
 use Rattle.codec.specs.Message.{Wire, bodySize}
 use Rattle.codec.specs.Bytes.{queueOf}
 use Rattle.codec.specs.declared.MessageBody.{MessageBody}
 use Rattle.codec.specs.declared.MessageBody.the-variants.{SyncRequest, SyncReply, Input, InputAck, QualityReport, QualityReply, ChecksumReport, KeepAlive}
-use Rattle.events.specs.declared.Entry.{Entry}
 use Rattle.events.specs.declared.Events.{Events}
 use Rattle.events.specs.Events.{held}
 use Rattle.outbox.specs.Outbox.{sizes}
@@ -38,7 +36,7 @@ use Rattle.endpoint.specs.declared.Ended.{Ended as HostEnded}
 use Rattle.endpoint.specs.declared.taking.TakenEvents.{TakenEvents}
 use Rattle.endpoint.specs.Endpoint.{seen as seenHost, DidAs as HostDidAs, DoneAs as HostDoneAs}
 use Rattle.endpoint.specs.Taken.{handedBack, TakenAs}
-use Rattle.watching.specs.Watch.{Watch, withHost}
+use Rattle.watching.specs.Watch.{Watch}
 use Rattle.watching.specs.Handling.{handledAll}
 use Rattle.watching.specs.Call.{Call}
 use Rattle.watching.specs.Step.{step, refused, decided, hostActs, hostTakes, pollRefusal, polled, pollStep}

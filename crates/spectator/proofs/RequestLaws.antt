@@ -2,15 +2,12 @@
 use borrow.Author.Tests.{lt-ltb, le-ltb, eq-eqb, ne-eqb}
 use mathlib.Core.Bool.{Bool, true, false, _&&_}
 use mathlib.Core.List.{List, [], _∷_, _++_, map}
-use mathlib.Core.Path.{_≡_, refl, ap, sym, _∙_}
-use Prim.Native.Nat.{ℕ, zero, suc, _+_, _-_, _≤_, _<_, min}
+use mathlib.Core.Path.{_≡_, refl, ap, _∙_}
+use Prim.Native.Nat.{ℕ, zero, suc, _+_, _-_, _≤_, _<_}
 use native.Mathlib.Nat.{add-suc, suc-add, add-zero}
 use native.Mathlib.Numerals.{add-one}
-use native.Mathlib.Omega.{arith}
-use lib.Dec.{ltb, eqb}
 use lib.ListN.{length, take, set}
 use lib.Seq.{take-suc-set}
-use Rattle.base.specs.Pick.{pick}
 use Rattle.status.specs.declared.ConnectionStatus.{ConnectionStatus}
 use Rattle.watching.specs.declared.InputStatus.the-variants.{Confirmed, Disconnected}
 use Rattle.watching.specs.declared.PlayerInput.{PlayerInput}

@@ -22,7 +22,7 @@ use Rattle.spectator.specs.declared.polling.Polled.{Polled}
 use Rattle.spectator.specs.declared.telling.SessionEvents.{SessionEvents}
 use Rattle.spectator.specs.Stores.{toldOf, framesOf}
 use Rattle.spectator.specs.Session.{seen, DidAs, DoneAs}
-use Rattle.spectator.specs.Answers.{told, shownStats, shownBehind, polledPart, MadeAs, TakenAs, PolledAs, AdvancedAs}
+use Rattle.spectator.specs.Answers.{told, shownStats, shownBehind, MadeAs, TakenAs, PolledAs, AdvancedAs}
 
 pub new-settled : (g : SessionSetup) (now : ℕ) (r s : Ended) → MadeAs g now r → MadeAs g now s → (r .answer ≡ s .answer) × (seen (r .session) ≡ seen (s .session))
 new-settled g now r s a b = (number-tells (r .answer) (s .answer) (a .answer ∙ sym (b .answer)), a .made ∙ sym (b .made))

@@ -1,5 +1,4 @@
 -- The frames advanced, by what they are read from: slots, inputs and statuses.
-use mathlib.Core.Bool.{_&&_}
 use mathlib.Core.List.{List, [], _∷_}
 use Prim.Native.Nat.{ℕ, zero, suc, _-_, min}
 use lib.Dec.{ltb, eqb}

@@ -1,5 +1,5 @@
 -- What is seen of a session, and what its calls answer: one equation over `step` for each.
-use mathlib.Core.List.{List, []}
+use mathlib.Core.List.{List}
 use mathlib.Core.Path.{_≡_}
 use Prim.Native.Nat.{ℕ}
 use Rattle.base.specs.Lay.{laidAt}

@@ -1,11 +1,11 @@
 -- Worked examples of a session, computed from `step` on a fresh one: what the source does, with the changes that document 01 states.
 use mathlib.Core.Bool.{Bool, true, false}
-use mathlib.Core.List.{List, [], _∷_, map}
+use mathlib.Core.List.{List, [], _∷_}
 use mathlib.Core.Path.{_≡_, refl}
 use Prim.Native.Nat.{ℕ, _+_, _-_, _^_}
-use lib.ListN.{length, take, replicate}
+use lib.ListN.{length, replicate}
 use Rattle.base.specs.Keyed.{kept, has, without}
-use Rattle.frame.specs.Bias.{bias32, bias16, nullFrame}
+use Rattle.frame.specs.Bias.{bias32, nullFrame}
 use Rattle.packing.specs.Packing.{xors, framesOf, unpack, pack, decodableLength, decodable}
 use Rattle.packing.specs.Pad.{zeros, padded}
 use Rattle.pending.specs.Pending.{dropTo, lastTo, room}
@@ -16,7 +16,7 @@ use Rattle.status.specs.Statuses.{mergedAll, fresh as freshStatuses}
 use Rattle.codec.specs.Message.{Wire}
 use Rattle.codec.specs.declared.StatusReport.{StatusReport}
 use Rattle.codec.specs.declared.MessageBody.{MessageBody}
-use Rattle.codec.specs.declared.MessageBody.the-variants.{SyncRequest, SyncReply, Input, InputAck, QualityReport, QualityReply}
+use Rattle.codec.specs.declared.MessageBody.the-variants.{SyncReply, Input, QualityReply}
 use Rattle.events.specs.declared.Entry.{Entry}
 use Rattle.events.specs.declared.Event.{Event}
 use Rattle.events.specs.declared.Event.the-variants as Event
@@ -46,14 +46,13 @@ use Rattle.watching.specs.declared.SessionEvent.the-variants as SessionE
 use Rattle.watching.specs.declared.SessionSetup.{SessionSetup}
 use Rattle.watching.specs.declared.SessionState.the-variants.{Synchronizing, Running}
 use Rattle.watching.specs.declared.SyncedInput.{SyncedInput}
-use Rattle.watching.specs.declared.PlayerInput.{PlayerInput}
 use Rattle.watching.specs.Setup.{hostSetup, badLimits, badSession}
-use Rattle.watching.specs.Watch.{Watch, madeWatch, withHost, withState, withCurrent, withNewest, withEvents}
+use Rattle.watching.specs.Watch.{Watch, madeWatch, withHost, withState, withCurrent, withNewest}
 use Rattle.watching.specs.Inputs.{blankInput, freshInputs, inputStored, inputAt}
 use Rattle.watching.specs.Handling.{lastOf, toldTo, tell, inputHandled, handled, handledAll}
 use Rattle.watching.specs.Advance.{framesToAdvance, framesRefusal, syncedAt, requestAt, requestsFrom, requestsOf, advanceRefusal}
 use Rattle.watching.specs.Call.{Call}
-use Rattle.watching.specs.Step.{Did, fresh, refused, decided, byHost, hostActs, hostTakes, pollRefusal, polled, pollStep, advanceStep, framesBehindStep, step}
+use Rattle.watching.specs.Step.{fresh, refused, decided, byHost, hostActs, hostTakes, pollRefusal, polled, pollStep, advanceStep, framesBehindStep, step}
 use Rattle.watching.specs.Value.{Value, valueOf}
 
 -- ---- the session of the examples
@@ -206,6 +205,8 @@ setups = (refl, refl, refl, refl, refl, refl, refl, refl, refl, refl, refl, refl
 handshakes :
     (step Call.advanceFrame (new 4 8 2 1) .answer ≡ 14)
     × (after handshake (new 4 8 2 1) ≡ synced 4 8 2 1)
+    -- the host is in Running, the session not yet
+    × (step Call.advanceFrame (synced 4 8 2 1) .answer ≡ 14)
     × (step poll (synced 4 8 2 1) .after .events
     ≡ by3 (SessionEvent.Synchronizing 5 1)
     ∷ by3 (SessionEvent.Synchronizing 5 2)
@@ -222,7 +223,7 @@ handshakes :
     × (step (Call.synchronize 1000 (epochAt 1000) 1 65536) (ready 4 8 2 1) .answer ≡ 2)
     × (step (Call.synchronize 1000 (epochAt 1000) 1 9) (new 4 8 2 1) ≡ record { answer = 5; after = new 4 8 2 1; out = [] })
 unfolding kept has without xors framesOf unpack pack decodableLength decodable zeros padded dropTo lastTo room blank highest newestOf foundIn atLine above numbered packetOf takenIn issued fits defaultStatus reported merged mergedAll freshStatuses hasRoom inputOf inputEntry announced badSetup anyAbove anyTwice inserted sorted termsWith made hostRefused hostDecided queueWire sizes done bufferFull isFull nonceIssued request started synchronized counted running replied onSyncReply droppedTo acknowledged pendingQueued referenceFrame taken receivedIf receive announcedEach discarded packetOverflows statusesMerged informed gotten inputTaken inputUnless onInput resent actReported keptAlive interrupted timedOut acted clamped reportQueued roundTrip roundTripNoted onQualityReply advantageOf advantageOverflows localAdvantage advantageUpdated synchronizeStep filtered ignored resumed heard onBody messageStep actStep advantageStep takeStep statsOf filledPart hostSetup badLimits badSession madeWatch blankInput freshInputs inputStored inputAt lastOf toldTo tell inputHandled handled handledAll framesToAdvance framesRefusal syncedAt requestAt requestsFrom requestsOf advanceRefusal fresh refused decided byHost hostActs hostTakes pollRefusal polled pollStep advanceStep framesBehindStep step valueOf
-handshakes = (refl, refl, refl, refl, refl, refl, refl, refl)
+handshakes = (refl, refl, refl, refl, refl, refl, refl, refl, refl)
 
 -- ---- inputs
 
@@ -236,12 +237,24 @@ told = after (two ∷ []) (ready 4 8 2 1)
 abbrev stored : Watch
 stored = after (poll ∷ []) told
 
+-- a round trip of 100 first: the advantage is 1 + 3 - 1
+abbrev paced : Watch
+paced = after (handFrom 3 (wire (QualityReply (record { low = 70900; high = 0 })) [] []) 1000 0 ∷ two ∷ poll ∷ []) (ready 4 8 2 1)
+
+-- frame 0 stored; then player 1 is said to be gone since before it, by a packet without frames, and by one with frame 1
+abbrev begun : Watch
+begun = after (packet (fr 0) none (1 ∷ 1 ∷ []) ∷ poll ∷ []) (ready 4 8 9 1)
+
+abbrev without1 : List ℕ → Call
+without1 payload = packet (fr 1) (report false nullFrame ∷ report true nullFrame ∷ []) payload
+
 watches :
     -- nothing is there: 16
     (step Call.advanceFrame (ready 4 8 2 1) .answer ≡ 16)
     -- a message alone brings no frame: its events wait for the poll
     × (told .newest ≡ nullFrame)
     × (step Call.advanceFrame told .answer ≡ 16)
+    × (valueOf Call.framesBehindHost told ≡ Value.count 0)
     × (stored .newest ≡ fr 1)
     × (stored .statuses ≡ record { disconnected = false; «last_frame» = fr 1 } ∷ record { disconnected = true; «last_frame» = fr 0 } ∷ [])
     × (valueOf Call.framesBehindHost stored ≡ Value.count 2)
@@ -252,12 +265,17 @@ watches :
     × (step Call.advanceFrame (after (Call.advanceFrame ∷ Call.advanceFrame ∷ []) stored) .answer ≡ 16)
     -- the host's advantage is that of the last event's frame: 1 - 1
     × (stored .host .quality .«local_frame_advantage» ≡ bias32)
+    × (paced .host .quality .«local_frame_advantage» ≡ bias32 + 3)
+    -- the statuses are copied with an Input event alone, and a frame is given by the session's copy
+    × (advance (after (without1 [] ∷ []) begun) ≡ (0, Value.requests ((confirmed 1 ∷ confirmed 1 ∷ []) ∷ [])))
+    × (advance (after (without1 [] ∷ poll ∷ []) begun) ≡ (0, Value.requests ((confirmed 1 ∷ confirmed 1 ∷ []) ∷ [])))
+    × (advance (after (without1 (3 ∷ 3 ∷ []) ∷ poll ∷ []) begun) ≡ (0, Value.requests ((confirmed 1 ∷ gone 1 ∷ []) ∷ [])))
     -- the poll hands back what the host had queued for its inputs, and what its act adds
     × (valueOf poll told ≡ Value.part 10)
     × (stored .host .queued ≡ 0)
     × (valueOf (pollAt 1201 65536) told ≡ Value.part 34)
 unfolding kept has without xors framesOf unpack pack decodableLength decodable zeros padded dropTo lastTo room blank highest newestOf foundIn atLine above numbered packetOf takenIn issued fits defaultStatus reported merged mergedAll freshStatuses hasRoom inputOf inputEntry announced badSetup anyAbove anyTwice inserted sorted termsWith made hostRefused hostDecided queueWire sizes done bufferFull isFull nonceIssued request started synchronized counted running replied onSyncReply droppedTo acknowledged pendingQueued referenceFrame taken receivedIf receive announcedEach discarded packetOverflows statusesMerged informed gotten inputTaken inputUnless onInput resent actReported keptAlive interrupted timedOut acted clamped reportQueued roundTrip roundTripNoted onQualityReply advantageOf advantageOverflows localAdvantage advantageUpdated synchronizeStep filtered ignored resumed heard onBody messageStep actStep advantageStep takeStep statsOf filledPart hostSetup badLimits badSession madeWatch blankInput freshInputs inputStored inputAt lastOf toldTo tell inputHandled handled handledAll framesToAdvance framesRefusal syncedAt requestAt requestsFrom requestsOf advanceRefusal fresh refused decided byHost hostActs hostTakes pollRefusal polled pollStep advanceStep framesBehindStep step valueOf
-watches = (refl, refl, refl, refl, refl, refl, refl, refl, refl, refl, refl, refl, refl, refl)
+watches = (refl, refl, refl, refl, refl, refl, refl, refl, refl, refl, refl, refl, refl, refl, refl, refl, refl, refl, refl)
 
 -- ---- falling behind
 
@@ -268,9 +286,16 @@ three behind speed = after (packet (fr 0) none (1 ∷ 1 ∷ 2 ∷ 2 ∷ 3 ∷ 3 
 abbrev pair : ℕ → List SyncedInput
 pair b = confirmed b ∷ confirmed b ∷ []
 
--- frames 0 to 4 in a session of two slots
-abbrev five : Watch
-five = after (packet (fr 0) none (1 ∷ 1 ∷ 2 ∷ 2 ∷ 3 ∷ 3 ∷ 4 ∷ 4 ∷ 5 ∷ 5 ∷ []) ∷ poll ∷ []) (ready 2 8 9 1)
+-- frames 0 to 3, and 0 to 4, in sessions that go as fast as they can from two behind on
+abbrev four : Watch
+four = after (packet (fr 0) none (1 ∷ 1 ∷ 2 ∷ 2 ∷ 3 ∷ 3 ∷ 4 ∷ 4 ∷ []) ∷ poll ∷ []) (ready 4 8 2 100)
+
+abbrev five : (slots behind speed : ℕ) → Watch
+five slots behind speed = after (packet (fr 0) none (1 ∷ 1 ∷ 2 ∷ 2 ∷ 3 ∷ 3 ∷ 4 ∷ 4 ∷ 5 ∷ 5 ∷ []) ∷ poll ∷ []) (ready slots 8 behind speed)
+
+-- frames 0 to 2 in a session of eight slots
+abbrev roomy : Watch
+roomy = after (packet (fr 0) none (1 ∷ 1 ∷ 2 ∷ 2 ∷ 3 ∷ 3 ∷ []) ∷ poll ∷ []) (ready 8 8 2 100)
 
 -- a session whose first frame is 7, and then 8
 abbrev seventh : Watch
@@ -286,16 +311,19 @@ catches-up :
     × (advance (three 2 2) ≡ (0, Value.requests (pair 1 ∷ pair 2 ∷ [])))
     × (after (Call.advanceFrame ∷ []) (three 2 2) .current ≡ fr 1)
     × (advance (three 2 100) ≡ (0, Value.requests (pair 1 ∷ pair 2 ∷ pair 3 ∷ [])))
+    × (advance four ≡ (0, Value.requests (pair 1 ∷ pair 2 ∷ pair 3 ∷ [])))
+    × (advance roomy ≡ (0, Value.requests (pair 1 ∷ pair 2 ∷ pair 3 ∷ [])))
+    × (step Call.advanceFrame (five 4 2 100) .answer ≡ 17)
     -- a speed of 0 gives an empty list
     × (advance (three 2 0) ≡ (0, Value.requests []))
     × (after (Call.advanceFrame ∷ []) (three 2 0) .current ≡ nullFrame)
     -- two slots hold frames 3 and 4: frame 0 is gone
-    × (step Call.advanceFrame five ≡ record { answer = 17; after = five; out = [] })
+    × (step Call.advanceFrame (five 2 9 1) ≡ record { answer = 17; after = five 2 9 1; out = [] })
     -- a first frame other than 0: 16 while slot 0 is blank, then 17
     × (step Call.advanceFrame seventh .answer ≡ 16)
     × (step Call.advanceFrame eighth .answer ≡ 17)
 unfolding kept has without xors framesOf unpack pack decodableLength decodable zeros padded dropTo lastTo room blank highest newestOf foundIn atLine above numbered packetOf takenIn issued fits defaultStatus reported merged mergedAll freshStatuses hasRoom inputOf inputEntry announced badSetup anyAbove anyTwice inserted sorted termsWith made hostRefused hostDecided queueWire sizes done bufferFull isFull nonceIssued request started synchronized counted running replied onSyncReply droppedTo acknowledged pendingQueued referenceFrame taken receivedIf receive announcedEach discarded packetOverflows statusesMerged informed gotten inputTaken inputUnless onInput resent actReported keptAlive interrupted timedOut acted clamped reportQueued roundTrip roundTripNoted onQualityReply advantageOf advantageOverflows localAdvantage advantageUpdated synchronizeStep filtered ignored resumed heard onBody messageStep actStep advantageStep takeStep statsOf filledPart hostSetup badLimits badSession madeWatch blankInput freshInputs inputStored inputAt lastOf toldTo tell inputHandled handled handledAll framesToAdvance framesRefusal syncedAt requestAt requestsFrom requestsOf advanceRefusal fresh refused decided byHost hostActs hostTakes pollRefusal polled pollStep advanceStep framesBehindStep step valueOf
-catches-up = (refl, refl, refl, refl, refl, refl, refl, refl, refl)
+catches-up = (refl, refl, refl, refl, refl, refl, refl, refl, refl, refl, refl, refl)
 
 -- ---- overflow
 
@@ -313,6 +341,10 @@ slow = let w : Watch = ready 4 8 9 1 in withHost (withQuality (tripNoted 7158279
 abbrev slowly : Watch
 slowly = after (two ∷ poll ∷ []) slow
 
+-- and after an advantage of 3
+abbrev slower : Watch
+slower = after (packet (fr 2) none (1 ∷ 1 ∷ []) ∷ poll ∷ []) (withHost (withQuality (tripNoted 71582790 (paced .host .quality)) (paced .host)) paced)
+
 overflows :
     -- i32 max less -1
     (step Call.framesBehindHost farthest .answer ≡ 6)
@@ -324,11 +356,13 @@ overflows :
     × (step Call.advanceFrame (withNewest (2 ^ 32 - 1) (new 4 8 9 1)) .answer ≡ 14)
     -- a refusal 6 of the advantage leaves it as it was, and all else is done
     × (slowly .host .quality .«local_frame_advantage» ≡ bias32)
+    × (slower .host .quality .«local_frame_advantage» ≡ bias32 + 3)
+    × (slower .newest ≡ fr 2)
     × (slowly .newest ≡ fr 1)
     × (slowly .statuses ≡ stored .statuses)
     × (slowly .inputs ≡ stored .inputs)
 unfolding kept has without xors framesOf unpack pack decodableLength decodable zeros padded dropTo lastTo room blank highest newestOf foundIn atLine above numbered packetOf takenIn issued fits defaultStatus reported merged mergedAll freshStatuses hasRoom inputOf inputEntry announced badSetup anyAbove anyTwice inserted sorted termsWith made hostRefused hostDecided queueWire sizes done bufferFull isFull nonceIssued request started synchronized counted running replied onSyncReply droppedTo acknowledged pendingQueued referenceFrame taken receivedIf receive announcedEach discarded packetOverflows statusesMerged informed gotten inputTaken inputUnless onInput resent actReported keptAlive interrupted timedOut acted clamped reportQueued roundTrip roundTripNoted onQualityReply advantageOf advantageOverflows localAdvantage advantageUpdated synchronizeStep filtered ignored resumed heard onBody messageStep actStep advantageStep takeStep statsOf filledPart hostSetup badLimits badSession madeWatch blankInput freshInputs inputStored inputAt lastOf toldTo tell inputHandled handled handledAll framesToAdvance framesRefusal syncedAt requestAt requestsFrom requestsOf advanceRefusal fresh refused decided byHost hostActs hostTakes pollRefusal polled pollStep advanceStep framesBehindStep step valueOf
-overflows = (refl, refl, refl, refl, refl, refl, refl, refl, refl)
+overflows = (refl, refl, refl, refl, refl, refl, refl, refl, refl, refl, refl)
 
 -- ---- the poll's refusals
 
@@ -346,6 +380,7 @@ polls :
     -- the host's own act has no room for the event of an interruption; the poll handles all, the new one last
     × (actStep 2 (crowded .statuses) 60000 130000 99 65536 (crowded .host) .answer ≡ 5)
     × (step (pollAt 60000 65536) crowded .answer ≡ 0)
+    × (step (pollAt 60000 65536) crowded .after .host .events ≡ [])
     × (step (pollAt 60000 65536) crowded .after .events ≡ by3 SessionEvent.NetworkResumed ∷ by3 (SessionEvent.NetworkInterrupted 50000) ∷ [])
 unfolding kept has without xors framesOf unpack pack decodableLength decodable zeros padded dropTo lastTo room blank highest newestOf foundIn atLine above numbered packetOf takenIn issued fits defaultStatus reported merged mergedAll freshStatuses hasRoom inputOf inputEntry announced badSetup anyAbove anyTwice inserted sorted termsWith made hostRefused hostDecided queueWire sizes done bufferFull isFull nonceIssued request started synchronized counted running replied onSyncReply droppedTo acknowledged pendingQueued referenceFrame taken receivedIf receive announcedEach discarded packetOverflows statusesMerged informed gotten inputTaken inputUnless onInput resent actReported keptAlive interrupted timedOut acted clamped reportQueued roundTrip roundTripNoted onQualityReply advantageOf advantageOverflows localAdvantage advantageUpdated synchronizeStep filtered ignored resumed heard onBody messageStep actStep advantageStep takeStep statsOf filledPart hostSetup badLimits badSession madeWatch blankInput freshInputs inputStored inputAt lastOf toldTo tell inputHandled handled handledAll framesToAdvance framesRefusal syncedAt requestAt requestsFrom requestsOf advanceRefusal fresh refused decided byHost hostActs hostTakes pollRefusal polled pollStep advanceStep framesBehindStep step valueOf
-polls = (refl, refl, refl, refl, refl, refl, refl, refl)
+polls = (refl, refl, refl, refl, refl, refl, refl, refl, refl)

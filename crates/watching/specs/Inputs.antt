@@ -1,6 +1,6 @@
 -- The inputs that a session holds: B slots one after the other, each of four places, one per player (those past the players stay blank). A frame
 -- goes to the slot of its number mod B, over whatever frame stood there.
-use mathlib.Core.List.{List, []}
+use mathlib.Core.List.{List}
 use mathlib.Core.Path.{_≡_, refl}
 use Prim.Native.Nat.{ℕ, _+_, _-_, _*_, _%_, min}
 use lib.ListN.{replicate, getD, set}

@@ -1,7 +1,6 @@
 -- The setup of a session (document 01, "Ceilings"): the setup of its host's endpoint, and when a number lies outside.
 use mathlib.Core.Bool.{Bool, _||_}
-use mathlib.Core.List.{List, [], _∷_}
-use Prim.Native.Nat.{ℕ}
+use mathlib.Core.List.{[], _∷_}
 use lib.Dec.{ltb}
 use Rattle.setup.specs.Setup.{outside, anyOf, badSetup}
 use Rattle.setup.specs.declared.Setup.{Setup}

@@ -1,5 +1,4 @@
 -- What each call does. What the host refuses, the session refuses, with the host's number; its own refusals are 14, 6, 16, 17, in this order.
-use mathlib.Core.Bool.{Bool, _||_}
 use mathlib.Core.List.{List, [], _∷_, _++_}
 use Prim.Native.Nat.{ℕ}
 use lib.Dec.{eqb}
@@ -8,7 +7,7 @@ use Rattle.base.specs.Pick.{pick}
 use Rattle.base.specs.First.{firstOf}
 use Rattle.codec.specs.Message.{Wire}
 use Rattle.timers.specs.Timers.{badClock}
-use Rattle.protocol.specs.Seen.{Seen, withEvents}
+use Rattle.protocol.specs.Seen.{withEvents}
 use Rattle.protocol.specs.Did as Host
 use Rattle.protocol.specs.Step.{synchronizeStep, messageStep, datagramStep, actStep, statsStep, takeStep}
 use Rattle.watching.specs.declared.SessionSetup.{SessionSetup}
