@@ -1,7 +1,7 @@
 #!/usr/bin/env python3
 """compare.py REPLAY DIR: runs DIR's scripts on the program REPLAY and holds what it writes against DIR's answers, call by call.
 
-The spectator is not built. Left out are the calls of object 2 once a script uses it, and all calls of an endpoint from the first
+`replay` does not play the spectator yet. Left out are the calls of object 2 once a script uses it, and all calls of an endpoint from the first
 on that carries bytes from there."""
 
 import struct

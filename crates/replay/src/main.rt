@@ -106,7 +106,7 @@ fn print(digest: bool, record: Record, before: Endpoint, outcome: Outcome, array
     put_side(given, outcome.side, array).end();
 }
 
-// The spectator is not built: it never exists, and its array stays zero.
+// The spectator is not played yet: it never exists, and its array stays zero.
 fn spectator(digest: bool, record: Record) {
     if record.object != SPECTATOR {
         return;
