@@ -1,13 +1,14 @@
 -- A kind's number tells the body, for crates that branch by the number.
+use mathlib.Core.Bool.{Bool}
 use mathlib.Core.Path.{_≡_, refl, sym, _∙_, subst}
 use mathlib.Core.List.{List}
 use Prim.Native.Nat.{ℕ}
-use native.Mathlib.Omega.{arith}
 use lib.Dec.{T}
 use types.Run.{OneOf}
 use denote.Enum.Declared.{tagOf}
 use Rattle.base.proofs.Tags.{noneb, none-of}
 use Rattle.codec.specs.Message.{kindOf}
+use Rattle.codec.specs.declared.Wide.{Wide}
 use Rattle.codec.specs.declared.MessageBody.{MessageBody}
 use Rattle.codec.specs.declared.MessageBody.the-variants.{SyncRequest, SyncReply, Input, InputAck, QualityReport, QualityReply, ChecksumReport, KeepAlive}
 use Rattle.codec.proofs.MessageBody.{the-type}
@@ -28,16 +29,34 @@ kind-tag KeepAlive = refl
 pub kind-other : (b : MessageBody) (k r : ℕ) (others : List ℕ) → r ≡ kindOf b → r ≡ k → T (noneb others k) → OneOf others (tagOf the-type b) → ⊥
 kind-other b k r others e f t h = none-of others k t (subst (OneOf others) (kind-tag b ∙ sym e ∙ f) h)
 
-pub kind-alive : (b : MessageBody) → kindOf b ≡ 7 → b ≡ KeepAlive
+-- the numbers, for crates that must not open them
+pub kind-sync-request : (n : ℕ) → kindOf (SyncRequest n) ≡ 0
 unfolding kindOf
-kind-alive (SyncRequest n) h = absurd (omega arith)
-kind-alive (SyncReply n) h = absurd (omega arith)
-kind-alive (Input d s a) h = absurd (omega arith)
-kind-alive (InputAck a) h = absurd (omega arith)
-kind-alive (QualityReport a p) h = absurd (omega arith)
-kind-alive (QualityReply p) h = absurd (omega arith)
-kind-alive (ChecksumReport c f) h = absurd (omega arith)
-kind-alive KeepAlive h = refl
+kind-sync-request n = refl
+
+pub kind-sync-reply : (n : ℕ) → kindOf (SyncReply n) ≡ 1
+unfolding kindOf
+kind-sync-reply n = refl
+
+pub kind-input : (d : Bool) (s a : ℕ) → kindOf (Input d s a) ≡ 2
+unfolding kindOf
+kind-input d s a = refl
+
+pub kind-input-ack : (a : ℕ) → kindOf (InputAck a) ≡ 3
+unfolding kindOf
+kind-input-ack a = refl
+
+pub kind-quality-report : (a : ℕ) (p : Wide) → kindOf (QualityReport a p) ≡ 4
+unfolding kindOf
+kind-quality-report a p = refl
+
+pub kind-quality-reply : (p : Wide) → kindOf (QualityReply p) ≡ 5
+unfolding kindOf
+kind-quality-reply p = refl
+
+pub kind-checksum-report : (c : Wide) (f : ℕ) → kindOf (ChecksumReport c f) ≡ 6
+unfolding kindOf
+kind-checksum-report c f = refl
 
 -- there is no ninth
 pub kind-is-one : (b : MessageBody) (k : ℕ) → k ≡ kindOf b

@@ -1,4 +1,4 @@
--- The ways out of `on_input_ack`.
+-- The ways out of an InputAck.
 use mathlib.Core.Bool.{true, false}
 use mathlib.Core.Path.{_≡_, refl}
 use Prim.Native.Nat.{ℕ}

@@ -1,11 +1,12 @@
 -- The ways out of act, by phase.
-use borrow.Author.Tests.{lt-ltb, le-ltb, eq-eqb, ne-eqb}
+use borrow.Author.Tests.{lt-ltb, le-ltb, lt-leb, le-leb, eq-eqb, ne-eqb}
 use denote.Enum.Declared.{tagOf}
-use mathlib.Core.Bool.{Bool, true, false}
+use mathlib.Core.Bool.{Bool, true, false, _||_}
 use mathlib.Core.List.{List, [], _∷_, _++_, append-nil}
 use mathlib.Core.Path.{_≡_, refl, sym, _∙_, ap}
 use types.Run.{OneOf}
-use Prim.Native.Nat.{ℕ, _-_, _<_, _≤_}
+use native.Mathlib.Omega.{arith}
+use Prim.Native.Nat.{ℕ, _+_, _-_, _<_, _≤_}
 use lib.Dec.{ltb}
 use lib.ListN.{length}
 use Rattle.base.specs.Pick.{pick}
@@ -21,8 +22,10 @@ use Rattle.nonces.specs.Nonces.{outstanding}
 use Rattle.timers.specs.declared.Clocks.{Clocks}
 use Rattle.timers.specs.Timers.{badClocks, passed}
 use Rattle.events.specs.declared.Entry.{Entry}
+use Rattle.events.specs.declared.Events.{Events}
 use Rattle.events.specs.declared.Pushed.{Pushed}
-use Rattle.events.specs.Events.{held, hasRoom, PushedAs}
+use Rattle.events.specs.Events.{held, hasRoom, both, PushedAs}
+use Rattle.events.proofs.Laws.{both-length}
 use Rattle.setup.specs.Setup.{termsOf, termsWith, sendingWidth}
 use Rattle.outbox.specs.Outbox.{sizes}
 use Rattle.protocol.specs.declared.Flags.{Flags}
@@ -33,7 +36,7 @@ use Rattle.protocol.specs.Seen.{Seen, withPhase, withEvents, withQueued}
 use Rattle.protocol.specs.Did.{Did, Effect, begin, change, queueWire, decided, done}
 use Rattle.protocol.specs.Room.{bufferFull}
 use Rattle.protocol.specs.Handshake.{Reaction, nonceIssued, request}
-use Rattle.protocol.specs.Act.{acted}
+use Rattle.protocol.specs.Act.{acted, requestChoked}
 use Rattle.protocol.specs.Call.{Call}
 use Rattle.protocol.specs.Step.{reacted, actStep, step}
 use Rattle.endpoint.specs.declared.Endpoint.{Endpoint}
@@ -44,13 +47,23 @@ use Rattle.endpoint.specs.Endpoint.{seen, DidAs, DoneAs}
 use Rattle.endpoint.specs.Handshaking.{RequestedAs}
 use Rattle.endpoint.specs.Due.{dueOf, clocksBy, flagsBy, toldBy}
 use Rattle.endpoint.specs.Batch.{batch, BatchSizedAs, WrittenAs, WrittenWhere}
-use Rattle.endpoint.specs.Acts.{acts}
 use Rattle.endpoint.proofs.Ends.{remade, refused-did, done-done, queued-did}
 use Rattle.endpoint.proofs.Settles.{did-settled}
 use Rattle.endpoint.proofs.Rooms.{full-events, room-none, full-bytes, room-bytes, reacted-full, reacted-done}
 use Rattle.endpoint.proofs.Unqueued.{unqueued}
 use Rattle.endpoint.proofs.Asks.{request-full, request-fits}
+use Rattle.endpoint.proofs.Batches.{empty, none-sent, written-none}
 use Rattle.endpoint.proofs.Runs.{ran, running-is}
+
+-- act by phase, as a reaction: past the tests for 8 and 3 it is refused for room alone
+unfoldable pub acts : Phase → (now epoch nonce : ℕ) → List ConnectionStatus → Seen → Reaction
+acts p now epoch nonce statuses s =
+    record {
+      tooLong = false;
+      overflows = false;
+      storeFull = requestChoked p now nonce s;
+      effect = acted p now epoch nonce statuses (begin s);
+    }
 
 -- done, with several messages queued or none
 batch-did : (e n : Endpoint) (f : Effect) (d : Did) (buffer buffer′ : List ℕ) (stop : ℕ) → d ≡ done f → f .state .queued ≡ e .queued
@@ -62,49 +75,108 @@ batch-did e n f d buffer buffer′ stop h k w after =
 
 -- ---- Running
 
-module _ (e : Endpoint) (buffer : List ℕ) (statuses : Statuses) (now epoch pending : ℕ) (d : Due) (some : pending ≡ length (waiting (e .sender .pending)))
-    (due : d ≡ dueOf now (e .clocks) (e .flags) (ltb 0 pending) (e .setup .«disconnect_notify_start») (e .setup .«disconnect_timeout»)) where
-  abbrev Run : Reaction
-  Run = acts Running now epoch 0 (heldStatuses statuses) (seen e)
+-- e with other events and another end of its queue
+abbrev pub grown : Endpoint → Events → ℕ → Endpoint
+grown e events queued =
+    remade e (e .sender) (e .history) (e .phase) (e .sync) (e .clocks) (e .flags) (e .quality) (e .statuses) (e .checksums) events queued
 
+module _ (e : Endpoint) (buffer : List ℕ) (statuses : Statuses) (now epoch : ℕ) (d : Due) where
   abbrev Ran : Effect
   Ran = ran now (seen e) (heldStatuses statuses) epoch d
-
-  abbrev Ending : Answer → Endpoint → List ℕ → Type 0
-  Ending a n buffer′ = DidAs e (reacted (length buffer) (seen e) Run) buffer (record { answer = a; endpoint = n }) buffer′
-
-  ran-is : Run .effect ≡ Ran
-  unfolding acts seen termsWith
-  ran-is = running-is now (seen e) (heldStatuses statuses) epoch 0 ∙ ap (ran now (seen e) (heldStatuses statuses) epoch) (sym (rw some at due))
 
   abbrev Told : List Entry
   Told = toldBy d (e .setup .«disconnect_timeout» - e .setup .«disconnect_notify_start»)
 
-  module _ (p : Pushed) (told : PushedAs (e .events) (hasRoom (held (e .events)) (length Told)) Told p) where
-    pub running-untold : p .ok ≡ false → Ending Full e buffer
+  -- s: e with the messages that are due queued
+  abbrev pub Packed : Endpoint → List ℕ → Type 0
+  Packed s buffer′ =
+      (s ≡ grown e (e .events) (s .queued))
+      × (bufferFull (length buffer) (e .queued) (sizes (Ran .out)) ≡ false)
+      × WrittenAs buffer (e .queued) (Ran .out) (s .queued) buffer′
+
+  -- t: s with the events that are due told
+  abbrev pub Announced : Endpoint → Endpoint → Type 0
+  Announced s t = (t ≡ grown e (t .events) (s .queued)) × (held (t .events) ≡ held (e .events) ++ Told)
+
+  pub packed-none : (d .input || d .report) || d .«keep_alive» ≡ false → Packed e buffer
+  unfolding batch bufferFull sizes
+  packed-none h =
+      let none : Ran .out ≡ [] = none-sent _ _ _ (d .input) (d .report) (d .«keep_alive») h in
+      (refl, rw none, rw none (written-none buffer (e .queued) refl))
+
+  module _ (width size : ℕ) (full : Bool) (wide : width ≡ sendingWidth (termsOf (e .setup)))
+      (sized : BatchSizedAs d (heldStatuses statuses) (waiting (e .sender .pending)) width (e .sender .acked) size) (tested : full ≡ bufferFull (length buffer) (e .queued) size) where
+    pub size-is : bufferFull (length buffer) (e .queued) (sizes (Ran .out)) ≡ full
+    unfolding seen termsWith
+    size-is = rw (← wide, sized, tested)
+
+    pub packed-some : (ack stop : ℕ) (buffer′ : List ℕ) → full ≡ false → ack ≡ newestOf (received (e .history))
+        → WrittenWhere buffer (e .queued) (batch d (e .setup .magic) ack (heldStatuses statuses) (waiting (e .sender .pending)) width (e .sender .acked) (e .quality .«local_frame_advantage») epoch) stop buffer′
+        → Packed (grown e (e .events) stop) buffer′
+    unfolding seen termsWith
+    packed-some ack stop buffer′ k newest written =
+        (refl, size-is ∙ k, rw (newest, wide) at (written (rw (sized (e .setup .magic) ack (e .quality .«local_frame_advantage») epoch) (sym tested ∙ k))))
+
+  -- n events wait, m are due
+  module _ (n m : ℕ) (en : n ≡ length (held (e .events))) (em : m ≡ pick (d .interruption) 1 0 + pick (d .disconnect) 1 0) where
+    told-many : length Told ≡ m
+    unfolding toldBy both
+    told-many = rw em (both-length (d .interruption) _ (d .disconnect) _)
+
+    pub told-full : 640 < n + m → hasRoom (held (e .events)) (length Told) ≡ false
+    unfolding hasRoom
+    told-full h = lt-leb (length (held (e .events)) + length Told) 640 (omega (arith, en, told-many, h))
+
+    pub told-fits : n + m ≤ 640 → hasRoom (held (e .events)) (length Told) ≡ true
+    unfolding hasRoom
+    told-fits h = le-leb (length (held (e .events)) + length Told) 640 (omega (arith, en, told-many, h))
+
+    module _ (s : Endpoint) (kept : s ≡ grown e (e .events) (s .queued)) where
+      events-kept : s .events ≡ e .events
+      events-kept = ap (λ (x : Endpoint). x .events) kept
+
+      pub announced-none : m ≤ 0 → Announced s s
+      announced-none h =
+          let none : Told ≡ [] = empty Told (omega (arith, told-many, h)) in
+          (kept ∙ ap (λ (v : Events). grown e v (s .queued)) (sym events-kept), rw (events-kept, none, append-nil))
+
+      pub announced-some : n + m ≤ 640 → (p : Pushed) → PushedAs (s .events) (hasRoom (held (s .events)) (length Told)) Told p → Announced s (grown s (p .events) (s .queued))
+      announced-some h p ep =
+          (ap (λ (x : Endpoint). grown x (p .events) (s .queued)) kept, rw (events-kept, told-fits h) at (ep .view))
+
+  module _ (pending : ℕ) (some : pending ≡ length (waiting (e .sender .pending)))
+      (due : d ≡ dueOf now (e .clocks) (e .flags) (ltb 0 pending) (e .setup .«disconnect_notify_start») (e .setup .«disconnect_timeout»)) where
+    abbrev Run : Reaction
+    Run = acts Running now epoch 0 (heldStatuses statuses) (seen e)
+
+    abbrev Ending : Answer → Endpoint → List ℕ → Type 0
+    Ending a n buffer′ = DidAs e (reacted (length buffer) (seen e) Run) buffer (record { answer = a; endpoint = n }) buffer′
+
+    ran-is : Run .effect ≡ Ran
     unfolding acts seen termsWith
-    running-untold k =
-        refused-did e Full _ (reacted-full (length buffer) (seen e) Run refl refl (rw ran-is (full-events buffer Ran (sym (told .ok) ∙ k)))) buffer
+    ran-is = running-is now (seen e) (heldStatuses statuses) epoch 0 ∙ ap (ran now (seen e) (heldStatuses statuses) epoch) (sym (rw some at due))
 
-    module _ (width size : ℕ) (full : Bool) (wide : width ≡ sendingWidth (termsOf (e .setup)))
-        (sized : BatchSizedAs d (heldStatuses statuses) (waiting (e .sender .pending)) width (e .sender .acked) size) (tested : full ≡ bufferFull (length buffer) (e .queued) size) where
-      size-is : bufferFull (length buffer) (Ran .state .queued) (sizes (Ran .out)) ≡ full
-      unfolding seen termsWith
-      size-is = rw (← wide, sized, tested)
+    pub running-untold : hasRoom (held (e .events)) (length Told) ≡ false → Ending Full e buffer
+    unfolding acts seen termsWith
+    running-untold h = refused-did e Full _ (reacted-full (length buffer) (seen e) Run refl refl (rw ran-is (full-events buffer Ran h))) buffer
 
-      pub running-full : full ≡ true → Ending Full e buffer
-      unfolding acts
-      running-full k = refused-did e Full _ (reacted-full (length buffer) (seen e) Run refl refl (rw ran-is (full-bytes buffer Ran (size-is ∙ k)))) buffer
+    pub running-full : bufferFull (length buffer) (e .queued) (sizes (Ran .out)) ≡ true → Ending Full e buffer
+    unfolding acts seen
+    running-full h = refused-did e Full _ (reacted-full (length buffer) (seen e) Run refl refl (rw ran-is (full-bytes buffer Ran h))) buffer
 
-      pub running-done : (ack stop : ℕ) (buffer′ : List ℕ) (c : Clocks) (f : Flags) → p .ok ≡ true → full ≡ false → ack ≡ newestOf (received (e .history))
-          → WrittenWhere buffer (e .queued) (batch d (e .setup .magic) ack (heldStatuses statuses) (waiting (e .sender .pending)) width (e .sender .acked) (e .quality .«local_frame_advantage») epoch) stop buffer′
-          → c ≡ clocksBy d now (e .clocks) → f ≡ flagsBy d (e .flags)
-          → Ending Done (remade e (e .sender) (e .history) (e .phase) (e .sync) c f (e .quality) (e .statuses) (e .checksums) (p .events) stop) buffer′
+    module _ (s t : Endpoint) (buffer′ : List ℕ) (c : Clocks) (f : Flags) (room : hasRoom (held (e .events)) (length Told) ≡ true) (packed : Packed s buffer′) (announced : Announced s t) where
+      ends : c ≡ clocksBy d now (e .clocks) → f ≡ flagsBy d (e .flags)
+          → Ending Done (remade e (e .sender) (e .history) (e .phase) (e .sync) c f (e .quality) (e .statuses) (e .checksums) (t .events) (s .queued)) buffer′
       unfolding acts seen termsWith
-      running-done ack stop buffer′ c f ok k newest written ec ef =
-          batch-did e _ Ran _ buffer buffer′ stop
-          (reacted-done (length buffer) (seen e) Run refl refl refl (rw ran-is (room-bytes buffer Ran (sym (told .ok) ∙ ok) (size-is ∙ k))) ∙ ap done ran-is)
-          refl (rw (newest, wide) at (written (rw (sized (e .setup .magic) ack (e .quality .«local_frame_advantage») epoch) (sym tested ∙ k)))) (rw (ec, ef, told .view, sym (told .ok) ∙ ok))
+      ends ec ef =
+          batch-did e _ Ran _ buffer buffer′ (s .queued)
+          (reacted-done (length buffer) (seen e) Run refl refl refl (rw ran-is (room-bytes buffer Ran room (packed .1))) ∙ ap done ran-is)
+          refl (packed .2) (rw (ec, ef, announced .1))
+
+      pub running-done : c ≡ clocksBy d now (t .clocks) → f ≡ flagsBy d (t .flags)
+          → Ending Done (remade t (t .sender) (t .history) (t .phase) (t .sync) c f (t .quality) (t .statuses) (t .checksums) (t .events) (t .queued)) buffer′
+      running-done ec ef =
+          rw (announced .0) (ends (ec ∙ ap (λ (x : Endpoint). clocksBy d now (x .clocks)) (announced .0)) (ef ∙ ap (λ (x : Endpoint). flagsBy d (x .flags)) (announced .0)))
 
 -- ---- the other phases, which tell nothing
 

@@ -32,9 +32,9 @@ pub record Aside (g : Seen → Seen) : Type 0 where
   pub events : (s : Seen) → g s .events ≡ s .events
   pub queued : (s : Seen) → g s .queued ≡ s .queued
 
-module _ (e : Endpoint) (buffer : List ℕ) (now : ℕ) (x : Ears) (body : MessageBody) (g : Seen → Seen) (aside : Aside g) where
-  abbrev Replies : Endpoint → Answer → List ℕ → Effect → Type 0
-  Replies n a b′ h = HeardAs e h x → DidAs e (reacted (length buffer) (seen e) (plainly (queue now body (change g h)))) buffer (record { answer = a; endpoint = n }) b′
+module _ (e : Endpoint) (buffer : List ℕ) (now : ℕ) (body : MessageBody) (g : Seen → Seen) (aside : Aside g) where
+  abbrev Answered : Endpoint → Answer → List ℕ → Effect → Type 0
+  Answered n a b′ h = DidAs e (reacted (length buffer) (seen e) (plainly (queue now body (change g h)))) buffer (record { answer = a; endpoint = n }) b′
 
   abbrev Before : Flags → Seen
   Before f = withFlags f (heardAt now (seen e))
@@ -45,29 +45,32 @@ module _ (e : Endpoint) (buffer : List ℕ) (now : ℕ) (x : Ears) (body : Messa
   abbrev Reply : Wire
   Reply = plain (e .setup .magic) body
 
-  pub reply-untold : x .ok ≡ false → Replies e Full buffer (heard now (seen e))
+  only : (f : Flags) (t : List Entry) → Replying f t .out ≡ Reply ∷ []
+  unfolding queueWire seen termsWith
+  only f t = rw (aside .setup (Before f))
+
+  pub reply-full : (q : Queued) (b′ : List ℕ) → QueuedAs buffer (e .queued) Reply q b′ → 0 < tableSize Reply → q .ok ≡ false → Answered e Full b′ (heard now (seen e))
   unfolding queueWire seen
-  reply-untold k = by-hearing now (seen e) (Replies e Full buffer) (λ f t h.
-      refused-did e Full _ (reacted-full (length buffer) (seen e) _ refl refl (full-events buffer (Replying f t) (rw (aside .events (Before f)) (sym (h .ok) ∙ k)))) buffer)
+  reply-full q b′ eq some k =
+      rw (rw k at (eq .lent)) (by-hearing now (seen e) (Answered e Full buffer) (λ f t.
+      refused-did e Full _ (reacted-full (length buffer) (seen e) _ refl refl
+      (full-buffer buffer (Replying f t) Reply some (only f t) (rw (aside .queued (Before f)) (not-false _ (sym (eq .ok) ∙ k))))) buffer))
 
-  module _ (q : Queued) (b′ : List ℕ) (eq : QueuedAs buffer (e .queued) Reply q b′) (some : 0 < tableSize Reply) where
-    only : (f : Flags) (t : List Entry) → Replying f t .out ≡ Reply ∷ []
-    unfolding queueWire seen termsWith
-    only f t = rw (aside .setup (Before f))
+  module _ (x : Ears) where
+    abbrev Replies : Endpoint → Answer → List ℕ → Effect → Type 0
+    Replies n a b′ h = HeardAs e h x → Answered n a b′ h
 
-    pub reply-full : q .ok ≡ false → Replies e Full b′ (heard now (seen e))
+    pub reply-untold : x .ok ≡ false → Replies e Full buffer (heard now (seen e))
     unfolding queueWire seen
-    reply-full k =
-        rw (rw k at (eq .lent)) (by-hearing now (seen e) (Replies e Full buffer) (λ f t h.
-        refused-did e Full _ (reacted-full (length buffer) (seen e) _ refl refl
-        (full-buffer buffer (Replying f t) Reply some (only f t) (rw (aside .queued (Before f)) (not-false _ (sym (eq .ok) ∙ k))))) buffer))
+    reply-untold k = by-hearing now (seen e) (Replies e Full buffer) (λ f t h.
+        refused-did e Full _ (reacted-full (length buffer) (seen e) _ refl refl (full-events buffer (Replying f t) (rw (aside .events (Before f)) (sym (h .ok) ∙ k)))) buffer)
 
-    pub reply-done : (n : Endpoint) → x .ok ≡ true → q .ok ≡ true
+    pub reply-done : (q : Queued) (b′ : List ℕ) → QueuedAs buffer (e .queued) Reply q b′ → 0 < tableSize Reply → (n : Endpoint) → x .ok ≡ true → q .ok ≡ true
         → ((f : Flags) (t : List Entry) → HeardAs e (hearing now (seen e) f t) x
         → seen n ≡ withEvents (g (Before f) .events ++ t) (withQueued (q .end) (sentAt now (g (Before f)))))
         → Replies n Done b′ (heard now (seen e))
     unfolding queueWire seen
-    reply-done n k ok after = by-hearing now (seen e) (Replies n Done b′) (λ f t h.
+    reply-done q b′ eq some n k ok after = by-hearing now (seen e) (Replies n Done b′) (λ f t h.
         queued-did e n (Replying f t) _
         (reacted-done (length buffer) (seen e) _ refl refl refl
         (room-one buffer (Replying f t) Reply some (only f t) (rw (aside .events (Before f)) (sym (h .ok) ∙ k)) (rw (aside .queued (Before f)) (not-true _ (sym (eq .ok) ∙ ok)))))

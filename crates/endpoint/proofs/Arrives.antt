@@ -1,4 +1,4 @@
--- The ways of `on_input`: discarded, refused for its length or its numbers, and taken by one of two calls.
+-- The ways of an Input: discarded, refused for its length or its numbers, and taken with inputs that can be read or cannot.
 use borrow.Author.Tests.{ltb-false}
 use mathlib.Core.Bool.{Bool, true, false, not, _&&_, _||_}
 use mathlib.Core.List.{List, []}
@@ -30,7 +30,7 @@ use Rattle.endpoint.proofs.Ends.{refused-did}
 use Rattle.endpoint.proofs.Unqueued.{unqueued}
 use Rattle.endpoint.proofs.Receives.{inputless-out}
 
-both : (x y : Bool) → (x && y) ≡ true → (x ≡ true) × (y ≡ true)
+pub both : (x y : Bool) → (x && y) ≡ true → (x ≡ true) × (y ≡ true)
 both true y h = (refl, h)
 both false y h = (cc, cc)
 

@@ -37,7 +37,7 @@ use Rattle.endpoint.proofs.Ends.{remade, refused-did, queued-did}
 use Rattle.endpoint.proofs.Settles.{did-settled}
 use Rattle.endpoint.proofs.Rooms.{full-buffer, room-one}
 
-false-true : false ≡ true → ⊥
+pub false-true : false ≡ true → ⊥
 false-true n = let z : _≡_ {A = ℕ} 0 1 = cc in absurd (omega arith)
 
 module _ (s : Sync) (c : Clocks) (magic now nonce : ℕ) (buffer : List ℕ) (at : ℕ) where

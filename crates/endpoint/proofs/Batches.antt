@@ -1,6 +1,6 @@
 -- Messages written one after another into a buffer that has room for all are one queue; and how long it is.
 use borrow.Author.Tests.{ltb-false, lt-ltb, le-ltb}
-use mathlib.Core.Bool.{Bool, true, false}
+use mathlib.Core.Bool.{Bool, true, false, _||_}
 use mathlib.Core.List.{List, [], _∷_, _++_, flatten, append-nil, append-assoc}
 use mathlib.Core.Logic.{inl, inr}
 use mathlib.Core.Path.{_≡_, refl, sym, _∙_}
@@ -49,6 +49,13 @@ some-bytes (QualityReply pong) n b = omega arith
 some-bytes (ChecksumReport checksum frame) n b = omega arith
 some-bytes KeepAlive n b = omega arith
 
+-- three messages of which none is due
+pub none-sent : (a b c : Wire) (i r k : Bool) → (i || r) || k ≡ false → (pick i (a ∷ []) [] ++ pick r (b ∷ []) []) ++ pick k (c ∷ []) [] ≡ []
+none-sent a b c true r k h = cc
+none-sent a b c false true k h = cc
+none-sent a b c false false true h = cc
+none-sent a b c false false false h = refl
+
 queue-append : (a b : List Wire) → queueOf (a ++ b) ≡ queueOf a ++ queueOf b
 unfolding flatten
 queue-append [] b = refl
@@ -65,7 +72,7 @@ unfolding bufferFull
 room-is n at zero h = refl
 room-is n at (suc k) h = rw (lt-ltb 0 (suc k) (omega arith), le-ltb n (at + suc k) (h (omega arith)))
 
-empty : (l : List ℕ) → length l ≡ 0 → l ≡ []
+pub empty : {A : Type 0} (l : List A) → length l ≡ 0 → l ≡ []
 empty [] h = refl
 empty (x ∷ xs) h = absurd (omega arith)
 

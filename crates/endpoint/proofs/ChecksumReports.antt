@@ -1,4 +1,4 @@
--- The ways out of `on_checksum_report` and of `send_checksum_report`.
+-- The ways out of a ChecksumReport and of `send_checksum_report`.
 use borrow.Author.Tests.{not-true, not-false}
 use mathlib.Core.Bool.{true, false}
 use mathlib.Core.List.{List, [], append-nil}

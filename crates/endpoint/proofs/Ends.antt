@@ -61,10 +61,6 @@ module _ (e : Endpoint) (n : Endpoint) (f : Effect) (d : Did) (h : d ≡ done f)
     unfolding done sizes
     done-done = rw h (record { answer = refl; after = after ∙ rw (o, add-zero); same = λ x. absurd (x refl) })
 
-    pub done-did : (buffer : List ℕ) → DidAs e d buffer (record { answer = Done; endpoint = n }) buffer
-    unfolding done sizes flatten
-    done-did buffer = rw h (record { answer = refl; after = after ∙ rw (o, add-zero); lent = rw o (sym (laid-none buffer (e .queued))); same = λ x. absurd (x refl) })
-
   -- one message is
   module _ (w : Wire) (o : f .out ≡ w ∷ []) (buffer buffer′ : List ℕ) (q : Queued) (eq : QueuedAs buffer (e .queued) w q buffer′) (ok : q .ok ≡ true) where
     pub queued-did : f .state .queued ≡ e .queued → seen n ≡ withEvents (f .state .events ++ f .told) (withQueued (q .end) (f .state))

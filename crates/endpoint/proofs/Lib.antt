@@ -1,8 +1,10 @@
 pub mod Ends
 pub mod Rooms
+pub mod Crowds
 pub mod Phases
 pub mod Disconnects
 pub mod Hears
+pub mod Ears
 pub mod Requests
 pub mod Makes
 pub mod Tells
@@ -26,6 +28,9 @@ pub mod Arrives
 pub mod Frames
 pub mod Sends
 pub mod Messages
+pub mod Inputs
+pub mod Reactions
+pub mod Ways
 pub mod Datagrams
 pub mod Batches
 pub mod Runs

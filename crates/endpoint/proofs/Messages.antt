@@ -1,4 +1,4 @@
--- The ways out of `message`: what a handler did is what the message does.
+-- The ways out of `message`: what a body does to an endpoint that has heard it is what the message does.
 use mathlib.Core.Bool.{Bool, true, false, _||_}
 use mathlib.Core.List.{List, []}
 use mathlib.Core.Path.{_≡_, refl, sym, _∙_, subst}
@@ -30,7 +30,7 @@ use Rattle.endpoint.proofs.Settles.{did-settled}
 use Rattle.endpoint.proofs.Unqueued.{unqueued}
 
 module _ (e : Endpoint) (from : ℕ) (m : Message) (p : List ℕ) (now epoch nonce : ℕ) (buffer : List ℕ) where
-  abbrev Does : Did
+  abbrev pub Does : Did
   Does = step (Call.message from (m .reports .count) (meant m p) now epoch nonce (length buffer)) (seen e)
 
   abbrev Reacts : Reaction → Ended → List ℕ → Type 0

@@ -1,5 +1,5 @@
 -- A packet's frames above the newest: those left when the known ones are skipped, announced one after another.
-use borrow.Author.Tests.{lt-ltb, ltb-true, ltb-false, eq-eqb, ne-eqb}
+use borrow.Author.Tests.{lt-ltb, ltb-true, ltb-false}
 use mathlib.Core.Bool.{true, false}
 use mathlib.Core.List.{List, [], _∷_, _++_}
 use mathlib.Core.Path.{_≡_, refl}
@@ -13,16 +13,18 @@ use Rattle.base.specs.Pick.{pick}
 use Rattle.base.specs.Keyed.{kept}
 use Rattle.packing.specs.Packing.{xors, frameCount, framesOf}
 use Rattle.packing.specs.Pad.{padded}
-use Rattle.packing.specs.declared.input_bytes.InputBytes.{InputBytes}
 use Rattle.packing.proofs.Laws.{xors-length, frames-length, unpack-take, frames-drop}
-use Rattle.frame.specs.Bias.{nullFrame}
-use Rattle.history.specs.History.{newestOf, above, numbered, packetOf}
+use Rattle.history.specs.History.{above, numbered, packetOf}
 use Rattle.events.specs.declared.Entry.{Entry}
 use Rattle.events.specs.declared.Events.{Events}
 use Rattle.events.specs.declared.Pushed.{Pushed}
 use Rattle.events.specs.Events.{held, hasRoom, announcedAll, packetFits, PushedAs}
 use Rattle.events.proofs.Laws.{announced-padded, packet-fits, packet-length}
-use Rattle.protocol.specs.Receiving.{referenceFrame, announcedEach}
+use Rattle.protocol.specs.Receiving.{announcedEach}
+use Rattle.setup.specs.Setup.{termsOf, receivingWidth, listed}
+use Rattle.setup.specs.declared.Setup.{Setup}
+use Rattle.endpoint.specs.News.{NewsAs, news, skipped}
+use Rattle.endpoint.specs.declared.packet.News.{News}
 
 -- k: how many are not above the newest
 above-numbered : (newest start : ℕ) (fs : List (List ℕ)) (k : ℕ) → k ≡ min (suc newest - start) (length fs)
@@ -54,6 +56,10 @@ each-frames size hs start w r (suc n) p h =
     let x = announced-padded start size (xors (take w p) r) hs (omega (arith, xors-length (take w p) r)) in
     rw (x, add-one, each-frames size hs (suc start) w r n (drop w p) h)
 
+-- the bytes of the first k frames are bytes of the payload, l: how many it has
+pub skipped-within : (w n l : ℕ) → n ≡ frameCount w l → (k : ℕ) → k ≤ n → k * w ≤ l
+skipped-within w n l e k h = omega (arith, mul-le-mul-right {m = k} {n = frameCount w l} w (omega arith), div-mul-le-self l w)
+
 -- n: how many frames a packet has, each with a number
 module _ (start w n : ℕ) (r p : List ℕ) (counts : n ≡ frameCount w (length p)) (within : start + n ≤ 2 ^ 32) where
   packet-is : packetOf start w r p ≡ numbered start (framesOf w r n p)
@@ -66,14 +72,10 @@ module _ (start w n : ℕ) (r p : List ℕ) (counts : n ≡ frameCount w (length
     above-packet : above newest (packetOf start w r p) ≡ numbered (start + k) (framesOf w r (n - k) (drop (k * w) p))
     above-packet = rw (packet-is, above-numbered newest start (framesOf w r n p) k (rw (frames-length w r n p) skips), frames-drop w r k n p)
 
-    -- the skipped bytes are bytes of the payload
-    pub skipped-within : k * w ≤ length p
-    skipped-within = omega (arith, mul-le-mul-right {m = k} {n = frameCount w (length p)} w (omega arith), div-mul-le-self (length p) w)
-
     -- m: how many are above, f: the first of them, A: what is told ahead of them
     module _ (size : ℕ) (hs : List ℕ) (e : Events) (A : List Entry) (m f : ℕ) (em : m ≡ n - k) (ef : f ≡ pick (ltb 0 m) (start + k) start) (hr : length r ≡ 64) where
-      abbrev News : List Entry
-      News = announcedEach size hs (above newest (packetOf start w r p))
+      abbrev More : List Entry
+      More = announcedEach size hs (above newest (packetOf start w r p))
 
       at-first : (j g : ℕ) → g ≡ pick (ltb 0 j) (start + k) start
           → announcedAll (start + k) size hs (framesOf w r j (drop (k * w) p)) ≡ announcedAll g size hs (framesOf w r j (drop (k * w) p))
@@ -81,7 +83,7 @@ module _ (start w n : ℕ) (r p : List ℕ) (counts : n ≡ frameCount w (length
       at-first zero g eg = refl
       at-first (suc j) g eg = rw (eg, lt-ltb 0 (suc j) (omega arith))
 
-      news-are : News ≡ announcedAll f size hs (framesOf w r m (drop (k * w) p))
+      news-are : More ≡ announcedAll f size hs (framesOf w r m (drop (k * w) p))
       news-are = rw (above-packet, ← em, each-frames size hs (start + k) w r m (drop (k * w) p) (omega arith)) (at-first m f ef)
 
       within-first : f + m ≤ 2 ^ 32
@@ -90,9 +92,9 @@ module _ (start w n : ℕ) (r p : List ℕ) (counts : n ≡ frameCount w (length
           [ true ↦ λ t. let g : f ≡ start + k = rw t at ef in omega arith | false ↦ λ t. let g : f ≡ start = rw t at ef in omega (arith, ltb-false 0 m t) ]
           refl
 
-      pub news-pushed : (q : Pushed)
+      news-pushed : (q : Pushed)
           → PushedAs e (packetFits (held e ++ A) f m hs) (A ++ announcedAll f size hs (framesOf w r m (drop (k * w) p))) q
-          → PushedAs e (hasRoom (held e) (length (A ++ News))) (A ++ News) q
+          → PushedAs e (hasRoom (held e) (length (A ++ More))) (A ++ More) q
       unfolding hasRoom
       news-pushed q a =
           let all = announcedAll f size hs (framesOf w r m (drop (k * w) p)) in
@@ -100,11 +102,12 @@ module _ (start w n : ℕ) (r p : List ℕ) (counts : n ≡ frameCount w (length
           omega (arith, length-append (held e) A, length-append A all, packet-length f size w r hs (drop (k * w) p) m) in
           rw (news-are, ← total) (rw (packet-fits (held e ++ A) f m hs within-first) at a)
 
--- the frame of the reference
-pub reference-blank : (start : ℕ) (l : List InputBytes) (newest : ℕ) → newest ≡ newestOf l → newest ≡ nullFrame → referenceFrame start l ≡ nullFrame
-unfolding referenceFrame
-reference-blank start l newest n e = rw (← n, eq-eqb newest nullFrame e)
-
-pub reference-before : (start : ℕ) (l : List InputBytes) (newest : ℕ) → newest ≡ newestOf l → (newest ≡ nullFrame → ⊥) → referenceFrame start l ≡ start - 1
-unfolding referenceFrame
-reference-before start l newest n e = rw (← n, ne-eqb newest nullFrame e)
+-- what is pushed of a packet by its news is what it announces, with A told ahead
+pub announced-news : (g : Setup) (newest start : ℕ) (reference payload : List ℕ) (e : Events) (A : List Entry) (w : ℕ) → w ≡ receivingWidth (termsOf g)
+    → length reference ≡ 64 → start + frameCount w (length payload) ≤ 2 ^ 32 → (r : News) → NewsAs newest start w (length payload) r → (q : Pushed)
+    → PushedAs e (packetFits (held e ++ A) (r .first) (r .count) (listed (g .handles))) (A ++ announcedAll (r .first) (g .«input_size») (listed (g .handles)) (framesOf w reference (r .count) (drop (r .at) payload))) q
+    → PushedAs e (hasRoom (held e) (length (A ++ news g newest start reference payload))) (A ++ news g newest start reference payload) q
+announced-news g newest start reference payload e A w ew hr within r er q a =
+    rw (← ew)
+    (news-pushed start w (frameCount w (length payload)) reference payload refl within newest (skipped newest start w (length payload)) refl (g .«input_size») (listed (g .handles)) e A (r .count) (r .first) (er .count) (er .first) hr q
+    (rw (er .at) at a))

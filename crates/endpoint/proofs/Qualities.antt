@@ -1,4 +1,4 @@
--- The ways out of `on_quality_report` and of `on_quality_reply`.
+-- The ways out of a quality report and of its reply.
 use mathlib.Core.Bool.{true, false}
 use mathlib.Core.List.{List}
 use mathlib.Core.Path.{_≡_, refl}
@@ -25,11 +25,7 @@ use Rattle.endpoint.proofs.Ends.{remade}
 use Rattle.endpoint.proofs.Changes.{changes-full, changes-done}
 use Rattle.endpoint.proofs.Answering.{Aside, reply-untold, reply-full, reply-done}
 
-module _ (e : Endpoint) (now : ℕ) (x : Ears) (ex : HeardAs e (heard now (seen e)) x) where
-  -- how both leave it when they are done
-  abbrev Noted : Clocks → Quality → (queued : ℕ) → Endpoint
-  Noted c y queued = remade e (e .sender) (e .history) (e .phase) (e .sync) c (x .flags) y (e .statuses) (e .checksums) (x .events) queued
-
+module _ (e : Endpoint) (now : ℕ) where
   module _ (buffer : List ℕ) (advantage : ℕ) (ping : Wide) where
     abbrev Reported : Endpoint → Answer → List ℕ → Type 0
     Reported n a b′ = DidAs e (reacted (length buffer) (seen e) (onQualityReport now advantage ping (heard now (seen e)))) buffer (record { answer = a; endpoint = n }) b′
@@ -38,33 +34,37 @@ module _ (e : Endpoint) (now : ℕ) (x : Ears) (ex : HeardAs e (heard now (seen 
     unfolding remoteAdvantage
     aside = record { setup = λ s. refl; events = λ s. refl; queued = λ s. refl }
 
-    pub report-untold : x .ok ≡ false → Reported e Full buffer
+    pub report-full : (q : Queued) (b′ : List ℕ) → QueuedAs buffer (e .queued) (plain (e .setup .magic) (QualityReply ping)) q b′ → q .ok ≡ false → Reported e Full b′
     unfolding onQualityReport
-    report-untold k = reply-untold e buffer now x (QualityReply ping) (remoteAdvantage advantage) aside k ex
+    report-full q b′ eq k = reply-full e buffer now (QualityReply ping) (remoteAdvantage advantage) aside q b′ eq (omega arith) k
 
-    module _ (q : Queued) (b′ : List ℕ) (eq : QueuedAs buffer (e .queued) (plain (e .setup .magic) (QualityReply ping)) q b′) where
-      pub report-full : q .ok ≡ false → Reported e Full b′
+  module _ (x : Ears) (ex : HeardAs e (heard now (seen e)) x) where
+    -- how both leave it when they are done
+    abbrev Noted : Clocks → Quality → (queued : ℕ) → Endpoint
+    Noted c y queued = remade e (e .sender) (e .history) (e .phase) (e .sync) c (x .flags) y (e .statuses) (e .checksums) (x .events) queued
+
+    module _ (buffer : List ℕ) (advantage : ℕ) (ping : Wide) where
+      pub report-untold : x .ok ≡ false → Reported buffer advantage ping e Full buffer
       unfolding onQualityReport
-      report-full k = reply-full e buffer now x (QualityReply ping) (remoteAdvantage advantage) aside q b′ eq (omega arith) k ex
+      report-untold k = reply-untold e buffer now (QualityReply ping) (remoteAdvantage advantage) (aside buffer advantage ping) x k ex
 
-      pub report-done : (c : Clocks) (y : Quality) → x .ok ≡ true → q .ok ≡ true → c ≡ sentAt now (x .clocks) → y ≡ remoteSet advantage (e .quality)
-          → Reported (Noted c y (q .end)) Done b′
+      pub report-done : (q : Queued) (b′ : List ℕ) → QueuedAs buffer (e .queued) (plain (e .setup .magic) (QualityReply ping)) q b′ → (c : Clocks) (y : Quality) → x .ok ≡ true
+          → q .ok ≡ true → c ≡ sentAt now (x .clocks) → y ≡ remoteSet advantage (e .quality) → Reported buffer advantage ping (Noted c y (q .end)) Done b′
       unfolding onQualityReport remoteAdvantage seen
-      report-done c y k ok ec ey =
-          reply-done e buffer now x (QualityReply ping) (remoteAdvantage advantage) aside q b′ eq (omega arith) _ k ok
+      report-done q b′ eq c y k ok ec ey =
+          reply-done e buffer now (QualityReply ping) (remoteAdvantage advantage) (aside buffer advantage ping) x q b′ eq (omega arith) _ k ok
           (λ f t h. rw (ec, ey, h .clocks, h .flags, h .events, k)) ex
 
-  module _ (epoch : ℕ) (pong : Wide) where
-    abbrev Replied : Endpoint → Answer → Type 0
-    Replied n a = DoneAs e (reacted 0 (seen e) (onQualityReply epoch pong (heard now (seen e)))) (record { answer = a; endpoint = n })
+    module _ (epoch : ℕ) (pong : Wide) where
+      abbrev Replied : Endpoint → Answer → Type 0
+      Replied n a = DoneAs e (reacted 0 (seen e) (onQualityReply epoch pong (heard now (seen e)))) (record { answer = a; endpoint = n })
 
-    pub pong-full : x .ok ≡ false → Replied e Full
-    unfolding onQualityReply roundTripNoted
-    pong-full k = changes-full e now x (roundTripNoted (roundTrip epoch (pong .low) (pong .high))) (λ s. refl) k ex
+      pub pong-full : x .ok ≡ false → Replied e Full
+      unfolding onQualityReply roundTripNoted
+      pong-full k = changes-full e now x (roundTripNoted (roundTrip epoch (pong .low) (pong .high))) (λ s. refl) k ex
 
-    pub pong-done : (time : ℕ) (y : Quality) → x .ok ≡ true → time ≡ roundTrip epoch (pong .low) (pong .high) → y ≡ tripNoted time (e .quality)
-        → Replied (Noted (x .clocks) y (e .queued)) Done
-    unfolding onQualityReply roundTripNoted seen
-    pong-done time y k et ey =
-        changes-done e now x (roundTripNoted (roundTrip epoch (pong .low) (pong .high))) (λ s. refl) _ k
-        (λ f t h. rw (ey, et, h .clocks, h .flags, h .events, k)) ex
+      pub pong-done : (y : Quality) → x .ok ≡ true → y ≡ tripNoted (roundTrip epoch (pong .low) (pong .high)) (e .quality) → Replied (Noted (x .clocks) y (e .queued)) Done
+      unfolding onQualityReply roundTripNoted seen
+      pong-done y k ey =
+          changes-done e now x (roundTripNoted (roundTrip epoch (pong .low) (pong .high))) (λ s. refl) _ k
+          (λ f t h. rw (ey, h .clocks, h .flags, h .events, k)) ex

@@ -1,4 +1,4 @@
--- The ways out of `on_keep_alive`: a message that is only heard.
+-- The ways out of a message that is only heard.
 use mathlib.Core.Bool.{true, false}
 use mathlib.Core.Path.{_≡_, refl}
 use Prim.Native.Nat.{ℕ}

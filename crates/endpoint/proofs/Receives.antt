@@ -3,13 +3,12 @@ use borrow.Author.Tests.{not-true, not-false}
 use mathlib.Core.Bool.{Bool, true, false}
 use mathlib.Core.List.{List, [], _∷_, _++_, append-nil}
 use mathlib.Core.Path.{_≡_, refl, sym, _∙_, ap}
-use Prim.Native.Nat.{ℕ, _+_, _^_, _≤_}
+use Prim.Native.Nat.{ℕ}
 use native.Mathlib.Omega.{arith}
 use lib.ListN.{length, take}
 use Rattle.base.specs.Pick.{pick}
 use Rattle.answer.specs.declared.Answer.{Answer}
 use Rattle.answer.specs.declared.Answer.the-variants.{Done, Full}
-use Rattle.packing.specs.Packing.{frameCount}
 use Rattle.packing.specs.declared.input_bytes.InputBytes.{InputBytes}
 use Rattle.history.specs.declared.History.{History}
 use Rattle.history.specs.History.{received, newestOf, packetOf, takenIn}
@@ -96,10 +95,6 @@ module _ (e : Endpoint) (buffer : List ℕ) (now ack start : ℕ) (d : Bool) (re
 
   abbrev pub Stored : List InputBytes
   Stored = take 33 (takenIn (e .setup .«max_prediction») (received (e .history)) Packet)
-
-  pub readable-within : start + frameCount (receivingWidth (termsOf (e .setup))) (length payload) ≤ 2 ^ 32
-  unfolding seen
-  readable-within = readable .within
 
   abbrev Taking : Effect → Effect
   Taking h = gotten now (taken (e .setup .«max_prediction») Packet (seen e .carried .receiver)) h

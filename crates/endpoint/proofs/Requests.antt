@@ -1,4 +1,4 @@
--- The ways out of `on_sync_request`: its nonce goes back, and nothing else changes.
+-- The ways out of a SyncRequest: its nonce goes back, and nothing else changes.
 use mathlib.Core.Bool.{true, false}
 use mathlib.Core.List.{List}
 use mathlib.Core.Path.{_≡_, refl}
@@ -21,24 +21,25 @@ use Rattle.endpoint.proofs.Hears.{Ears, HeardAs}
 use Rattle.endpoint.proofs.Ends.{remade}
 use Rattle.endpoint.proofs.Answering.{Aside, reply-untold, reply-full, reply-done}
 
-module _ (e : Endpoint) (buffer : List ℕ) (now asked : ℕ) (x : Ears) where
+module _ (e : Endpoint) (buffer : List ℕ) (now asked : ℕ) where
   abbrev Asked : Endpoint → Answer → List ℕ → Type 0
-  Asked n a b′ =
-      HeardAs e (heard now (seen e)) x → DidAs e (reacted (length buffer) (seen e) (onSyncRequest now asked (heard now (seen e)))) buffer (record { answer = a; endpoint = n }) b′
+  Asked n a b′ = DidAs e (reacted (length buffer) (seen e) (onSyncRequest now asked (heard now (seen e)))) buffer (record { answer = a; endpoint = n }) b′
 
   aside : Aside (λ s. s)
   aside = record { setup = λ s. refl; events = λ s. refl; queued = λ s. refl }
 
-  pub request-untold : x .ok ≡ false → Asked e Full buffer
+  pub request-full : (q : Queued) (b′ : List ℕ) → QueuedAs buffer (e .queued) (plain (e .setup .magic) (SyncReply asked)) q b′ → q .ok ≡ false → Asked e Full b′
   unfolding onSyncRequest
-  request-untold k = reply-untold e buffer now x (SyncReply asked) (λ s. s) aside k
+  request-full q b′ eq k = reply-full e buffer now (SyncReply asked) (λ s. s) aside q b′ eq (omega arith) k
 
-  module _ (q : Queued) (b′ : List ℕ) (eq : QueuedAs buffer (e .queued) (plain (e .setup .magic) (SyncReply asked)) q b′) where
-    pub request-full : q .ok ≡ false → Asked e Full b′
+  module _ (x : Ears) (ex : HeardAs e (heard now (seen e)) x) where
+    pub request-untold : x .ok ≡ false → Asked e Full buffer
     unfolding onSyncRequest
-    request-full k = reply-full e buffer now x (SyncReply asked) (λ s. s) aside q b′ eq (omega arith) k
+    request-untold k = reply-untold e buffer now (SyncReply asked) (λ s. s) aside x k ex
 
-    pub request-done : (c : Clocks) → x .ok ≡ true → q .ok ≡ true → c ≡ sentAt now (x .clocks)
+    pub request-done : (q : Queued) (b′ : List ℕ) → QueuedAs buffer (e .queued) (plain (e .setup .magic) (SyncReply asked)) q b′ → (c : Clocks) → x .ok ≡ true → q .ok ≡ true
+        → c ≡ sentAt now (x .clocks)
         → Asked (remade e (e .sender) (e .history) (e .phase) (e .sync) c (x .flags) (e .quality) (e .statuses) (e .checksums) (x .events) (q .end)) Done b′
     unfolding onSyncRequest seen
-    request-done c k ok ec = reply-done e buffer now x (SyncReply asked) (λ s. s) aside q b′ eq (omega arith) _ k ok (λ f t h. rw (ec, h .clocks, h .flags, h .events, k))
+    request-done q b′ eq c k ok ec =
+        reply-done e buffer now (SyncReply asked) (λ s. s) aside x q b′ eq (omega arith) _ k ok (λ f t h. rw (ec, h .clocks, h .flags, h .events, k)) ex

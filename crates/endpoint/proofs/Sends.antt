@@ -1,6 +1,6 @@
 -- The ways out of `send_input`.
 use borrow.Author.Tests.{not-true, not-false, eqb-true}
-use mathlib.Core.Bool.{Bool, true, false, not, _||_}
+use mathlib.Core.Bool.{Bool, true, false, not, _||_, _&&_}
 use mathlib.Core.List.{List, [], _∷_, _++_}
 use mathlib.Core.Path.{_≡_, refl, sym, _∙_}
 use native.Mathlib.Omega.{arith}
@@ -24,10 +24,11 @@ use Rattle.status.specs.Statuses.{held as heldStatuses}
 use Rattle.events.specs.Events as Events
 use Rattle.events.specs.Events.{held, hasRoom}
 use Rattle.events.specs.declared.Entry.{Entry}
+use Rattle.events.specs.declared.Events.{Events}
 use Rattle.events.specs.declared.Event.the-variants.{Disconnected}
 use Rattle.events.specs.declared.Pushed.{Pushed as Told}
+use Rattle.events.proofs.Laws.{pushed-if, not-pushed}
 use Rattle.setup.specs.Setup.{termsOf, termsWith, sendingWidth}
-use Rattle.timers.specs.declared.Clocks.{Clocks}
 use Rattle.timers.specs.Timers as Timers
 use Rattle.timers.specs.Timers.{badClock}
 use Rattle.codec.specs.Message.{tableSize}
@@ -43,6 +44,7 @@ use Rattle.endpoint.specs.declared.Endpoint.{Endpoint}
 use Rattle.endpoint.specs.declared.Ended.{Ended}
 use Rattle.endpoint.specs.Endpoint.{seen, DidAs}
 use Rattle.endpoint.specs.Frames.{badAfter}
+use Rattle.endpoint.proofs.Crowds.{crowded, roomy}
 use Rattle.endpoint.proofs.Ends.{remade, refused-did, queued-did}
 use Rattle.endpoint.proofs.Settles.{did-settled}
 use Rattle.endpoint.proofs.Rooms.{full-events, full-buffer, room-one}
@@ -52,11 +54,37 @@ neither true y h = cc
 neither false y h = h
 
 -- what sending an input does
+abbrev disconnection : Entry
+disconnection = record { event = Disconnected; input = replicate 16 0 }
+
 abbrev tellsIf : Bool → List Entry
-tellsIf b = pick b (record { event = Disconnected; input = replicate 16 0 } ∷ []) []
+tellsIf b = pick b (disconnection ∷ []) []
 
 abbrev tells : List InputBytes → List Entry
 tells l = tellsIf (leb 129 (length l))
+
+abbrev retold : Endpoint → Events → Endpoint
+retold e events = remade e (e .sender) (e .history) (e .phase) (e .sync) (e .clocks) (e .flags) (e .quality) (e .statuses) (e .checksums) events (e .queued)
+
+-- an endpoint after what n pending inputs tell: only its events are others, and there was room for them
+pub record ToldAs (e : Endpoint) (n : ℕ) (s : Endpoint) : Type 0 where
+  pub events : Events
+  pub rest : s ≡ retold e events
+  pub room : hasRoom (held (e .events)) (length (tellsIf (leb 129 n))) ≡ true
+  pub view : held events ≡ held (e .events) ++ tellsIf (leb 129 n)
+
+module _ (e : Endpoint) (n : ℕ) where
+  told-as : (t : Told) → Events.PushedAs (e .events) (hasRoom (held (e .events)) (length (tellsIf (leb 129 n)))) (tellsIf (leb 129 n)) t → t .ok ≡ true
+      → ToldAs e n (retold e (t .events))
+  told-as t et ok = record { events = t .events; rest = refl; room = sym (et .ok) ∙ ok; view = et .view ∙ rw (sym (et .ok) ∙ ok) }
+
+  pub tells-one : (m : ℕ) → m ≡ length (held (e .events)) → (t : Told) → (leb 129 n && leb 640 m) ≡ false → leb 129 n ≡ true
+      → Events.PushedAs (e .events) (hasRoom (held (e .events)) 1) (disconnection ∷ []) t → (s : Endpoint) → s ≡ retold e (t .events) → ToldAs e n s
+  tells-one m em t h k et s es =
+      rw es (told-as t (pushed-if (e .events) (leb 129 n) disconnection t k et) (roomy (e .events) disconnection m em (leb 129 n) t h k et))
+
+  pub tells-none : leb 129 n ≡ false → length (e .events .entries) ≡ 640 → (s : Endpoint) → s ≡ e → ToldAs e n s
+  tells-none k l s es = rw es (told-as (record { ok = true; events = e .events }) (not-pushed (e .events) (leb 129 n) disconnection k l) refl)
 
 some-queued : (now : ℕ) (statuses : List ConnectionStatus) (l : List InputBytes) (x : InputBytes) (f : Effect)
     → pendingQueued now statuses (l ++ x ∷ []) f ≡ queueWire now (pendingIn statuses (f .state)) f
@@ -142,8 +170,7 @@ module _ (e : Endpoint) (frame : ℕ) (bytes : List ℕ) (st : Statuses) (now : 
             unfolding step sendStep decided seen badFrame
             send-crowded k = refused-did e Full _ (rw (good, tested ∙ right, running, next, sym (ep .ok) ∙ k)) buffer
 
-            module _ (ok : p .ok ≡ true) (n : ℕ) (en : n ≡ length (waiting (p .pending))) (t : Told)
-                (et : Events.PushedAs (e .events) (hasRoom (held (e .events)) (length (tellsIf (leb 129 n)))) (tellsIf (leb 129 n)) t) where
+            module _ (ok : p .ok ≡ true) (n : ℕ) (en : n ≡ length (waiting (p .pending))) where
               pends : waiting (p .pending) ≡ before ++ taken ∷ []
               unfolding pushed
               pends = ep .view ∙ rw (sym (ep .ok) ∙ ok, eb, ← wide, take-length, padded-plain bytes)
@@ -151,11 +178,11 @@ module _ (e : Endpoint) (frame : ℕ) (bytes : List ℕ) (st : Statuses) (now : 
               telling : tellsIf (leb 129 n) ≡ tells (before ++ taken ∷ [])
               telling = rw (en, pends)
 
-              pub send-untold : t .ok ≡ false → Sends e Full buffer
+              pub send-untold : (m : ℕ) → m ≡ length (held (e .events)) → (leb 129 n && leb 640 m) ≡ true → Sends e Full buffer
               unfolding seen accepted
-              send-untold k = send-full (sym (ep .ok) ∙ ok) (full-events buffer Sending (rw (← telling) (sym (et .ok) ∙ k)))
+              send-untold m em k = send-full (sym (ep .ok) ∙ ok) (full-events buffer Sending (rw (← telling) (sym (crowded (e .events) disconnection m em (leb 129 n) k .ok))))
 
-              module _ (told : t .ok ≡ true) (a : ℕ) (ea : a ≡ newestOf (received (e .history)))
+              module _ (a : ℕ) (ea : a ≡ newestOf (received (e .history)))
                   (q : Queued) (b′ : List ℕ)
                   (eq : QueuedAs buffer (e .queued) (pendingInput (e .setup .magic) a (heldStatuses st) (waiting (p .pending)) w (e .sender .acked)) q b′) where
                 wire : pendingInput (e .setup .magic) a (heldStatuses st) (waiting (p .pending)) w (e .sender .acked) ≡ pendingIn (heldStatuses st) (accepted taken (seen e))
@@ -175,13 +202,14 @@ module _ (e : Endpoint) (frame : ℕ) (bytes : List ℕ) (st : Statuses) (now : 
                     rw (rw k at (queued .lent))
                     (send-full (sym (ep .ok) ∙ ok) (full-buffer buffer Sending _ some refl (not-false _ (sym (queued .ok) ∙ k))))
 
-                pub send-done : (c : Clocks) → q .ok ≡ true → c ≡ Timers.sentAt now (e .clocks)
-                    → Sends (remade e (record { pending = p .pending; acked = e .sender .acked }) (e .history) (e .phase) (e .sync) c (e .flags) (e .quality) (e .statuses) (e .checksums) (t .events) (q .end)) Done b′
+                pub send-done : q .ok ≡ true → (s : Endpoint) → ToldAs e n s
+                    → Sends (remade s (record { pending = p .pending; acked = e .sender .acked }) (s .history) (s .phase) (s .sync) (Timers.sentAt now (s .clocks)) (s .flags) (s .quality) (s .statuses) (s .checksums) (s .events) (q .end)) Done b′
                 unfolding seen accepted
-                send-done c k ec =
-                    queued-did e _ Sending Does
-                    (send-fits (sym (ep .ok) ∙ ok) (room-one buffer Sending _ some refl (rw (← telling) (sym (et .ok) ∙ told)) (not-true _ (sym (queued .ok) ∙ k))))
-                    _ refl buffer b′ q queued k refl (rw (ec, pends, et .view, sym (et .ok) ∙ told, telling))
+                send-done k s es =
+                    rw (es .rest)
+                    (queued-did e _ Sending Does
+                    (send-fits (sym (ep .ok) ∙ ok) (room-one buffer Sending _ some refl (rw (← telling) (es .room)) (not-true _ (sym (queued .ok) ∙ k))))
+                    _ refl buffer b′ q queued k refl (rw (pends, es .view, telling)))
 
   pub send-input-settled : (r s : Ended) (b c : List ℕ) → DidAs e Does buffer r b → DidAs e Does buffer s c
       → (r .answer ≡ s .answer) × (seen (r .endpoint) ≡ seen (s .endpoint)) × (b ≡ c)

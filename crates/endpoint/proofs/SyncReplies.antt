@@ -33,13 +33,9 @@ use Rattle.endpoint.proofs.Hears.{not-resumes}
 use Rattle.endpoint.proofs.Unqueued.{unqueued}
 use Rattle.endpoint.proofs.Asks.{request-full, request-fits}
 
-and-false : (x : Bool) → x && false ≡ false
-and-false true = refl
-and-false false = refl
-
 module _ (e : Endpoint) (now nonce magic reply : ℕ) where
   -- by whether more are to come
-  abbrev Counting : Bool → Reaction
+  abbrev pub Counting : Bool → Reaction
   Counting more = replied now nonce magic reply true more (begin (heardSeen now (seen e)))
 
   -- y: the handshake with the reply counted
@@ -99,17 +95,11 @@ module _ (e : Endpoint) (now nonce magic reply : ℕ) where
     Replies = DidAs e (reacted (length buffer) (seen e) (onSyncReply now nonce magic reply (heard now (seen e)))) buffer
 
     module _ (x : Ended) (d : DoneAs e (reacted 0 (seen e) (plainly (heard now (seen e)))) x) where
-      ignored : isSynchronizing (e .phase) && isOutstanding reply (outstanding (e .sync .nonces)) ≡ false → Replies x buffer
+      pub ignored : isSynchronizing (e .phase) && isOutstanding reply (outstanding (e .sync .nonces)) ≡ false → Replies x buffer
       unfolding onSyncReply replied seen
       ignored h =
           rw (by-hearing now (seen e) (λ f. onSyncReply now nonce magic reply f ≡ plainly f) (λ f t. rw h))
           (unqueued e (plainly (heard now (seen e))) (by-hearing now (seen e) (λ f. f .out ≡ []) (λ f t. refl)) buffer x d)
-
-      pub reply-elsewhere : isSynchronizing (e .phase) ≡ false → Replies x buffer
-      reply-elsewhere h = ignored (rw h)
-
-      pub reply-unknown : isOutstanding reply (outstanding (e .sync .nonces)) ≡ false → Replies x buffer
-      reply-unknown h = ignored (rw h (and-false (isSynchronizing (e .phase))))
 
     module _ (phase : e .phase ≡ Synchronizing) (found : isOutstanding reply (outstanding (e .sync .nonces)) ≡ true) where
       counting : onSyncReply now nonce magic reply (heard now (seen e)) ≡ Counting (ltb 1 (e .sync .remaining))

@@ -2,7 +2,7 @@
 use mathlib.Core.Bool.{true, false, not, _&&_}
 use mathlib.Core.List.{List}
 use mathlib.Core.Path.{_≡_}
-use Prim.Native.Nat.{ℕ, _-_}
+use Prim.Native.Nat.{ℕ, _-_, _<_}
 use Rattle.base.specs.Lay.{noRoom}
 use Rattle.nonces.specs.Nonces.{outstanding, isOutstanding, spent, issued, fits}
 use Rattle.timers.specs.declared.Clocks.{Clocks}
@@ -11,7 +11,8 @@ use Rattle.codec.specs.Message.{Wire, tableSize}
 use Rattle.codec.specs.Read.{plain}
 use Rattle.codec.specs.declared.MessageBody.the-variants.{SyncRequest}
 use Rattle.outbox.specs.Outbox.{QueuedAs}
-use Rattle.protocol.specs.Seen.{Sync as SeenSync}
+use Rattle.protocol.specs.declared.Phase.{Phase}
+use Rattle.protocol.specs.Seen.{Sync as SeenSync, isSynchronizing}
 use Rattle.protocol.specs.Handshake.{withNonces}
 use Rattle.endpoint.specs.declared.Sync.{Sync}
 use Rattle.endpoint.specs.declared.handshake.Requested.{Requested}
@@ -24,9 +25,10 @@ syncOf s = record { remaining = s .remaining; nonces = outstanding (s .nonces); 
 abbrev pub countedSync : (reply : ℕ) → Sync → SeenSync
 countedSync reply s = record { remaining = s .remaining - 1; nonces = spent reply (outstanding (s .nonces)); remoteMagic = s .«remote_magic» }
 
-pub record CountedAs (s : Sync) (reply : ℕ) (r : Counted) : Type 0 where
-  pub found : r .found ≡ isOutstanding reply (outstanding (s .nonces))
-  pub sync : syncOf (r .sync) ≡ countedSync reply s
+-- it counts while synchronizing, with a nonce that is outstanding
+pub record CountedAs (s : Sync) (phase : Phase) (reply : ℕ) (r : Counted) : Type 0 where
+  pub found : r .found ≡ isSynchronizing phase && isOutstanding reply (outstanding (s .nonces))
+  pub sync : r .found ≡ true → syncOf (r .sync) ≡ countedSync reply s
 
 abbrev pub requestWire : (magic nonce : ℕ) → Wire
 requestWire magic nonce = plain magic (SyncRequest nonce)
@@ -38,3 +40,9 @@ pub record RequestedAs (s : Sync) (c : Clocks) (magic now nonce : ℕ) (buffer :
   pub clocks : r .ok ≡ true → r .clocks ≡ sentAt now (requestAt now c)
   pub queued : r .ok ≡ true → QueuedAs buffer at (requestWire magic nonce) (record { ok = true; end = r .end }) buffer′
   pub same : r .ok ≡ false → buffer′ ≡ buffer
+
+-- with a reply counted: another request where more are to come, else the filter asks for the reply's magic
+pub record GoneOnAs (s : Sync) (remote : ℕ) (c : Clocks) (magic now nonce : ℕ) (buffer : List ℕ) (at : ℕ) (r : Requested) (buffer′ : List ℕ) : Type 0 where
+  pub asks : 0 < s .remaining → RequestedAs s c magic now nonce buffer at r buffer′
+  pub ends : s .remaining ≡ 0 → r ≡ record { sync = record { remaining = s .remaining; nonces = s .nonces; «remote_magic» = remote }; clocks = c; end = at; ok = true }
+  pub same : s .remaining ≡ 0 → buffer′ ≡ buffer

@@ -8,8 +8,9 @@ pub mod Handshaking
 pub mod Informed
 pub mod Readable
 pub mod News
+pub mod Opened
+pub mod Reacted
 pub mod Frames
 pub mod Filter
 pub mod Due
 pub mod Batch
-pub mod Acts

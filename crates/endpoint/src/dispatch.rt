@@ -8,6 +8,13 @@ ghost use Rattle.endpoint.specs.Endpoint.{seen, DidAs};
 ghost use Rattle.endpoint.specs.Filter.{ignoredBy};
 use crate::Ended;
 use crate::Endpoint;
+use crate::Sender;
+use crate::handshake;
+use crate::hearing;
+use crate::informing;
+use crate::packet;
+use crate::reacting;
+use crate::telling;
 use answer::Answer;
 use codec::Message;
 use codec::MessageBody;
@@ -24,9 +31,11 @@ fn is_ignored(phase: Phase, peer: u32, remote_magic: u16, from: u32, magic: u16)
 }
 
 impl Endpoint {
-    // By the number of its kind; each arm's `else` cannot be reached, since a kind's number tells its body.
+    // By the number of its kind; each arm's `else`, and a number above 7, cannot be reached, since a kind's number tells its body. All of it stands
+    // in this one function, since an endpoint that is passed on to another is copied: what is decided stands in functions over the plain parts, and
+    // what changes a store is that store's. A refusal comes before the first change.
     pub fn message(
-        self,
+        mut self,
         from: u32,
         message: Message,
         payload: &[u8],
@@ -57,25 +66,68 @@ impl Endpoint {
                 endpoint: self,
             };
         }
+        let resumes = hearing::is_resuming(phase, self.flags);
+        let full = telling::is_crowded(resumes, self.events.count());
         let body = message.body;
-        match codec::kind_of(body) {
-            0 => {
-                let MessageBody::SyncRequest { random_request } = body else {
-                    return Ended {
-                        answer: Answer::BadKind,
-                        endpoint: self,
-                    };
-                };
-                self.on_sync_request(random_request, now, out)
-            }
+        let kind = codec::kind_of(body);
+        match kind {
             1 => {
                 let MessageBody::SyncReply { random_reply } = body else {
                     return Ended {
-                        answer: Answer::BadKind,
                         endpoint: self,
+                        answer: Answer::BadKind,
                     };
                 };
-                self.on_sync_reply(magic, random_reply, now, nonce, out)
+                // One that counts is told, and another request goes out or the handshake is over.
+                let counted = self.sync.count_reply(phase, random_reply);
+                if counted.found {
+                    let sync = counted.sync;
+                    let remaining = sync.remaining;
+                    let pushed = self.events.push(handshake::progress(remaining));
+                    if !pushed.ok {
+                        return Ended {
+                            endpoint: self,
+                            answer: Answer::Full,
+                        };
+                    }
+                    let heard = self.clocks.heard(now);
+                    let next = sync.go_on(
+                        magic,
+                        heard,
+                        self.setup.magic,
+                        now,
+                        nonce,
+                        out,
+                        self.queued,
+                    );
+                    if !next.ok {
+                        return Ended {
+                            endpoint: self,
+                            answer: Answer::Full,
+                        };
+                    }
+                    let sync = next.sync;
+                    let clocks = next.clocks;
+                    let events = pushed.events;
+                    self = Endpoint {
+                        phase: handshake::phase_after(remaining),
+                        sync,
+                        clocks,
+                        events,
+                        queued: next.end,
+                        ..self
+                    };
+                    return Ended {
+                        endpoint: self,
+                        answer: Answer::Done,
+                    };
+                }
+                if full {
+                    return Ended {
+                        endpoint: self,
+                        answer: Answer::Full,
+                    };
+                }
             }
             2 => {
                 let MessageBody::Input {
@@ -85,66 +137,238 @@ impl Endpoint {
                 } = body
                 else {
                     return Ended {
-                        answer: Answer::BadKind,
                         endpoint: self,
+                        answer: Answer::BadKind,
                     };
                 };
                 let reports = message.reports;
-                self.on_input(
+                let opened = packet::open(
+                    self.history,
+                    self.setup,
                     disconnect_requested,
                     start_frame,
-                    ack_frame,
-                    reports,
-                    payload,
-                    now,
-                    out,
-                )
+                    reports.count,
+                    payload.len(),
+                );
+                // A discarded one is only heard.
+                if !opened.discarded {
+                    if opened.too_long {
+                        return Ended {
+                            endpoint: self,
+                            answer: Answer::TooLong,
+                        };
+                    }
+                    if opened.readable & opened.overflows {
+                        return Ended {
+                            endpoint: self,
+                            answer: Answer::Overflow,
+                        };
+                    }
+                    let informed = informing::inform(
+                        phase,
+                        self.clocks,
+                        self.flags,
+                        self.statuses,
+                        disconnect_requested,
+                        reports,
+                        now,
+                    );
+                    let flags = informed.flags;
+                    let statuses = informed.statuses;
+                    let dropped = self.sender.pending.drop_to(ack_frame, self.sender.acked);
+                    let pending = dropped.pending;
+                    let acked = dropped.last;
+                    // Inputs that can be read: those above the newest are announced, and the newest is acknowledged.
+                    if opened.readable {
+                        let input = opened.input;
+                        let bytes = input.bytes;
+                        let width = self.setup.receiving_width();
+                        let news = packet::news_of(
+                            opened.newest,
+                            start_frame,
+                            payload.len(),
+                            width,
+                        );
+                        let handles = self.setup.handles;
+                        let list = handles.list;
+                        let told = self.events.push_packet(
+                            informed.resumes,
+                            informed.tells,
+                            news.first,
+                            news.count,
+                            payload,
+                            news.at,
+                            width,
+                            bytes,
+                            list,
+                            handles.count,
+                            self.setup.input_size as usize,
+                        );
+                        if !told.ok {
+                            return Ended {
+                                endpoint: self,
+                                answer: Answer::Full,
+                            };
+                        }
+                        let history = self.history.take_in(
+                            payload,
+                            start_frame,
+                            width,
+                            input,
+                            self.setup.max_prediction,
+                        );
+                        let queued = outbox::plain(
+                            out,
+                            self.queued,
+                            self.setup.magic,
+                            MessageBody::InputAck {
+                                ack_frame: history.newest(),
+                            },
+                        );
+                        if !queued.ok {
+                            return Ended {
+                                endpoint: self,
+                                answer: Answer::Full,
+                            };
+                        }
+                        let clocks = informed.clocks.input_received(now).sent(now);
+                        let events = told.events;
+                        self = Endpoint {
+                            sender: Sender { pending, acked },
+                            history,
+                            clocks,
+                            flags,
+                            statuses,
+                            events,
+                            queued: queued.end,
+                            ..self
+                        };
+                        return Ended {
+                            endpoint: self,
+                            answer: Answer::Done,
+                        };
+                    }
+                    // Inputs that cannot; with a reference that is held their time is noted all the same.
+                    let told = self.events.push_both(
+                        informed.resumes,
+                        hearing::resumption(),
+                        informed.tells,
+                        informing::disconnection(),
+                    );
+                    if !told.ok {
+                        return Ended {
+                            endpoint: self,
+                            answer: Answer::Full,
+                        };
+                    }
+                    let clocks = packet::noted(informed.clocks, opened.held, now);
+                    let events = told.events;
+                    self = Endpoint {
+                        sender: Sender { pending, acked },
+                        clocks,
+                        flags,
+                        statuses,
+                        events,
+                        ..self
+                    };
+                    return Ended {
+                        endpoint: self,
+                        answer: Answer::Done,
+                    };
+                }
+                if full {
+                    return Ended {
+                        endpoint: self,
+                        answer: Answer::Full,
+                    };
+                }
             }
             3 => {
                 let MessageBody::InputAck { ack_frame } = body else {
                     return Ended {
-                        answer: Answer::BadKind,
                         endpoint: self,
+                        answer: Answer::BadKind,
                     };
                 };
-                self.on_input_ack(ack_frame, now)
-            }
-            4 => {
-                let MessageBody::QualityReport {
-                    frame_advantage,
-                    ping,
-                } = body
-                else {
+                if full {
                     return Ended {
-                        answer: Answer::BadKind,
                         endpoint: self,
+                        answer: Answer::Full,
                     };
+                }
+                let dropped = self.sender.pending.drop_to(ack_frame, self.sender.acked);
+                let pending = dropped.pending;
+                let acked = dropped.last;
+                self = Endpoint {
+                    sender: Sender { pending, acked },
+                    ..self
                 };
-                self.on_quality_report(frame_advantage, ping, now, out)
-            }
-            5 => {
-                let MessageBody::QualityReply { pong } = body else {
-                    return Ended {
-                        answer: Answer::BadKind,
-                        endpoint: self,
-                    };
-                };
-                self.on_quality_reply(pong, now, epoch)
             }
             6 => {
                 let MessageBody::ChecksumReport { checksum, frame } = body else {
                     return Ended {
-                        answer: Answer::BadKind,
                         endpoint: self,
+                        answer: Answer::BadKind,
                     };
                 };
-                self.on_checksum_report(checksum, frame, now)
+                let reported = self.checksums
+                    .report(frame, checksum.low, checksum.high, self.setup.interval());
+                if reported.overflow {
+                    return Ended {
+                        endpoint: self,
+                        answer: Answer::Overflow,
+                    };
+                }
+                if full || reported.full {
+                    return Ended {
+                        endpoint: self,
+                        answer: Answer::Full,
+                    };
+                }
+                let checksums = reported.checksums;
+                self = Endpoint { checksums, ..self };
             }
-            7 => self.on_keep_alive(now),
-            _ => Ended {
-                answer: Answer::BadKind,
-                endpoint: self,
-            },
+            _ => {
+                if 7 < kind {
+                    return Ended {
+                        endpoint: self,
+                        answer: Answer::BadKind,
+                    };
+                }
+                let reacted = reacting::react(
+                    body,
+                    full,
+                    self.quality,
+                    self.clocks.last_send_time,
+                    now,
+                    epoch,
+                    self.setup.magic,
+                    out,
+                    self.queued,
+                );
+                if !reacted.ok {
+                    return Ended {
+                        endpoint: self,
+                        answer: Answer::Full,
+                    };
+                }
+                self.quality.remote_frame_advantage = reacted.quality.remote_frame_advantage;
+                self.quality.round_trip_time = reacted.quality.round_trip_time;
+                self.clocks.last_send_time = reacted.last_send_time;
+                self.queued = reacted.end;
+            }
+        }
+        // What is left of every other message is that it was heard.
+        if resumes {
+            let told = self.events.push(hearing::resumption());
+            let events = told.events;
+            self = Endpoint { events, ..self };
+            self.flags.disconnect_notify_sent = false;
+        }
+        self.clocks.last_recv_time = now;
+        Ended {
+            endpoint: self,
+            answer: Answer::Done,
         }
     }
 

@@ -1,20 +1,20 @@
 // The handshake: requests, and replies that count by their nonce.
 ghost use mathlib.Core.Path.{_≡_};
-ghost use mathlib.Core.Bool.{true, false};
-ghost use Prim.Native.Nat.{ℕ, _-_};
+ghost use Prim.Native.Nat.{_-_};
+ghost use lib.Dec.{ltb};
 ghost use lib.ListN.{length};
-ghost use Rattle.protocol.specs.Seen.{heardAt};
-ghost use Rattle.protocol.specs.Did.{begin};
+ghost use Rattle.base.specs.Pick.{pick};
+ghost use Rattle.events.specs.Events.{plain};
+ghost use Rattle.events.specs.declared.Event.the-variants.{Synchronizing, Synchronized};
+ghost use Rattle.protocol.specs.declared.Phase.the-variants as Phase;
 ghost use Rattle.protocol.specs.Call.{Call};
-ghost use Rattle.protocol.specs.Handshake.{onSyncRequest, onSyncReply, replied};
-ghost use Rattle.protocol.specs.Step.{heard, reacted, step};
-ghost use Rattle.endpoint.specs.Endpoint.{seen, DidAs, DoneAs};
-ghost use Rattle.endpoint.specs.Handshaking.{RequestedAs, CountedAs, syncOf, countedSync};
+ghost use Rattle.protocol.specs.Step.{step};
+ghost use Rattle.endpoint.specs.Endpoint.{seen, DidAs};
+ghost use Rattle.endpoint.specs.Handshaking.{RequestedAs, CountedAs, GoneOnAs};
 use crate::Ended;
 use crate::Endpoint;
 use crate::NUM_SYNC_PACKETS;
 use crate::Sync;
-use crate::hearing;
 use answer::Answer;
 use codec::MessageBody;
 use events::Entry;
@@ -24,16 +24,16 @@ use timers::Clocks;
 
 // The parts of an endpoint that a request changes; where it does not fit, as they were and told so.
 pub struct Requested {
-    pub ok: bool,
     pub sync: Sync,
     pub clocks: Clocks,
     pub end: usize,
+    pub ok: bool,
 }
 
-// Whether a reply's nonce was outstanding, and the handshake after it if it was.
+// Whether a reply counts, and the handshake after it if it does.
 pub struct Counted {
-    pub found: bool,
     pub sync: Sync,
+    pub found: bool,
 }
 
 // The difference, or 0 where it would be negative.
@@ -95,67 +95,87 @@ impl Sync {
         }
     }
 
-    // The nonce is spent, and one reply fewer is to come.
-    fn count_reply(self, random_reply: u32) -> Counted
-        ensures { λ r. ⌜ CountedAs self «random_reply» r ⌝ }
+    // The nonce is spent, and one reply fewer is to come. Outside Synchronizing, and with a nonce that is not outstanding, a reply does not count.
+    pub(crate) fn count_reply(self, phase: Phase, random_reply: u32) -> Counted
+        ensures { λ r. ⌜ CountedAs self phase «random_reply» r ⌝ }
     {
+        let Phase::Synchronizing = phase else {
+            return Counted {
+                sync: self,
+                found: false,
+            };
+        };
         let spent = self.nonces.spend(random_reply);
         let nonces = spent.nonces;
         let remaining = less(self.remaining, 1);
         Counted {
-            found: spent.found,
             sync: Sync {
                 remaining,
                 nonces,
                 ..self
             },
+            found: spent.found,
+        }
+    }
+
+    // After a reply that counts: another request, or with none to come the handshake is over, and from now on the filter asks for this reply's magic.
+    pub(crate) fn go_on(
+        self,
+        remote_magic: u16,
+        clocks: Clocks,
+        magic: u16,
+        now: u64,
+        nonce: u32,
+        out: &mut [u8],
+        queued: usize,
+    ) -> Requested
+        ensures { λ r. ⌜ GoneOnAs self «remote_magic» clocks magic now nonce (out .entry .now) queued r (out .exit .now) ⌝ }
+    {
+        if 0 < self.remaining {
+            return self.request(clocks, magic, now, nonce, out, queued);
+        }
+        Requested {
+            sync: Sync {
+                remote_magic,
+                ..self
+            },
+            clocks,
+            end: queued,
+            ok: true,
         }
     }
 }
 
-impl Endpoint {
-    // A request is answered with its nonce.
-    pub(crate) fn on_sync_request(self, random_request: u32, now: u64, out: &mut [u8]) -> Ended
-        ensures { λ r. ⌜ DidAs self (reacted (length (out .entry .now)) (seen self) (onSyncRequest now «random_request» (heard now (seen self)))) (out .entry .now) r (out .exit .now) ⌝ }
-    {
-        let phase = self.phase;
-        let heard = hearing::hear(phase, self.clocks, self.flags, now);
-        let told = self.events.push_if(heard.resumes, hearing::resumption());
-        if !told.ok {
-            return Ended {
-                answer: Answer::Full,
-                endpoint: self,
-            };
-        }
-        let queued = outbox::plain(
-            out,
-            self.queued,
-            self.setup.magic,
-            MessageBody::SyncReply {
-                random_reply: random_request,
+// How far the handshake is, as it is told.
+pub(crate) fn progress(remaining: u32) -> Entry
+    ensures { λ r. ⌜ r ≡ plain (pick (ltb 0 remaining) (Synchronizing 5 (5 - remaining)) Synchronized) ⌝ }
+{
+    if 0 < remaining {
+        return Entry {
+            event: Event::Synchronizing {
+                total: NUM_SYNC_PACKETS,
+                count: less(NUM_SYNC_PACKETS, remaining),
             },
-        );
-        if !queued.ok {
-            return Ended {
-                answer: Answer::Full,
-                endpoint: self,
-            };
-        }
-        let clocks = heard.clocks.sent(now);
-        let flags = heard.flags;
-        let events = told.events;
-        Ended {
-            answer: Answer::Done,
-            endpoint: Endpoint {
-                clocks,
-                flags,
-                events,
-                queued: queued.end,
-                ..self
-            },
-        }
+            input: [0u8; 16],
+        };
     }
+    Entry {
+        event: Event::Synchronized,
+        input: [0u8; 16],
+    }
+}
 
+// The endpoint runs once no reply is to come.
+pub(crate) fn phase_after(remaining: u32) -> Phase
+    ensures { λ r. ⌜ r ≡ pick (ltb 0 remaining) Phase.Synchronizing Phase.Running ⌝ }
+{
+    if 0 < remaining {
+        return Phase::Synchronizing;
+    }
+    Phase::Running
+}
+
+impl Endpoint {
     // The handshake begins: all replies are to come, and the network's statistics count from this epoch.
     pub fn synchronize(self, now: u64, epoch: u64, nonce: u32, out: &mut [u8]) -> Ended
         ensures { λ r. ⌜ DidAs self (step (Call.synchronize now epoch nonce (length (out .entry .now))) (seen self)) (out .entry .now) r (out .exit .now) ⌝ }
@@ -205,103 +225,5 @@ impl Endpoint {
                 ..self
             },
         }
-    }
-
-    // A reply that counts, with more to come: told, and the next request is queued. `sync` is the handshake after it.
-    fn on_early_reply(self, sync: Sync, now: u64, nonce: u32, out: &mut [u8]) -> Ended
-        ensures { λ r. ⌜ ((magic reply : ℕ) → syncOf sync ≡ countedSync reply (self .sync) → DidAs self (reacted (length (out .entry .now)) (seen self) (replied now nonce magic reply true true (begin (heardAt now (seen self))))) (out .entry .now) r (out .exit .now)) ⌝ }
-    {
-        let pushed = self.events.push(Entry {
-            event: Event::Synchronizing {
-                total: NUM_SYNC_PACKETS,
-                count: less(NUM_SYNC_PACKETS, sync.remaining),
-            },
-            input: [0u8; 16],
-        });
-        if !pushed.ok {
-            return Ended {
-                answer: Answer::Full,
-                endpoint: self,
-            };
-        }
-        let heard = self.clocks.heard(now);
-        let requested = sync.request(heard, self.setup.magic, now, nonce, out, self.queued);
-        if !requested.ok {
-            return Ended {
-                answer: Answer::Full,
-                endpoint: self,
-            };
-        }
-        let next = requested.sync;
-        let clocks = requested.clocks;
-        let events = pushed.events;
-        Ended {
-            answer: Answer::Done,
-            endpoint: Endpoint {
-                sync: next,
-                clocks,
-                events,
-                queued: requested.end,
-                ..self
-            },
-        }
-    }
-
-    // The last: the endpoint runs, and from now on the filter asks for this reply's magic.
-    fn on_last_reply(self, sync: Sync, magic: u16, now: u64) -> Ended
-        ensures { λ r. ⌜ ((nonce reply : ℕ) → syncOf sync ≡ countedSync reply (self .sync) → DoneAs self (reacted 0 (seen self) (replied now nonce magic reply true false (begin (heardAt now (seen self))))) r) ⌝ }
-    {
-        let pushed = self.events.push(Entry {
-            event: Event::Synchronized,
-            input: [0u8; 16],
-        });
-        if !pushed.ok {
-            return Ended {
-                answer: Answer::Full,
-                endpoint: self,
-            };
-        }
-        let done = Sync {
-            remote_magic: magic,
-            ..sync
-        };
-        let clocks = self.clocks.heard(now);
-        let events = pushed.events;
-        Ended {
-            answer: Answer::Done,
-            endpoint: Endpoint {
-                phase: Phase::Running,
-                sync: done,
-                clocks,
-                events,
-                ..self
-            },
-        }
-    }
-
-    // Outside Synchronizing, and with a nonce that is not outstanding, a reply brings nothing.
-    pub(crate) fn on_sync_reply(
-        self,
-        magic: u16,
-        random_reply: u32,
-        now: u64,
-        nonce: u32,
-        out: &mut [u8],
-    ) -> Ended
-        ensures { λ r. ⌜ DidAs self (reacted (length (out .entry .now)) (seen self) (onSyncReply now nonce magic «random_reply» (heard now (seen self)))) (out .entry .now) r (out .exit .now) ⌝ }
-    {
-        let phase = self.phase;
-        let Phase::Synchronizing = phase else {
-            return self.on_keep_alive(now);
-        };
-        let counted = self.sync.count_reply(random_reply);
-        if !counted.found {
-            return self.on_keep_alive(now);
-        }
-        let sync = counted.sync;
-        if 1 < self.sync.remaining {
-            return self.on_early_reply(sync, now, nonce, out);
-        }
-        self.on_last_reply(sync, magic, now)
     }
 }

@@ -4,13 +4,7 @@ ghost use mathlib.Core.Bool.{_&&_};
 ghost use Rattle.events.specs.Events.{plain};
 ghost use Rattle.events.specs.declared.Event.the-variants.{NetworkResumed};
 ghost use Rattle.protocol.specs.Seen.{isRunning};
-ghost use Rattle.protocol.specs.Step.{heard, reacted};
-ghost use Rattle.protocol.specs.Handshake.{plainly};
-ghost use Rattle.endpoint.specs.Endpoint.{seen, DoneAs};
 ghost use Rattle.endpoint.specs.Heard.{heardBy, resumedFlags};
-use crate::Ended;
-use crate::Endpoint;
-use answer::Answer;
 use events::Entry;
 use events::Event;
 use protocol::Flags;
@@ -24,7 +18,7 @@ pub struct Heard {
     pub flags: Flags,
 }
 
-fn is_resuming(phase: Phase, flags: Flags) -> bool
+pub(crate) fn is_resuming(phase: Phase, flags: Flags) -> bool
     ensures { λ r. ⌜ r ≡ (isRunning phase && flags .«disconnect_notify_sent») ⌝ }
 {
     let Phase::Running = phase else {
@@ -62,34 +56,5 @@ pub(crate) fn resumption() -> Entry
     Entry {
         event: Event::NetworkResumed,
         input: [0u8; 16],
-    }
-}
-
-impl Endpoint {
-    // A message that brings nothing else.
-    pub(crate) fn on_keep_alive(self, now: u64) -> Ended
-        ensures { λ r. ⌜ DoneAs self (reacted 0 (seen self) (plainly (heard now (seen self)))) r ⌝ }
-    {
-        let phase = self.phase;
-        let heard = hear(phase, self.clocks, self.flags, now);
-        let told = self.events.push_if(heard.resumes, resumption());
-        if !told.ok {
-            return Ended {
-                answer: Answer::Full,
-                endpoint: self,
-            };
-        }
-        let clocks = heard.clocks;
-        let flags = heard.flags;
-        let events = told.events;
-        Ended {
-            answer: Answer::Done,
-            endpoint: Endpoint {
-                clocks,
-                flags,
-                events,
-                ..self
-            },
-        }
     }
 }

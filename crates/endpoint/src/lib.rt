@@ -1,6 +1,5 @@
 // The peer endpoint of ggrs (protocol.rs): a state by value, clocks and nonces as arguments, the send queue in a lent buffer. Each call gives its
 // answer and the endpoint after it; on a refusal that is the very endpoint it was called on. What a call does is `step` of the crate `protocol`.
-mod acks;
 mod acting;
 mod batch;
 mod closing;
@@ -12,10 +11,11 @@ mod informing;
 mod making;
 mod packet;
 mod plan;
-mod receiving;
+mod reacting;
 mod reports;
 mod sending;
 mod taking;
+mod telling;
 
 use answer::Answer;
 use checksums::Checksums;
@@ -67,8 +67,8 @@ pub struct Endpoint {
     pub queued: usize,
 }
 
-// What a call answers, with the endpoint after it.
+// What a call answers, with the endpoint after it. The endpoint comes first: with a byte and a gap in front of it each call would copy it once more.
 pub struct Ended {
-    pub answer: Answer,
     pub endpoint: Endpoint,
+    pub answer: Answer,
 }

@@ -1,22 +1,21 @@
-// The packet of an Input: the reference that it is packed against, and its frames that are news.
-ghost use mathlib.Core.List.{_++_};
+// The packet of an Input: the reference that it is packed against, whether it can be read, and its frames that are news.
 ghost use mathlib.Core.Path.{_≡_};
+ghost use mathlib.Core.Bool.{not, _&&_, _||_};
 ghost use Prim.Native.Nat.{suc, _+_, _-_, _*_, _^_, _<_, _≤_, min};
-ghost use lib.Dec.{ltb};
-ghost use lib.ListN.{length};
+ghost use lib.Dec.{ltb, eqb};
 ghost use Rattle.base.specs.Pick.{pick};
-ghost use Rattle.packing.specs.Packing.{frameCount};
-ghost use Rattle.history.specs.History.{received, foundIn};
+ghost use Rattle.frame.specs.Bias.{bias32, nullFrame};
+ghost use Rattle.timers.specs.Timers.{inputAt};
+ghost use Rattle.packing.specs.Packing.{frameCount, decodableLength};
 ghost use Rattle.setup.specs.Setup.{termsOf, receivingWidth};
-ghost use Rattle.events.specs.Events.{held, hasRoom, ahead, PushedAs};
-ghost use Rattle.protocol.specs.Receiving.{referenceFrame};
-ghost use Rattle.endpoint.specs.News.{news};
-use events::Events;
-use events::Pushed;
+ghost use Rattle.endpoint.specs.News.{NewsAs};
+ghost use Rattle.endpoint.specs.Opened.{OpenedAs};
+use frame::BIAS32;
 use frame::NULL_FRAME;
-use history::Found;
 use history::History;
+use packing::InputBytes;
 use setup::Setup;
+use timers::Clocks;
 
 // How many frames there are.
 const FRAMES: usize = 0x1_0000_0000;
@@ -24,30 +23,88 @@ const FRAMES: usize = 0x1_0000_0000;
 // As many inputs as may be pending at the other end.
 const MOST_FRAMES: usize = 129;
 
+// A packet that is looked into, and nothing done yet: the reference with whether it is held, and what is found of it.
+pub struct Opened {
+    pub input: InputBytes,
+    pub held: bool,
+    pub newest: u32,
+    pub discarded: bool,
+    pub too_long: bool,
+    pub readable: bool,
+    pub overflows: bool,
+}
+
+// The frames above the newest: the first of them, how many, and where they stand in the payload.
+pub struct News {
+    pub first: u32,
+    pub count: u32,
+    pub at: usize,
+}
+
+// Without a request to disconnect the statuses must be those of all players; a first frame is never negative.
+fn is_discarded(disconnect_requested: bool, count: usize, players: u32, start_frame: u32) -> bool
+    ensures { λ r. ⌜ r ≡ (not «disconnect_requested» && not (eqb count players) || ltb «start_frame» bias32) ⌝ }
+{
+    (!disconnect_requested & (count != players as usize)) | (start_frame < BIAS32)
+}
+
 // Whether a payload has more frames than that.
-pub(crate) fn is_too_long(setup: Setup, length: usize) -> bool
+fn is_too_long(setup: Setup, length: usize) -> bool
     ensures { λ r. ⌜ r ≡ ltb (129 * receivingWidth (termsOf setup)) length ⌝ }
 {
     MOST_FRAMES * setup.receiving_width() < length
 }
 
 // While nothing is received, the blank frame; else the one before the packet.
-pub(crate) fn reference(history: History, start_frame: u32) -> Found
-    requires { ⌜ 0 < «start_frame» ⌝ }
-    ensures { λ r. ⌜ r ≡ foundIn (referenceFrame «start_frame» (received history)) (received history) ⌝ }
+fn reference_frame(newest: u32, start_frame: u32) -> u32
+    ensures { λ r. ⌜ r ≡ pick (eqb newest nullFrame) nullFrame («start_frame» - 1) ⌝ }
 {
-    let newest = history.newest();
     if newest == NULL_FRAME {
-        return history.find(NULL_FRAME);
+        return NULL_FRAME;
     }
-    history.find(start_frame - 1)
+    if start_frame == 0 { 0 } else { start_frame - 1 }
+}
+
+// Whether inputs can be read: their reference is held, and they are whole frames.
+fn is_readable(held: bool, length: usize, width: usize) -> bool
+    ensures { λ r. ⌜ r ≡ (held && decodableLength width length) ⌝ }
+{
+    if held {
+        return packing::decodable(length, width);
+    }
+    false
 }
 
 // Whether the last of some frames would have no number.
-pub(crate) fn overflows(start_frame: u32, count: usize) -> bool
+fn overflows(start_frame: u32, count: usize) -> bool
     ensures { λ r. ⌜ r ≡ ltb (2 ^ 32) («start_frame» + count) ⌝ }
 {
     FRAMES - (start_frame as usize) < count
+}
+
+pub(crate) fn open(
+    history: History,
+    setup: Setup,
+    disconnect_requested: bool,
+    start_frame: u32,
+    count: usize,
+    length: usize,
+) -> Opened
+    ensures { λ r. ⌜ OpenedAs history setup «disconnect_requested» «start_frame» count length r ⌝ }
+{
+    let width = setup.receiving_width();
+    let newest = history.newest();
+    let found = history.find(reference_frame(newest, start_frame));
+    let input = found.input;
+    Opened {
+        input,
+        held: found.held,
+        newest,
+        discarded: is_discarded(disconnect_requested, count, setup.num_players, start_frame),
+        too_long: is_too_long(setup, length),
+        readable: is_readable(found.held, length, width),
+        overflows: overflows(start_frame, packing::frame_count(length, width)),
+    }
 }
 
 // How many of a packet's frames are not above the newest.
@@ -72,38 +129,26 @@ fn first_new(start_frame: u32, skip: u32, count: u32) -> u32
     start_frame
 }
 
-// Tells what an Input tells: the end of an interruption, a disconnect, and each frame above the newest; where not all have room, unchanged.
-pub(crate) fn announce(
-    events: Events,
-    resumed: bool,
-    disconnected: bool,
-    newest: u32,
-    start_frame: u32,
-    payload: &[u8],
-    reference: [u8; 64],
-    setup: Setup,
-) -> Pushed
-    requires { ⌜ (0 < «start_frame») × («start_frame» + frameCount (receivingWidth (termsOf setup)) (length (now payload)) ≤ 2 ^ 32) ⌝ }
-    ensures { λ r. ⌜ PushedAs events (hasRoom (held events) (length (ahead resumed disconnected ++ news setup newest «start_frame» reference (now (payload .entry)))))
-        (ahead resumed disconnected ++ news setup newest «start_frame» reference (now (payload .entry))) r ⌝ }
+pub(crate) fn news_of(newest: u32, start_frame: u32, length: usize, width: usize) -> News
+    requires { ⌜ (0 < «start_frame») × («start_frame» + frameCount width length ≤ 2 ^ 32) ⌝ }
+    ensures { λ r. ⌜ NewsAs newest «start_frame» width length r ⌝ }
 {
-    let width = setup.receiving_width();
-    let count = packing::frame_count(payload.len(), width);
+    let count = packing::frame_count(length, width);
     let skip = known(newest, start_frame, count as u32);
     let more = count as u32 - skip;
-    let handles = setup.handles;
-    let list = handles.list;
-    events.push_packet(
-        resumed,
-        disconnected,
-        first_new(start_frame, skip, more),
-        more,
-        payload,
-        skip as usize * width,
-        width,
-        reference,
-        list,
-        handles.count,
-        setup.input_size as usize,
-    )
+    News {
+        first: first_new(start_frame, skip, more),
+        count: more,
+        at: skip as usize * width,
+    }
+}
+
+// The input time is noted where the reference is held.
+pub(crate) fn noted(clocks: Clocks, held: bool, now: u64) -> Clocks
+    ensures { λ r. ⌜ r ≡ pick held (inputAt now clocks) clocks ⌝ }
+{
+    if held {
+        return clocks.input_received(now);
+    }
+    clocks
 }

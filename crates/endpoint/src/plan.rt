@@ -1,6 +1,7 @@
 // What is due in Running, told before any of it is done; and what it does to the clocks, the flags and the events.
 ghost use mathlib.Core.Path.{_≡_};
-ghost use Prim.Native.Nat.{_-_};
+ghost use mathlib.Core.Bool.{_||_};
+ghost use Prim.Native.Nat.{_+_, _-_};
 ghost use lib.Dec.{ltb};
 ghost use lib.ListN.{length};
 ghost use Rattle.base.specs.Pick.{pick};
@@ -39,6 +40,12 @@ fn time_if(due: bool, now: u64, last: u64) -> u64
     last
 }
 
+fn one_if(due: bool) -> usize
+    ensures { λ r. ⌜ r ≡ pick due 1 0 ⌝ }
+{
+    if due { 1 } else { 0 }
+}
+
 // The keepalive looks at the send time as the messages before it leave it.
 pub(crate) fn due_at(
     now: u64,
@@ -71,14 +78,27 @@ pub(crate) fn due_at(
     }
 }
 
+// How many events are due.
+pub(crate) fn told(due: Due) -> usize
+    ensures { λ r. ⌜ r ≡ pick (due .interruption) 1 0 + pick (due .disconnect) 1 0 ⌝ }
+{
+    one_if(due.interruption) + one_if(due.disconnect)
+}
+
+// Whether any message is due.
+pub(crate) fn sends(due: Due) -> bool
+    ensures { λ r. ⌜ r ≡ (due .input || due .report) || due .«keep_alive» ⌝ }
+{
+    due.input | due.report | due.keep_alive
+}
+
 pub(crate) fn clocks_after(due: Due, now: u64, clocks: Clocks) -> Clocks
     ensures { λ r. ⌜ r ≡ clocksBy due now clocks ⌝ }
 {
-    let sends = due.input | due.report | due.keep_alive;
     Clocks {
         running_last_quality_report: time_if(due.report, now, clocks.running_last_quality_report),
         running_last_input_recv: time_if(due.resend, now, clocks.running_last_input_recv),
-        last_send_time: time_if(sends, now, clocks.last_send_time),
+        last_send_time: time_if(sends(due), now, clocks.last_send_time),
         ..clocks
     }
 }

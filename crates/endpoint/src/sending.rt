@@ -9,6 +9,7 @@ ghost use Rattle.endpoint.specs.Frames.{badAfter};
 use crate::Ended;
 use crate::Endpoint;
 use crate::Sender;
+use crate::telling;
 use answer::Answer;
 use events::Entry;
 use events::Event;
@@ -31,7 +32,7 @@ fn is_bad_frame(frame: u32, last: u32) -> bool
 impl Endpoint {
     // Outside Running nothing is sent. The 129th pending input is kept and told as a disconnect, which is not marked as told.
     pub fn send_input(
-        self,
+        mut self,
         frame: u32,
         bytes: &[u8],
         statuses: Statuses,
@@ -42,29 +43,29 @@ impl Endpoint {
     {
         if timers::is_bad(now) {
             return Ended {
-                answer: Answer::BadClock,
                 endpoint: self,
+                answer: Answer::BadClock,
             };
         }
         let width = self.setup.sending_width();
         if (statuses.count != (self.setup.num_players as usize)) | (bytes.len() != width) {
             return Ended {
-                answer: Answer::BadLength,
                 endpoint: self,
+                answer: Answer::BadLength,
             };
         }
         let phase = self.phase;
         let Phase::Running = phase else {
             return Ended {
-                answer: Answer::Done,
                 endpoint: self,
+                answer: Answer::Done,
             };
         };
         let acked = self.sender.acked;
         if is_bad_frame(frame, self.sender.pending.last_frame(acked.frame)) {
             return Ended {
-                answer: Answer::BadFrame,
                 endpoint: self,
+                answer: Answer::BadFrame,
             };
         }
         // XOR zeros is the input itself, with zeros after it.
@@ -75,22 +76,16 @@ impl Endpoint {
         });
         if !pushed.ok {
             return Ended {
-                answer: Answer::Full,
                 endpoint: self,
+                answer: Answer::Full,
             };
         }
         let pending = pushed.pending;
-        let told = self.events.push_if(
-            MOST_PENDING <= pending.count(),
-            Entry {
-                event: Event::Disconnected,
-                input: [0u8; 16],
-            },
-        );
-        if !told.ok {
+        let tells = MOST_PENDING <= pending.count();
+        if telling::is_crowded(tells, self.events.count()) {
             return Ended {
-                answer: Answer::Full,
                 endpoint: self,
+                answer: Answer::Full,
             };
         }
         let queued = outbox::pending_input(
@@ -105,21 +100,27 @@ impl Endpoint {
         );
         if !queued.ok {
             return Ended {
-                answer: Answer::Full,
                 endpoint: self,
+                answer: Answer::Full,
             };
         }
-        let clocks = self.clocks.sent(now);
-        let events = told.events;
+        if tells {
+            let told = self.events.push(Entry {
+                event: Event::Disconnected,
+                input: [0u8; 16],
+            });
+            let events = told.events;
+            self = Endpoint { events, ..self };
+        }
+        self = Endpoint {
+            sender: Sender { pending, acked },
+            ..self
+        };
+        self.clocks.last_send_time = now;
+        self.queued = queued.end;
         Ended {
+            endpoint: self,
             answer: Answer::Done,
-            endpoint: Endpoint {
-                sender: Sender { pending, acked },
-                clocks,
-                events,
-                queued: queued.end,
-                ..self
-            },
         }
     }
 }

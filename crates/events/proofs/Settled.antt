@@ -33,10 +33,6 @@ module _ (e : Events) where
       → (r .ok ≡ s .ok) × (held (r .events) ≡ held (s .events))
   push-settled x = pushed-settled (hasRoom (held e) 1) (x ∷ [])
 
-  pub push-if-settled : (tells : Bool) (x : Entry) (r s : Pushed) → PushedAs e (hasRoom (held e) (length (pick tells (x ∷ []) []))) (pick tells (x ∷ []) []) r
-      → PushedAs e (hasRoom (held e) (length (pick tells (x ∷ []) []))) (pick tells (x ∷ []) []) s → (r .ok ≡ s .ok) × (held (r .events) ≡ held (s .events))
-  push-if-settled tells x = pushed-settled (hasRoom (held e) (length (pick tells (x ∷ []) []))) (pick tells (x ∷ []) [])
-
   pub push-both-settled : (first : Bool) (one : Entry) (second : Bool) (other : Entry) (r s : Pushed) → PushedAs e (hasRoom (held e) (length (both first one second other))) (both first one second other) r
       → PushedAs e (hasRoom (held e) (length (both first one second other))) (both first one second other) s → (r .ok ≡ s .ok) × (held (r .events) ≡ held (s .events))
   push-both-settled first one second other = pushed-settled (hasRoom (held e) (length (both first one second other))) (both first one second other)

@@ -29,9 +29,10 @@ pub struct Events {
     pub used: usize,
 }
 
+// The store stands first: a flag in front of it is followed by padding, and over padding the compiler copies the store once more.
 pub struct Pushed {
-    pub ok: bool,
     pub events: Events,
+    pub ok: bool,
 }
 
 fn least(a: usize, b: usize) -> usize
@@ -131,31 +132,12 @@ impl Events {
         ensures { λ r. ⌜ PushedAs self (hasRoom (held self) 1) (entry ∷ []) r ⌝ }
     {
         let n = self.count();
-        if n < 640 {
+        let ok = n < 640;
+        if ok {
             self.entries[n] = entry;
             self.used = n + 1;
-            return Pushed {
-                ok: true,
-                events: self,
-            };
         }
-        Pushed {
-            ok: false,
-            events: self,
-        }
-    }
-
-    // The same where there is something to tell, else unchanged.
-    pub fn push_if(self, tells: bool, entry: Entry) -> Pushed
-        ensures { λ r. ⌜ PushedAs self (hasRoom (held self) (length (pick tells (entry ∷ []) []))) (pick tells (entry ∷ []) []) r ⌝ }
-    {
-        if tells {
-            return self.push(entry);
-        }
-        Pushed {
-            ok: true,
-            events: self,
-        }
+        Pushed { events: self, ok }
     }
 
     // Two in their order, each where there is something to tell; where there is no room for all, unchanged.
@@ -163,26 +145,20 @@ impl Events {
         ensures { λ r. ⌜ PushedAs self (hasRoom (held self) (length (both first one second other))) (both first one second other) r ⌝ }
     {
         let used = self.count();
-        if 640 < used + told(first) + told(second) {
-            return Pushed {
-                ok: false,
-                events: self,
-            };
+        let ok = used + told(first) + told(second) <= 640;
+        if ok {
+            let mut to = used;
+            if first {
+                self.entries[to] = one;
+                to += 1;
+            }
+            if second {
+                self.entries[to] = other;
+                to += 1;
+            }
+            self.used = to;
         }
-        let mut to = used;
-        if first {
-            self.entries[to] = one;
-            to += 1;
-        }
-        if second {
-            self.entries[to] = other;
-            to += 1;
-        }
-        self.used = to;
-        Pushed {
-            ok: true,
-            events: self,
-        }
+        Pushed { events: self, ok }
     }
 
     // What an Input tells: the end of an interruption, a disconnect, and the packet's Input events, frame by frame, in each one per handle: `count`
@@ -207,53 +183,47 @@ impl Events {
     {
         let players = least(handle_count, 4);
         let used = self.count();
-        if !packet_fits(
+        let ok = packet_fits(
             used + told(resumed) + told(disconnected),
             frame,
             count,
             players,
-        ) {
-            return Pushed {
-                ok: false,
-                events: self,
-            };
-        }
-        let end = payload.len();
-        let mut to = used;
-        if resumed {
-            self.entries[to] = Entry {
-                event: Event::NetworkResumed,
-                input: [0; 16],
-            };
-            to += 1;
-        }
-        if disconnected {
-            self.entries[to] = Entry {
-                event: Event::Disconnected,
-                input: [0; 16],
-            };
-            to += 1;
-        }
-        let mut from = least(at, end);
-        let mut k = 0;
-        'frames: while k < count {
-            let bytes = packing::frame_at(payload, from, width, reference);
-            let mut part = 0;
-            let mut i = 0;
-            'handles: while i < players {
-                let entry = input_entry(frame + k, handles[i], bytes, part, size);
-                self.entries[to] = entry;
+        );
+        if ok {
+            let end = payload.len();
+            let mut to = used;
+            if resumed {
+                self.entries[to] = Entry {
+                    event: Event::NetworkResumed,
+                    input: [0; 16],
+                };
                 to += 1;
-                part = onward(part, size, 64);
-                i += 1;
             }
-            from = onward(from, width, end);
-            k += 1;
+            if disconnected {
+                self.entries[to] = Entry {
+                    event: Event::Disconnected,
+                    input: [0; 16],
+                };
+                to += 1;
+            }
+            let mut from = least(at, end);
+            let mut k = 0;
+            'frames: while k < count {
+                let bytes = packing::frame_at(payload, from, width, reference);
+                let mut part = 0;
+                let mut i = 0;
+                'handles: while i < players {
+                    let entry = input_entry(frame + k, handles[i], bytes, part, size);
+                    self.entries[to] = entry;
+                    to += 1;
+                    part = onward(part, size, 64);
+                    i += 1;
+                }
+                from = onward(from, width, end);
+                k += 1;
+            }
+            self.used = to;
         }
-        self.used = to;
-        Pushed {
-            ok: true,
-            events: self,
-        }
+        Pushed { events: self, ok }
     }
 }

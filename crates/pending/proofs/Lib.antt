@@ -1,4 +1,5 @@
 pub mod Laws
+pub mod DropTo
 pub mod Widths
 pub mod PackAll
 pub mod Settled

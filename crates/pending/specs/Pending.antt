@@ -2,7 +2,7 @@
 use mathlib.Core.Path.{_≡_, refl}
 use mathlib.Core.Bool.{Bool, false}
 use mathlib.Core.List.{List, [], _∷_, _++_, map}
-use Prim.Native.Nat.{ℕ, zero, suc, _*_, min}
+use Prim.Native.Nat.{ℕ, _*_, min}
 use lib.Dec.{ltb, leb}
 use lib.ListN.{length, take}
 use Rattle.base.specs.Pick.{pick}
@@ -33,11 +33,6 @@ dropTo ack (x ∷ xs) = pick (leb (x .frame) ack) (dropTo ack xs) (x ∷ xs)
 unfoldable pub lastTo : ℕ → InputBytes → List InputBytes → InputBytes
 lastTo ack reference [] = reference
 lastTo ack reference (x ∷ xs) = pick (leb (x .frame) ack) (lastTo ack x xs) reference
-
--- how many are so dropped
-unfoldable pub leading : ℕ → List InputBytes → ℕ
-leading ack [] = zero
-leading ack (x ∷ xs) = pick (leb (x .frame) ack) (suc (leading ack xs)) zero
 
 -- the frame of the first input, of the last one, or the one given where there is none
 unfoldable pub firstFrame : ℕ → List InputBytes → ℕ

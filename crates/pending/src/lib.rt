@@ -1,9 +1,9 @@
 // The inputs sent and not yet acknowledged, oldest first: at most 129.
 ghost use mathlib.Core.Path.{_≡_};
 ghost use mathlib.Core.List.{[]};
-ghost use lib.ListN.{length, drop};
+ghost use lib.ListN.{length};
 ghost use Rattle.packing.specs.Packing.{LaidAs};
-ghost use Rattle.pending.specs.Pending.{waiting, leading, firstFrame, lastFrame, payload, PushedAs, SizedAs, DroppedAs};
+ghost use Rattle.pending.specs.Pending.{waiting, firstFrame, lastFrame, payload, PushedAs, SizedAs, DroppedAs};
 use packing::InputBytes;
 
 // Where the crate tells the session that the other end is too far behind.
@@ -14,14 +14,15 @@ pub struct Pending {
     pub used: usize,
 }
 
+// The store stands first in what a call gives back: a flag in front of it would make padding, and then the compiler copies the store once more.
 pub struct Pushed {
-    pub ok: bool,
     pub pending: Pending,
+    pub ok: bool,
 }
 
 pub struct Dropped {
-    pub last: InputBytes,
     pub pending: Pending,
+    pub last: InputBytes,
 }
 
 impl Pending {
@@ -54,73 +55,36 @@ impl Pending {
         ensures { λ r. ⌜ PushedAs self input r ⌝ }
     {
         let n = self.count();
-        if n < MOST_PENDING {
+        let ok = n < MOST_PENDING;
+        if ok {
             self.slots[n] = input;
             self.used = n + 1;
-            return Pushed {
-                ok: true,
-                pending: self,
-            };
         }
-        Pushed {
-            ok: false,
-            pending: self,
-        }
-    }
-
-    // How many at the front have a frame of at most ack.
-    fn lead(self, ack: u32) -> usize
-        ensures { λ r. ⌜ r ≡ leading ack (waiting self) ⌝ }
-    {
-        let n = self.count();
-        let mut k = 0;
-        while k < n {
-            let x = self.slots[k];
-            if ack < x.frame {
-                return k;
-            }
-            k += 1;
-        }
-        k
-    }
-
-    // Those from the k-th on, moved to the front.
-    fn shift(mut self, k: usize) -> Pending
-        ensures { λ r. ⌜ waiting r ≡ drop k (waiting self) ⌝ }
-    {
-        let n = self.count();
-        if n <= k {
-            self.used = 0;
-            return self;
-        }
-        let m = n - k;
-        let mut i = 0;
-        while i < m {
-            let x = self.slots[i + k];
-            self.slots[i] = x;
-            i += 1;
-        }
-        self.used = m;
-        self
+        Pushed { pending: self, ok }
     }
 
     // Drops the leading inputs with a frame of at most ack. The last dropped is the new reference; where none is dropped, the old one stays.
-    pub fn drop_to(self, ack: u32, reference: InputBytes) -> Dropped
+    pub fn drop_to(mut self, ack: u32, reference: InputBytes) -> Dropped
         ensures { λ r. ⌜ DroppedAs self ack reference r ⌝ }
     {
-        let k = self.lead(ack);
-        if k == 0 {
-            return Dropped {
-                last: reference,
-                pending: self,
-            };
+        let n = self.count();
+        let mut last = reference;
+        let mut kept = 0;
+        let mut k = 0;
+        while k < n {
+            let x = self.slots[k];
+            if kept == 0 && x.frame <= ack {
+                last = x;
+            } else {
+                self.slots[kept] = x;
+                kept += 1;
+            }
+            k += 1;
         }
-        let at = k - 1;
-        let x = self.slots[at];
-        let rest = self.shift(k);
+        self.used = kept;
         Dropped {
-            last: x,
-            pending: rest,
+            pending: self,
+            last,
         }
     }
 

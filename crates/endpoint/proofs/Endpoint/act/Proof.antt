@@ -1,6 +1,18 @@
--- `act` tests clocks and count, and hands over to its phase.
+-- `act` tests clocks and count, and does what its phase brings.
+use mathlib.Core.Bool.{false}
 use mathlib.Core.Logic.{⊎-elim}
-use Rattle.endpoint.proofs.Lengths.{untold-room}
+use mathlib.Core.Path.{_≡_, sym, _∙_}
+use native.Mathlib.Omega.{arith}
+use Prim.Native.Nat.{_≤_}
+use lib.ListN.{length}
+use borrow.Author.Tests.{not-true, not-false}
+use Rattle.base.proofs.Arrays.{view-le}
+use Rattle.timers.specs.Timers.{badClocks}
+use Rattle.events.specs.Events.{held}
+use Rattle.endpoint.proofs.Lengths.{entries-long, untold-room}
+use Rattle.endpoint.proofs.Batches.{size-if-most}
+use Rattle.endpoint.proofs.Acts.{Packed, Announced, packed-none, size-is, packed-some, told-full, told-fits, announced-none, announced-some, running-untold, running-full, running-done}
+use Rattle.endpoint.proofs.Acts.{synchronizing-idle, synchronizing-full, synchronizing-done, disconnected-idle, disconnected-over}
 use Rattle.endpoint.proofs.Acts.{act-clocks, act-count, act-synchronizing, act-running, act-disconnected, act-idle}
 use borrow.Author.Needs.{needs}
 use Rattle.endpoint.proofs.Endpoint.act.Statement.{statement}
@@ -18,57 +30,206 @@ returns c =
     act-clocks (a .self) (a .out .now) (a .statuses) (a .now) (a .epoch) (a .nonce)
     (⊎-elim (λ w. rw (← c .before .is-bad .ensures, w .taken)) (λ w. rw (← c .before .is-bad .ensures, w .0 .left, ← w .1 .ensures, w .2 .taken)) (c .if1 .came))
 
+good-clocks : (c : tie.Else2) → badClocks (c .before .before .before .before .before .args .now) (c .before .before .before .before .before .args .epoch) ≡ false
+good-clocks c = rw (← c .before .before .before .is-bad .ensures, c .before .before .if1 .left, ← c .before .is-bad2 .ensures, c .if2 .left)
+
 cast-if3 : tie.Need-cast-if3
 cast-if3 c = search needs
 
 returns-2 : tie.Need-returns-2
 returns-2 c =
     let a = c .before .before .before .before .before .before .before .before .args in
-    act-count (a .self) (a .out .now) (a .statuses) (a .now) (a .epoch) (a .nonce) (rw (← c .before .before .before .before .before .before .is-bad .ensures, c .before .before .before .before .before .if1 .left, ← c .before .before .before .before .is-bad2 .ensures, c .before .before .before .if2 .left)) (c .if3 .taken)
+    act-count (a .self) (a .out .now) (a .statuses) (a .now) (a .epoch) (a .nonce) (good-clocks (c .before .before .before)) (c .if3 .taken)
+
+-- ---- Synchronizing
 
 enum-told : tie.Need-enum-told
 enum-told c = search needs
 
-act-synchronizing-requires : tie.Need-act-synchronizing-requires
-act-synchronizing-requires c κs = search needs
+passed-requires : tie.Need-passed-requires
+passed-requires c κs = search needs
 
-enum-told-2 : tie.Need-enum-told-2
-enum-told-2 c = search needs
-
-act-running-requires : tie.Need-act-running-requires
-act-running-requires c κs = search needs
-
-enum-told-3 : tie.Need-enum-told-3
-enum-told-3 c = search needs
-
-act-disconnected-requires : tie.Need-act-disconnected-requires
-act-disconnected-requires c κs = search needs
+request-requires : tie.Need-request-requires
+request-requires c κs = search needs
 
 same-length : tie.Need-same-length
 same-length c = search needs
 
 returns-3 : tie.Need-returns-3
 returns-3 c =
-    let a = c .before .before .before .before .before .before .before .before .before .before .before .before .before .before .args in
-    act-synchronizing (a .self) (a .out .now) (a .statuses) (a .now) (a .epoch) (a .nonce) (rw (← c .before .before .before .before .before .before .before .before .before .before .before .before .is-bad .ensures, c .before .before .before .before .before .before .before .before .before .before .before .if1 .left, ← c .before .before .before .before .before .before .before .before .before .before .is-bad2 .ensures, c .before .before .before .before .before .before .before .before .before .if2 .left)) (c .before .before .before .before .before .before .if3 .left) (c .before .before .before .before .enum-told .given .1) (c .before .before .act-synchronizing .result) _ (c .before .before .act-synchronizing .ensures)
+    let t = c .before .before .before .before .before .before .before .before .before .before in
+    let a = c .before .before .before .before .before .before .before .before .before .before .before .before .before .before .before .before .before .before .args in
+    let asked = c .before .before .before .before .request in
+    act-synchronizing (a .self) (a .out .now) (a .statuses) (a .now) (a .epoch) (a .nonce) (good-clocks (t .before .before .before)) (t .if3 .left) (c .before .before .before .before .before .before .before .before .enum-told .given .1) _ _
+    (synchronizing-full (a .self) (a .out .now) (a .now) (a .nonce) (sym (c .before .before .before .before .before .before .before .passed .ensures) ∙ c .before .before .before .before .before .before .if4 .taken) (asked .result) _ (asked .ensures) (not-true _ (c .if5 .taken)))
 
 same-length-2 : tie.Need-same-length-2
 same-length-2 c = search needs
 
 returns-4 : tie.Need-returns-4
 returns-4 c =
-    let a = c .before .before .before .before .before .before .before .before .before .before .before .before .before .before .args in
-    act-running (a .self) (a .out .now) (a .statuses) (a .now) (a .epoch) (a .nonce) (rw (← c .before .before .before .before .before .before .before .before .before .before .before .before .is-bad .ensures, c .before .before .before .before .before .before .before .before .before .before .before .if1 .left, ← c .before .before .before .before .before .before .before .before .before .before .is-bad2 .ensures, c .before .before .before .before .before .before .before .before .before .if2 .left)) (c .before .before .before .before .before .before .if3 .left) (c .before .before .before .before .enum-told2 .given .1) (c .before .before .act-running .result) _ (c .before .before .act-running .ensures)
+    let t = c .before .before .before .before .before .before .before .before .before .before .before .before .before .before .before .before .before .before .before .before in
+    let s = c .before .before .before .before .before .before .before .before .before .before .before .before .before .before .before .before .before .before .before .before .before .before .before .before .before .before .before .before in
+    let a = s .args in
+    let asked = c .before .before .before .before .before .before .before .before .before .before .before .before .before .before .request in
+    act-synchronizing (a .self) (a .out .now) (a .statuses) (a .now) (a .epoch) (a .nonce) (good-clocks (t .before .before .before)) (t .if3 .left) (c .before .before .before .before .before .before .before .before .before .before .before .before .before .before .before .before .before .before .enum-told .given .1) _ _
+    (synchronizing-done (a .self) (a .out .now) (a .now) (a .nonce) (sym (c .before .before .before .before .before .before .before .before .before .before .before .before .before .before .before .before .before .passed .ensures) ∙ c .before .before .before .before .before .before .before .before .before .before .before .before .before .before .before .before .if4 .taken) (asked .result) _ (asked .ensures) (untold-room (a .self) _ (s .good .0)) (not-false _ (c .before .before .before .before .before .before .before .before .before .before .if5 .left)))
 
 returns-5 : tie.Need-returns-5
 returns-5 c =
-    let a = c .before .before .before .before .before .before .before .before .before .before .before .args in
-    act-disconnected (a .self) (a .out .now) (a .statuses) (a .now) (a .epoch) (a .nonce) (rw (← c .before .before .before .before .before .before .before .before .before .is-bad .ensures, c .before .before .before .before .before .before .before .before .if1 .left, ← c .before .before .before .before .before .before .before .is-bad2 .ensures, c .before .before .before .before .before .before .if2 .left)) (c .before .before .before .if3 .left) (c .before .enum-told3 .given .1) (c .act-disconnected .result) (c .act-disconnected .ensures)
+    let t = c .before .before .before .before in
+    let s = c .before .before .before .before .before .before .before .before .before .before .before .before in
+    let a = s .args in
+    act-synchronizing (a .self) (a .out .now) (a .statuses) (a .now) (a .epoch) (a .nonce) (good-clocks (t .before .before .before)) (t .if3 .left) (c .before .before .enum-told .given .1) _ _
+    (synchronizing-idle (a .self) (a .out .now) (a .now) (a .nonce) (untold-room (a .self) _ (s .good .0)) (sym (c .before .passed .ensures) ∙ c .if4 .left))
+
+-- ---- Running
+
+enum-told-2 : tie.Need-enum-told-2
+enum-told-2 c = search needs
+
+count-requires : tie.Need-count-requires
+count-requires c κs = search needs
+
+due-at-requires : tie.Need-due-at-requires
+due-at-requires c κs = search needs
+
+told-requires : tie.Need-told-requires
+told-requires c κs = search needs
+
+count-requires-2 : tie.Need-count-requires-2
+count-requires-2 c κs = search needs
+
+few : (c : tie.After-count2) → c .count2 .result ≤ 640
+unfolding held
+few c =
+    let s = c .before .before .before .before .before .before .before .before .before .before .before .before .before .before in
+    omega (arith, c .count2 .ensures, entries-long (s .args .self) _ (s .good .0), view-le (s .args .self .events .used) (s .args .self .events .entries))
+
+add-if6 : tie.Need-add-if6
+add-if6 c =
+    let d = c .before .before .due-at .result in
+    omega (arith, few c, c .before .told .ensures, size-if-most (d .interruption) 1, size-if-most (d .disconnect) 1)
 
 returns-6 : tie.Need-returns-6
 returns-6 c =
-    let a = c .before .before .before .before .before .before .before .before .before .args in
-    act-idle (a .self) (a .out .now) (a .statuses) (a .now) (a .epoch) (a .nonce) (rw (← c .before .before .before .before .before .before .before .is-bad .ensures, c .before .before .before .before .before .before .if1 .left, ← c .before .before .before .before .before .is-bad2 .ensures, c .before .before .before .before .if2 .left)) (c .before .if3 .left) (untold-room (a .self) _ (c .before .before .before .before .before .before .before .before .before .good .0)) (c .match .keys4)
+    let t = c .before .before .before .before .before .before .before in
+    let a = c .before .before .before .before .before .before .before .before .before .before .before .before .before .before .before .args in
+    let count = c .before .before .before .before .count in
+    let due = c .before .before .before .due-at in
+    act-running (a .self) (a .out .now) (a .statuses) (a .now) (a .epoch) (a .nonce) (good-clocks (t .before .before .before)) (t .if3 .left) (c .before .before .before .before .before .enum-told2 .given .1) _ _
+    (running-untold (a .self) (a .out .now) (a .statuses) (a .now) (a .epoch) (due .result) (count .result) (count .ensures) (due .ensures)
+    (told-full (a .self) (a .out .now) (a .statuses) (a .now) (a .epoch) (due .result) (c .before .count2 .result) (c .before .before .told .result) (c .before .count2 .ensures) (c .before .before .told .ensures) (c .if6 .taken)))
+
+sends-requires : tie.Need-sends-requires
+sends-requires c κs = search needs
+
+sending-width-requires : tie.Need-sending-width-requires
+sending-width-requires c κs = search needs
+
+batch-size-requires : tie.Need-batch-size-requires
+batch-size-requires c κs = search needs
+
+is-full-requires : tie.Need-is-full-requires
+is-full-requires c κs = search needs
+
+returns-7 : tie.Need-returns-7
+returns-7 c =
+    let t = c .before .before .before .before .before .before .before .before .before .before .before .before .before in
+    let a = c .before .before .before .before .before .before .before .before .before .before .before .before .before .before .before .before .before .before .before .before .before .args in
+    let count = c .before .before .before .before .before .before .before .before .before .before .count in
+    let due = c .before .before .before .before .before .before .before .before .before .due-at in
+    let full = c .before .is-full in
+    let size = c .before .before .batch-size in
+    let wide = c .before .before .before .sending-width in
+    act-running (a .self) (a .out .now) (a .statuses) (a .now) (a .epoch) (a .nonce) (good-clocks (t .before .before .before)) (t .if3 .left) (c .before .before .before .before .before .before .before .before .before .before .before .enum-told2 .given .1) _ _
+    (running-full (a .self) (a .out .now) (a .statuses) (a .now) (a .epoch) (due .result) (count .result) (count .ensures) (due .ensures)
+    (size-is (a .self) (a .out .now) (a .statuses) (a .now) (a .epoch) (due .result) (wide .result) (size .result) (full .result) (wide .ensures) (size .ensures) (full .ensures) ∙ c .if8 .taken))
+
+newest-requires : tie.Need-newest-requires
+newest-requires c κs = search needs
+
+write-batch-requires : tie.Need-write-batch-requires
+write-batch-requires c κs = search needs
+
+-- what is due is queued
+packed : (c : tie.Joined7) → Packed (c .before .before .before .before .before .before .before .before .before .before .before .before .before .before .before .before .before .args .self) (c .before .before .before .before .before .before .before .before .before .before .before .before .before .before .before .before .before .args .out .now) (c .before .before .before .before .before .before .before .before .before .before .before .before .before .before .before .before .before .args .statuses) (c .before .before .before .before .before .before .before .before .before .before .before .before .before .before .before .before .before .args .now) (c .before .before .before .before .before .before .before .before .before .before .before .before .before .before .before .before .before .args .epoch) (c .before .before .before .before .before .due-at .result) (c .if7 .self) (c .if7 .out)
+packed c =
+    let a = c .before .before .before .before .before .before .before .before .before .before .before .before .before .before .before .before .before .args in
+    let d = c .before .before .before .before .before .due-at .result in
+    ⊎-elim {0, 0, 0}
+    (λ w. rw (w .10, w .11) (packed-some (a .self) (a .out .now) (a .statuses) (a .now) (a .epoch) d (w .1 .result) (w .2 .result) (w .3 .result) (w .1 .ensures) (w .2 .ensures) (w .3 .ensures) (w .6 .result) (w .7 .result) _ (w .4 .left) (w .6 .ensures) (w .7 .ensures)))
+    (λ w. rw (w .1, w .2) (packed-none (a .self) (a .out .now) (a .statuses) (a .now) (a .epoch) d (sym (c .before .sends .ensures) ∙ w .0 .left)))
+    (c .if7 .came)
+
+long : (c : tie.Joined7) → length (c .if7 .out) ≡ length (c .before .before .before .before .before .before .before .before .before .before .before .before .before .before .before .before .before .args .out .now)
+long c = ⊎-elim {0, 0, 0} (λ w. rw (w .11) (w .7 .kept .1 .1 .0)) (λ w. rw (w .2)) (c .if7 .came)
+
+tell-requires : tie.Need-tell-requires
+tell-requires c κs = search needs
+
+-- and told
+announced : (c : tie.Joined9) → Announced (c .before .before .before .before .before .before .before .before .before .before .before .before .before .before .before .before .before .before .args .self) (c .before .before .before .before .before .before .before .before .before .before .before .before .before .before .before .before .before .before .args .out .now) (c .before .before .before .before .before .before .before .before .before .before .before .before .before .before .before .before .before .before .args .statuses) (c .before .before .before .before .before .before .before .before .before .before .before .before .before .before .before .before .before .before .args .now) (c .before .before .before .before .before .before .before .before .before .before .before .before .before .before .before .before .before .before .args .epoch) (c .before .before .before .before .before .before .due-at .result) (c .before .if7 .self) (c .if9 .self)
+announced c =
+    let a = c .before .before .before .before .before .before .before .before .before .before .before .before .before .before .before .before .before .before .args in
+    let d = c .before .before .before .before .before .before .due-at .result in
+    let n = c .before .before .before .before .count2 in
+    let m = c .before .before .before .before .before .told in
+    ⊎-elim {0, 0, 0}
+    (λ w. rw (w .12) (announced-some (a .self) (a .out .now) (a .statuses) (a .now) (a .epoch) d (n .result) (m .result) (n .ensures) (m .ensures) (c .before .if7 .self) (packed (c .before) .0) (c .before .before .before .if6 .left) (w .1 .result) (w .1 .ensures)))
+    (λ w. rw (w .1) (announced-none (a .self) (a .out .now) (a .statuses) (a .now) (a .epoch) d (n .result) (m .result) (n .ensures) (m .ensures) (c .before .if7 .self) (packed (c .before) .0) (w .0 .left)))
+    (c .if9 .came)
+
+clocks-after-requires : tie.Need-clocks-after-requires
+clocks-after-requires c κs = search needs
+
+flags-after-requires : tie.Need-flags-after-requires
+flags-after-requires c κs = search needs
+
+same-length-3 : tie.Need-same-length-3
+same-length-3 c = long (c .before .before .before .before .before .before .before .before .before .before .before)
+
+returns-8 : tie.Need-returns-8
+returns-8 c =
+    let t = c .before .before .before .before .before .before .before .before .before .before .before .before .before .before .before .before .before .before .before .before in
+    let a = c .before .before .before .before .before .before .before .before .before .before .before .before .before .before .before .before .before .before .before .before .before .before .before .before .before .before .before .before .args in
+    let count = c .before .before .before .before .before .before .before .before .before .before .before .before .before .before .before .before .before .count in
+    let due = c .before .before .before .before .before .before .before .before .before .before .before .before .before .before .before .before .due-at in
+    let n = c .before .before .before .before .before .before .before .before .before .before .before .before .before .before .count2 in
+    let m = c .before .before .before .before .before .before .before .before .before .before .before .before .before .before .before .told in
+    act-running (a .self) (a .out .now) (a .statuses) (a .now) (a .epoch) (a .nonce) (good-clocks (t .before .before .before)) (t .if3 .left) (c .before .before .before .before .before .before .before .before .before .before .before .before .before .before .before .before .before .before .enum-told2 .given .1) _ _
+    (running-done (a .self) (a .out .now) (a .statuses) (a .now) (a .epoch) (due .result) (count .result) (count .ensures) (due .ensures)
+    (c .before .before .before .before .before .before .before .before .before .before .before .if7 .self) (c .before .before .before .before .before .before .before .before .before .before .if9 .self) (c .before .before .before .before .before .before .before .before .before .before .before .if7 .out) (c .before .before .before .before .before .before .before .before .before .clocks-after .result) (c .before .before .before .before .before .before .before .before .flags-after .result)
+    (told-fits (a .self) (a .out .now) (a .statuses) (a .now) (a .epoch) (due .result) (n .result) (m .result) (n .ensures) (m .ensures) (c .before .before .before .before .before .before .before .before .before .before .before .before .before .if6 .left))
+    (packed (c .before .before .before .before .before .before .before .before .before .before .before)) (announced (c .before .before .before .before .before .before .before .before .before .before)) (c .before .before .before .before .before .before .before .before .before .clocks-after .ensures) (c .before .before .before .before .before .before .before .before .flags-after .ensures))
+
+-- ---- Disconnected, and the phases in which nothing happens
+
+enum-told-3 : tie.Need-enum-told-3
+enum-told-3 c = search needs
+
+returns-9 : tie.Need-returns-9
+returns-9 c =
+    let t = c .before .before .before .before .before .before .before .before .before .before .before .before .before .before in
+    let s = c .before .before .before .before .before .before .before .before .before .before .before .before .before .before .before .before .before .before .before .before .before .before in
+    let a = s .args in
+    act-disconnected (a .self) (a .out .now) (a .statuses) (a .now) (a .epoch) (a .nonce) (good-clocks (t .before .before .before)) (t .if3 .left) (c .before .before .before .before .before .before .before .before .before .before .before .before .enum-told3 .given .1) _
+    (disconnected-over (a .self) (a .now) (untold-room (a .self) _ (s .good .0)) (c .before .before .before .before .before .before .before .before .before .before .if10 .taken))
+
+returns-10 : tie.Need-returns-10
+returns-10 c =
+    let t = c .before .before .before .before in
+    let s = c .before .before .before .before .before .before .before .before .before .before .before .before in
+    let a = s .args in
+    act-disconnected (a .self) (a .out .now) (a .statuses) (a .now) (a .epoch) (a .nonce) (good-clocks (t .before .before .before)) (t .if3 .left) (c .before .before .enum-told3 .given .1) _
+    (disconnected-idle (a .self) (a .now) (untold-room (a .self) _ (s .good .0)) (c .if10 .left))
+
+returns-11 : tie.Need-returns-11
+returns-11 c =
+    let t = c .before in
+    let s = c .before .before .before .before .before .before .before .before .before in
+    let a = s .args in
+    act-idle (a .self) (a .out .now) (a .statuses) (a .now) (a .epoch) (a .nonce) (good-clocks (t .before .before .before)) (t .if3 .left) (untold-room (a .self) _ (s .good .0)) (c .match .keys4)
 
 pub act-spec : {M : Type 1} → statement M
 act-spec =
@@ -80,14 +241,33 @@ act-spec =
     cast-if3
     returns-2
     enum-told
-    act-synchronizing-requires
-    enum-told-2
-    act-running-requires
-    enum-told-3
-    act-disconnected-requires
+    passed-requires
+    request-requires
     same-length
     returns-3
     same-length-2
     returns-4
     returns-5
-    returns-6)
+    enum-told-2
+    count-requires
+    due-at-requires
+    told-requires
+    count-requires-2
+    add-if6
+    returns-6
+    sends-requires
+    sending-width-requires
+    batch-size-requires
+    is-full-requires
+    returns-7
+    newest-requires
+    write-batch-requires
+    tell-requires
+    clocks-after-requires
+    flags-after-requires
+    same-length-3
+    returns-8
+    enum-told-3
+    returns-9
+    returns-10
+    returns-11)

@@ -10,13 +10,17 @@ time-if-requires c κs = search needs
 time-if-requires-2 : tie.Need-time-if-requires-2
 time-if-requires-2 c κs = search needs
 
+sends-requires : tie.Need-sends-requires
+sends-requires c κs = search needs
+
 time-if-requires-3 : tie.Need-time-if-requires-3
 time-if-requires-3 c κs = search needs
 
 returns : tie.Need-returns
 unfolding clocksBy
-returns c = rw (c .before .before .time-if .ensures, c .before .time-if2 .ensures, c .time-if3 .ensures)
+returns c = rw (c .before .before .before .time-if .ensures, c .before .before .time-if2 .ensures, c .time-if3 .ensures, c .before .sends .ensures)
 
 pub clocks-after-spec : {M : Type 1} → statement M
 clocks-after-spec =
-    tie.close (tie.spec time-if-requires time-if-requires-2 time-if-requires-3 returns)
+    tie.close
+    (tie.spec time-if-requires time-if-requires-2 sends-requires time-if-requires-3 returns)

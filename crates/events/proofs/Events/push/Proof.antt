@@ -1,7 +1,7 @@
 -- `push` writes behind the last where there is room.
 use borrow.Author.Needs.{needs}
-use borrow.Author.Tests.{le-leb, lt-leb}
-use mathlib.Core.Path.{_≡_, refl, sym}
+use borrow.Author.Tests.{ltb-true, ltb-false, le-leb, lt-leb}
+use mathlib.Core.Path.{_≡_, refl, sym, _∙_}
 use Prim.Native.Nat.{_+_}
 use native.Mathlib.Omega.{arith}
 use lib.ListN.{length}
@@ -20,29 +20,29 @@ mul-entry : tie.Need-mul-entry
 mul-entry c = search needs
 
 element-set-from-entry : tie.Need-element-set-from-entry
-element-set-from-entry c = search needs
+element-set-from-entry c = omega (arith, ltb-true)
 
 add-self : tie.Need-add-self
-add-self c = search needs
+add-self c = omega (arith, ltb-true)
 
 returns : tie.Need-returns
 unfolding held hasRoom
 returns c =
     let s = c .before .before .args .t1 in
     let n = c .before .count .ensures in
-    let h = le-leb (length (held s) + 1) 640 (omega arith) in
+    let h = le-leb (length (held s) + 1) 640 (omega (arith, ltb-true)) in
     record {
-      ok = sym h;
-      view = rw h (store-end (s .entries) (s .used) _ _ n (omega (arith, long (c .before .before))));
-      same = λ e. search needs;
+      ok = c .if1 .taken ∙ sym h;
+      view = rw h (store-end (s .entries) (s .used) _ _ n (omega (arith, ltb-true, long (c .before .before))));
+      same = λ e. cc;
     }
 
 returns-2 : tie.Need-returns-2
 unfolding hasRoom
 returns-2 c =
     let s = c .before .before .args .t1 in
-    let h = lt-leb (length (held s) + 1) 640 (omega (arith, c .before .count .ensures)) in
-    record { ok = sym h; view = rw h; same = λ _. refl }
+    let h = lt-leb (length (held s) + 1) 640 (omega (arith, ltb-false, c .before .count .ensures)) in
+    record { ok = c .if1 .left ∙ sym h; view = rw h; same = λ _. refl }
 
 pub push-spec : {M : Type 1} → statement M
 push-spec = tie.close (tie.spec count-requires mul-entry element-set-from-entry add-self returns returns-2)

@@ -1,12 +1,12 @@
 -- `push_both` writes behind the last what there is to tell.
 use borrow.Author.Needs.{needs}
-use borrow.Author.Tests.{le-leb, lt-leb}
+use borrow.Author.Tests.{leb-true, leb-false, lt-leb}
 use mathlib.Core.Path.{_≡_, refl, sym, _∙_}
 use mathlib.Core.Logic.{⊎-elim}
 use mathlib.Core.List.{[], _∷_, _++_, append-nil}
 use Prim.Native.Nat.{_+_, _<_, _≤_}
 use native.Mathlib.Omega.{arith}
-use lib.ListN.{length, take}
+use lib.ListN.{length}
 use Rattle.base.specs.Pick.{pick}
 use Rattle.base.proofs.Arrays.{unmap, view-le}
 use Rattle.events.specs.Events.{held, hasRoom, both}
@@ -37,24 +37,21 @@ few : (c : tie.After-count) → c .count .result ≤ 640
 unfolding held
 few c = omega (arith, c .count .ensures, long (c .before), view-le (c .before .args .t1 .used) (c .before .args .t1 .entries))
 
-add-if1 : tie.Need-add-if1
-add-if1 c = omega (arith, few (c .before), c .told .ensures, told-most (c .before .before .args .first))
+add-ok : tie.Need-add-ok
+add-ok c = omega (arith, few (c .before), c .told .ensures, told-most (c .before .before .args .first))
 
-add-if1-2 : tie.Need-add-if1-2
-add-if1-2 c = omega (arith, few (c .before .before), c .before .told .ensures, c .told2 .ensures, told-most (c .before .before .before .args .first), told-most (c .before .before .before .args .second))
+add-ok-2 : tie.Need-add-ok-2
+add-ok-2 c = omega (arith, few (c .before .before), c .before .told .ensures, c .told2 .ensures, told-most (c .before .before .before .args .first), told-most (c .before .before .before .args .second))
 
-returns : tie.Need-returns
-unfolding hasRoom
-returns c =
-    let a = c .before .before .before .before .args in
-    let h = lt-leb (length (held (a .t1)) + length (both (a .first) (a .one) (a .second) (a .other))) 640 (omega (arith, total (c .before), c .if1 .taken)) in
-    record { ok = sym h; view = rw h; same = λ _. refl }
+-- all fit
+fit : (c : tie.Then1) → c .before .before .before .count .result + c .before .before .told .result + c .before .told2 .result ≤ 640
+fit c = leb-true _ _ (c .if1 .taken)
 
 -- there is a place for the first
 free : (c : tie.Then2) → c .before .before .before .before .count .result < 640
 free c =
     let a = c .before .before .before .before .before .args in
-    omega (arith, c .before .if1 .left, told-one (a .first) (c .before .before .before .told .result) (c .if2 .taken) (c .before .before .before .told .ensures))
+    omega (arith, fit (c .before), told-one (a .first) (c .before .before .before .told .result) (c .if2 .taken) (c .before .before .before .told .ensures))
 
 mul-one : tie.Need-mul-one
 mul-one c = omega (arith, free c)
@@ -72,7 +69,7 @@ stored c =
     let n = c .before .before .before .before .count .ensures in
     let none = behind-none (a .t1) (c .before .before .before .before .count .result) n (long (c .before .before .before .before .before)) in
     ⊎-elim {0, 0, 0}
-    (λ w. rw (w .1, w .2, w .0 .taken) (behind-one (held (a .t1)) [] (a .t1 .entries) _ (a .one) (omega (arith, c .before .if1 .left, told-one (a .first) (c .before .before .before .told .result) (w .0 .taken) (c .before .before .before .told .ensures))) none))
+    (λ w. rw (w .1, w .2, w .0 .taken) (behind-one (held (a .t1)) [] (a .t1 .entries) _ (a .one) (omega (arith, fit (c .before), told-one (a .first) (c .before .before .before .told .result) (w .0 .taken) (c .before .before .before .told .ensures))) none))
     (λ w. rw (w .1, w .2, w .0 .left) none)
     (c .if2 .came)
 
@@ -80,7 +77,7 @@ stored c =
 free-2 : (c : tie.Then3) → c .before .if2 .to < 640
 free-2 c =
     let a = c .before .before .before .before .before .before .args in
-    omega (arith, c .before .before .if1 .left, stored (c .before) .place, told-length (a .first) (a .one), c .before .before .before .before .told .ensures, told-one (a .second) (c .before .before .before .told2 .result) (c .if3 .taken) (c .before .before .before .told2 .ensures))
+    omega (arith, fit (c .before .before), stored (c .before) .place, told-length (a .first) (a .one), c .before .before .before .before .told .ensures, told-one (a .second) (c .before .before .before .told2 .result) (c .if3 .taken) (c .before .before .before .told2 .ensures))
 
 mul-other : tie.Need-mul-other
 mul-other c = omega (arith, free-2 (c .before))
@@ -91,21 +88,28 @@ element-set-from-other c = free-2 (c .before)
 add-to-2 : tie.Need-add-to-2
 add-to-2 c = omega (arith, free-2 (c .before))
 
-returns-2 : tie.Need-returns-2
+returns : tie.Need-returns
 unfolding both
-returns-2 c =
+returns c =
     let a = c .before .before .before .before .before .before .before .args in
     let b = stored (c .before .before) in
     let more : both (a .first) (a .one) (a .second) (a .other) ≡ pick (a .first) (a .one ∷ []) [] ++ a .other ∷ [] = rw (c .before .if3 .taken) in
-    pushed-behind (a .t1) (both (a .first) (a .one) (a .second) (a .other)) _ _ (omega (arith, total (c .before .before .before .before), c .before .before .before .if1 .left))
-    (rw more (behind-one (held (a .t1)) (pick (a .first) (a .one ∷ []) []) (c .before .before .if2 .self .entries) (c .before .before .if2 .to) (a .other) (free-2 (c .before)) b))
+    rw (c .before .before .before .if1 .taken) (pushed-behind (a .t1) (both (a .first) (a .one) (a .second) (a .other)) _ _ (omega (arith, total (c .before .before .before .before), fit (c .before .before .before)))
+    (rw more (behind-one (held (a .t1)) (pick (a .first) (a .one ∷ []) []) (c .before .before .if2 .self .entries) (c .before .before .if2 .to) (a .other) (free-2 (c .before)) b)))
 
-returns-3 : tie.Need-returns-3
+returns-2 : tie.Need-returns-2
 unfolding both
-returns-3 c =
+returns-2 c =
     let a = c .before .before .before .before .before .before .args in
     let more : both (a .first) (a .one) (a .second) (a .other) ≡ pick (a .first) (a .one ∷ []) [] = rw (c .if3 .left, append-nil) in
-    pushed-behind (a .t1) (both (a .first) (a .one) (a .second) (a .other)) _ _ (omega (arith, total (c .before .before .before), c .before .before .if1 .left)) (rw more (stored (c .before)))
+    rw (c .before .before .if1 .taken) (pushed-behind (a .t1) (both (a .first) (a .one) (a .second) (a .other)) _ _ (omega (arith, total (c .before .before .before), fit (c .before .before))) (rw more (stored (c .before))))
+
+returns-3 : tie.Need-returns-3
+unfolding hasRoom
+returns-3 c =
+    let a = c .before .before .before .before .args in
+    let h = lt-leb (length (held (a .t1)) + length (both (a .first) (a .one) (a .second) (a .other))) 640 (omega (arith, total (c .before), leb-false)) in
+    record { ok = c .if1 .left ∙ sym h; view = rw h; same = λ _. refl }
 
 pub push-both-spec : {M : Type 1} → statement M
-push-both-spec = tie.close (tie.spec count-requires told-requires add-if1 told-requires-2 add-if1-2 returns mul-one element-set-from-one add-to mul-other element-set-from-other add-to-2 returns-2 returns-3)
+push-both-spec = tie.close (tie.spec count-requires told-requires add-ok told-requires-2 add-ok-2 mul-one element-set-from-one add-to mul-other element-set-from-other add-to-2 returns returns-2 returns-3)

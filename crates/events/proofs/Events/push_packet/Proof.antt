@@ -1,7 +1,7 @@
 -- `push_packet` writes the events of frame after frame behind the last. The outer invariant: what is written, with what is left to announce, is the whole; the inner one
 -- is that of one frame, from where the frame began.
 use borrow.Author.Needs.{needs}
-use borrow.Author.Tests.{not-true, not-false, leb-true}
+use borrow.Author.Tests.{leb-true}
 use mathlib.Core.Bool.{true}
 use mathlib.Core.List.{[], _∷_, _++_, append-nil, append-assoc}
 use mathlib.Core.Logic.{⊎-elim}
@@ -13,7 +13,7 @@ use lib.Dec.{leb}
 use lib.ListN.{length, take, drop, length-set, length-take, length-append}
 use lib.Seq.{getD-take, length-take-le}
 use Rattle.base.specs.Pick.{pick}
-use Rattle.base.proofs.Arrays.{unmap, view-le, take-count}
+use Rattle.base.proofs.Arrays.{unmap, view-le}
 use Rattle.packing.specs.Packing.{framesOf}
 use Rattle.packing.proofs.Pads.{padded-length}
 use Rattle.events.specs.declared.Event.the-variants.{NetworkResumed, Disconnected}
@@ -23,17 +23,17 @@ use Rattle.events.proofs.Events.push_packet.Statement.{statement}
 use Rattle.events.proofs.Events.push_packet.Tie as tie
 
 abbrev Inv-handles : tie.InvT-handles
-Inv-handles resumed disconnected frame count payload at width reference handle-count size self₀ handles players used end to₀ from k bytes part₀ i₀ self to part i =
+Inv-handles resumed disconnected frame count payload at width reference handle-count size self₀ handles players used ok end to₀ from k bytes part₀ i₀ self to part i =
     (i ≤ players) × (part ≤ 64) × (players ≤ 4) × (to + (players - i) ≤ 640) × (players ≡ length (take handle-count handles)) × (length handles ≡ 4)
     × (length bytes ≡ 64) × (length (self .entries) ≡ 640) × (frame + k < 2 ^ 32)
     × (take to (self .entries) ++ announced (frame + k) size (drop part bytes) (drop i (take handle-count handles))
     ≡ take to₀ (self₀ .entries) ++ announced (frame + k) size bytes (take handle-count handles))
 
 abbrev μ-handles : tie.MeasureT-handles
-μ-handles resumed disconnected frame count payload at width reference handle-count size self₀ handles players used end to₀ from k bytes part₀ i₀ self to part i = players - i
+μ-handles resumed disconnected frame count payload at width reference handle-count size self₀ handles players used ok end to₀ from k bytes part₀ i₀ self to part i = players - i
 
 abbrev Inv-frames : tie.InvT-frames
-Inv-frames resumed disconnected frame count payload at width reference handle-count size self₀ handles players used end to₀ from₀ k₀ self to from k =
+Inv-frames resumed disconnected frame count payload at width reference handle-count size self₀ handles players used ok end to₀ from₀ k₀ self to from k =
     (k ≤ count) × (from ≤ end) × (end ≡ length payload) × (players ≤ 4) × (to ≤ 640) × (players ≡ length (take handle-count handles)) × (length handles ≡ 4)
     × (length reference ≡ 64) × (frame + count ≤ 2 ^ 32) × (length (self .entries) ≡ 640)
     × (length (take to₀ (self₀ .entries) ++ announcedAll frame size (take handle-count handles) (framesOf width reference count (drop at payload))) ≤ 640)
@@ -41,7 +41,7 @@ Inv-frames resumed disconnected frame count payload at width reference handle-co
     ≡ take to₀ (self₀ .entries) ++ announcedAll frame size (take handle-count handles) (framesOf width reference count (drop at payload)))
 
 abbrev μ-frames : tie.MeasureT-frames
-μ-frames resumed disconnected frame count payload at width reference handle-count size self₀ handles players used end to₀ from₀ k₀ self to from k = count - k
+μ-frames resumed disconnected frame count payload at width reference handle-count size self₀ handles players used ok end to₀ from₀ k₀ self to from k = count - k
 
 long : (c : tie.Start Inv-handles μ-handles Inv-frames μ-frames) → length (c .args .t1 .entries) ≡ 640
 long c = search (unmap, needs)
@@ -96,11 +96,8 @@ able c =
     let p : c .before .before .before .before .least .result ≡ length (take (a .handle-count) (a .t10)) = omega (arith, c .before .before .before .before .least .ensures, length-take (a .handle-count) (a .t10)) in
     rw (c .packet-fits .ensures, length-append (held (a .t1)) (ahead (a .resumed) (a .disconnected)), ← behind (c .before), ← p)
 
-returns : tie.Need-returns Inv-handles μ-handles Inv-frames μ-frames
-returns c = let h = able (c .before) ∙ not-true _ (c .if1 .taken) in record { ok = sym h; view = rw h; same = λ _. refl }
-
 -- all fit
-fit : (c : tie.Else1 Inv-handles μ-handles Inv-frames μ-frames)
+fit : (c : tie.Then1 Inv-handles μ-handles Inv-frames μ-frames)
     → (c .before .before .before .before .before .before .before .args .frame + c .before .before .before .before .before .before .before .args .count ≤ 2 ^ 32)
     × (length (held (c .before .before .before .before .before .before .before .args .t1)) + length (ahead (c .before .before .before .before .before .before .before .args .resumed) (c .before .before .before .before .before .before .before .args .disconnected)) + c .before .before .before .before .before .before .before .args .count * length (take (c .before .before .before .before .before .before .before .args .handle-count) (c .before .before .before .before .before .before .before .args .t10)) ≤ 640)
 unfolding packetFits hasRoom
@@ -108,11 +105,11 @@ fit c =
     let a = c .before .before .before .before .before .before .before .args in
     let hs = take (a .handle-count) (a .t10) in
     let l = held (a .t1) ++ ahead (a .resumed) (a .disconnected) in
-    let b = each (leb (a .frame + a .count) (2 ^ 32)) (leb (length l + a .count * length hs) 640) (able (c .before) ∙ not-false _ (c .if1 .left)) in
+    let b = each (leb (a .frame + a .count) (2 ^ 32)) (leb (length l + a .count * length hs) 640) (able (c .before) ∙ c .if1 .taken) in
     (leb-true _ _ (b .0), omega (arith, length-append (held (a .t1)) (ahead (a .resumed) (a .disconnected)), leb-true (length l + a .count * length hs) 640 (b .1)))
 
 -- a place for each of the two
-free : (c : tie.Else1 Inv-handles μ-handles Inv-frames μ-frames) → c .before .before .before .before .before .before .before .args .resumed ≡ true → c .before .before .before .before .count .result < 640
+free : (c : tie.Then1 Inv-handles μ-handles Inv-frames μ-frames) → c .before .before .before .before .before .before .before .args .resumed ≡ true → c .before .before .before .before .count .result < 640
 free c h = let a = c .before .before .before .before .before .before .before .args in omega (arith, fit c .1, behind (c .before .before), told-one (a .resumed) (c .before .before .before .told .result) h (c .before .before .before .told .ensures))
 
 mul-t36 : tie.Need-mul-t36 Inv-handles μ-handles Inv-frames μ-frames
@@ -274,14 +271,18 @@ frames-again c =
       packet-turn (a .frame) (a .size) (a .width) (a .reference) hs (a .payload .now) (a .count) (f .k) (take (f .to) (f .self .entries)) _ (take (h .to) (h .self .entries)) (c .before .before .before .frame-at .result) (f .from) (c .onward2 .result) (omega arith) (omega arith) (c .onward2 .ensures) (c .before .before .before .frame-at .ensures) (frame-end (a .frame + f .k) (a .size) (drop (h .part) (c .before .before .before .frame-at .result)) hs (h .i) _ _ (omega arith) (h .inv .9)) (f .inv .11),
     )
 
-returns-2 : tie.Need-returns-2 Inv-handles μ-handles Inv-frames μ-frames
+returns : tie.Need-returns Inv-handles μ-handles Inv-frames μ-frames
 unfolding held
-returns-2 c =
+returns c =
     let f = c .before .frames in
     let a = c .before .before .before .before .before .before .before .before .before .before .before .before .args in
-    let h = able (c .before .before .before .before .before .before) ∙ not-false _ (c .before .before .before .before .before .if1 .left) in
+    let t = able (c .before .before .before .before .before .before) in
+    let h = t ∙ c .before .before .before .before .before .if1 .taken in
     let e = packet-end (a .frame) (a .size) (a .width) (a .reference) (take (a .handle-count) (a .t10)) (a .payload .now) (a .count) (f .k) _ _ (drop (f .from) (a .payload .now)) (f .inv .11) (omega arith) in
-    record { ok = sym h; view = rw h (e ∙ rw (after-both (c .before .before .before) .view, append-assoc)); same = λ e. search needs }
+    record { ok = sym t; view = rw h (e ∙ rw (after-both (c .before .before .before) .view, append-assoc)); same = λ e. cc }
+
+returns-2 : tie.Need-returns-2 Inv-handles μ-handles Inv-frames μ-frames
+returns-2 c = let t = able (c .before) in record { ok = sym t; view = rw (t, c .if1 .left); same = λ _. refl }
 
 pub push-packet-spec : {M : Type 1} → statement M
 push-packet-spec =
@@ -298,7 +299,6 @@ push-packet-spec =
     told-requires-2
     add-packet-fits-2
     packet-fits-requires
-    returns
     mul-t36
     element-set-from-self
     add-to
@@ -324,4 +324,5 @@ push-packet-spec =
     add-k
     frames-less
     frames-again
+    returns
     returns-2)
