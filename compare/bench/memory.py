@@ -1,38 +1,47 @@
 #!/usr/bin/env python3
-"""memory.py BENCH: what our calls copy, and the stack that they need.
+"""memory.py: what our calls copy, and the stack that they need, of the program `bench` as it was last built.
 
 Copies: `copies.c` is loaded before the C library and counts memcpy by size; a run of 200 less one of 100 is that of 100 calls. Stack: the frames
 in the disassembly, added up along the deepest chain of calls; and the smallest stack in which a run ends well."""
-import pathlib, re, resource, subprocess, sys, tempfile
+import os, pathlib, platform, re, resource, shutil, subprocess, sys, tempfile
 from items import CALLS
+
+HERE = pathlib.Path(__file__).resolve().parent
+TOP = HERE.parent.parent
+PROGRAM = TOP / "target/bin/bench"
+MACHINE = platform.machine()
+# Debian's name for it, on every machine; on x86-64 the plain one does as well.
+OBJDUMP = shutil.which("x86_64-linux-gnu-objdump") or "objdump"
+TOOLS = pathlib.Path(shutil.which("rt")).resolve().parent.parent / "on" / MACHINE / "toolchain"
 
 # The bytes of an endpoint: docs/SPEED.md adds them up.
 STATE = 34416
 REPEATED = 100
 
 
-def copied(program, counter, item, count):
+def copied(counter, item, count):
     """How often each size was copied."""
-    run = subprocess.run([program], input=item.record(count), capture_output=True, check=True, env={"LD_PRELOAD": counter})
+    run = subprocess.run([TOP / "launch", "bench"], input=item.record(count), capture_output=True, check=True, env={**os.environ, "PRELOAD": counter})
     return {int(size): int(times) for size, times in (line.split() for line in run.stderr.decode().splitlines())}
 
 
-def copies(program):
+def copies():
     print(f"| {'item':48} | copies | bytes copied | in states |\n|{'-' * 50}|-------:|-------------:|----------:|")
     with tempfile.TemporaryDirectory() as folder:
         counter = f"{folder}/copies.so"
-        source = pathlib.Path(__file__).with_name("copies.c")
-        subprocess.run(["cc", "-O2", "-shared", "-fPIC", "-fno-builtin", "-o", counter, source], check=True)
+        # The program is for x86-64 on every machine, so what is loaded into it is too.
+        compiler = [TOOLS / "bin/clang", "--target=x86_64-unknown-linux-gnu", "-fuse-ld=lld", "-nostdlib"]
+        subprocess.run([*compiler, "-O2", "-shared", "-fPIC", "-fno-builtin", "-o", counter, HERE / "copies.c", TOOLS / "lib/libc.so.6"], check=True)
         for item in CALLS:
-            once, twice = copied(program, counter, item, REPEATED), copied(program, counter, item, 2 * REPEATED)
+            once, twice = copied(counter, item, REPEATED), copied(counter, item, 2 * REPEATED)
             each = {size: (twice[size] - once.get(size, 0)) / REPEATED for size in twice}
             total = sum(size * times for size, times in each.items())
             print(f"| {item.label:48} | {sum(each.values()):6.1f} | {total:12,.0f} | {total / STATE:9.1f} |")
 
 
-def frames(program):
+def frames():
     """Each function's frame in bytes, and what it calls."""
-    text = subprocess.run(["objdump", "-d", "-C", "--no-show-raw-insn", program], capture_output=True, text=True, check=True).stdout
+    text = subprocess.run([OBJDUMP, "-d", "-C", "--no-show-raw-insn", PROGRAM], capture_output=True, text=True, check=True).stdout
     frame, calls = {}, {}
     for block in re.split(r"\n\n", text):
         head = re.match(r"[0-9a-f]+ <(.*)>:\n", block)
@@ -53,35 +62,36 @@ def deepest(name, frame, calls):
     return frame.get(name, 0) + 8 + max((deepest(called, frame, calls) for called in calls.get(name, ()) if called in frame), default=0)
 
 
-def ends_within(program, item, kib):
+def ends_within(item, kib):
     def limit():
         resource.setrlimit(resource.RLIMIT_STACK, (kib * 1024, kib * 1024))
 
-    run = subprocess.run([program], input=item.record(REPEATED), capture_output=True, preexec_fn=limit)
+    loaded = [TOOLS / "lib/ld-linux-x86-64.so.2", "--library-path", TOOLS / "lib", PROGRAM]
+    if MACHINE == "x86_64":
+        run = subprocess.run(loaded, input=item.record(REPEATED), capture_output=True, preexec_fn=limit)
+    else:
+        run = subprocess.run([TOOLS / "bin/qemu-x86_64", "-s", str(kib * 1024), *loaded], input=item.record(REPEATED), capture_output=True)
     return run.returncode == 0
 
 
-def least_stack(program, item):
+def least_stack(item):
     low, high = 16, 8192
+    if not ends_within(item, high):
+        sys.exit("bench: the exchange does not end well with a stack of 8 MiB")
     while high - low > 4:
         middle = (low + high) // 2
-        low, high = (low, middle) if ends_within(program, item, middle) else (middle, high)
+        low, high = (low, middle) if ends_within(item, middle) else (middle, high)
     return high
 
 
-def stack(program):
-    frame, calls = frames(program)
+def stack():
+    frame, calls = frames()
     print(f"\n| {'function':32} | its frame | with what it calls |\n|{'-' * 34}|----------:|-------------------:|")
     for name in sorted(frame):
         if name.startswith("endpoint::Endpoint::"):
             print(f"| {name:32} | {frame[name]:9,} | {deepest(name, frame, calls):18,} |")
-    print(f"\nthe exchange ends well with a stack of {least_stack(program, CALLS[-1])} KiB, and not with 4 KiB less")
+    print(f"\nthe exchange ends well with a stack of {least_stack(CALLS[-1])} KiB, and not with 4 KiB less")
 
 
-def main():
-    program = sys.argv[1]
-    copies(program)
-    stack(program)
-
-
-main()
+copies()
+stack()

@@ -1,12 +1,14 @@
 #!/usr/bin/env python3
-"""compare.py REPLAY DIR: runs DIR's scripts on the program REPLAY and holds what it writes against DIR's answers, call by call.
+"""compare.py DIR COMMAND..: runs DIR's scripts on the command that starts `replay` and holds what it writes against DIR's answers, call by call.
 
 `replay` does not play the spectator yet. Left out are the calls of object 2 once a script uses it, and all calls of an endpoint from the first
 on that carries bytes from there."""
 
+import os
 import struct
 import subprocess
 import sys
+from concurrent.futures import ThreadPoolExecutor
 from pathlib import Path
 
 HEADER, RECORD, ANSWER = 8, 64, 12
@@ -45,12 +47,16 @@ def difference(script, expected, got):
     return None if len(got) == len(expected) else "in length"
 
 
-def main(replay, folder):
+def main(folder, *replay):
+    def answered(path):
+        return subprocess.run(replay, input=path.read_bytes(), stdout=subprocess.PIPE, check=False).stdout
+
     calls = left_out = faults = 0
     scripts = sorted(Path(folder).glob("*.script"))
-    for path in scripts:
+    with ThreadPoolExecutor(os.cpu_count()) as pool:
+        answers = list(pool.map(answered, scripts))
+    for path, got in zip(scripts, answers):
         script, expected = path.read_bytes(), path.with_suffix(".answers").read_bytes()
-        got = subprocess.run([replay], input=script, stdout=subprocess.PIPE, check=False).stdout
         found = difference(script, expected, got)
         if found:
             faults += 1
@@ -63,6 +69,6 @@ def main(replay, folder):
 
 
 if __name__ == "__main__":
-    if len(sys.argv) != 3:
+    if len(sys.argv) < 3:
         sys.exit(__doc__)
-    sys.exit(main(sys.argv[1], sys.argv[2]))
+    sys.exit(main(*sys.argv[1:]))
