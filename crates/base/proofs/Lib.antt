@@ -8,6 +8,7 @@ pub mod Digits
 pub mod Lines
 pub mod Shifts
 pub mod Kept
+pub mod InPlace
 pub mod Padded
 pub mod Removal
 pub mod Settled

@@ -150,6 +150,13 @@ module _ {X : Type 0} (key : X → ℕ) where
       elim (eqb k (key x)) as (λ b. pick b true (has key k xs) ≡ ltb (pick b zero (suc (place key k xs))) (suc (length xs)))
       [ true ↦ rw (lt-ltb 0 (suc (length xs)) (omega arith)) | false ↦ rw compare·suc-suc (has-place k xs) ]
 
+  pub place-le : (k : ℕ) (l : List X) → place key k l ≤ length l
+  unfolding place
+  place-le k [] = omega arith
+  place-le k (x ∷ xs) =
+      let n = place-le k xs in
+      elim (eqb k (key x)) as (λ b. pick b zero (suc (place key k xs)) ≤ suc (length xs)) [ true ↦ omega arith | false ↦ omega arith ]
+
   pub first-place : (k : ℕ) (d : X) (l : List X) → firstWith key k d l ≡ getD l (place key k l) d
   unfolding firstWith place
   first-place k d [] = refl

@@ -102,7 +102,7 @@ pub fn send_input(count: u32) -> u64 {
         end = ended.endpoint;
         sum = wrapping_add_u64(sum, waiting(end));
         end.queued = 0;
-        end.sender.pending.used = 3;
+        end.pending.used = 3;
         i += 1;
     }
     sum

@@ -23,16 +23,17 @@ pub struct Found {
     pub checksum: Checksum,
 }
 
+// The store stands first in what a call gives back: a flag in front of it would make padding, and then the compiler copies the store once more.
 pub struct Put {
-    pub ok: bool,
     pub checksums: Checksums,
+    pub ok: bool,
 }
 
 // Done where neither flag is set.
 pub struct Reported {
+    pub checksums: Checksums,
     pub overflow: bool,
     pub full: bool,
-    pub checksums: Checksums,
 }
 
 // The oldest frame to keep, 31 intervals before the arriving one, or the least frame. In u64 no interval overflows.
@@ -123,23 +124,22 @@ impl Checksums {
     }
 
     // Those of a frame or later, in their order: each that stays is written behind those that stayed before it.
-    fn kept_from(self, oldest: u32) -> Checksums
+    fn kept_from(mut self, oldest: u32) -> Checksums
         ensures { λ r. ⌜ stored r ≡ keptFrom oldest (stored self) ⌝ }
     {
         let n = self.count();
-        let mut next = self;
         let mut kept = 0;
         let mut i = 0;
         while i < n {
             let x = self.entries[i];
             if oldest <= x.frame {
-                next.entries[kept] = x;
+                self.entries[kept] = x;
                 kept += 1;
             }
             i += 1;
         }
-        next.used = kept;
-        next
+        self.used = kept;
+        self
     }
 
     // The crate's clean-up at the report of a frame.
@@ -153,30 +153,21 @@ impl Checksums {
     }
 
     // A checksum takes the place of its frame's, or goes to the end; where 64 others are stored, unchanged.
-    fn put(self, checksum: Checksum) -> Put
+    fn put(mut self, checksum: Checksum) -> Put
         ensures { λ r. ⌜ PutAs self checksum r ⌝ }
     {
         let n = self.count();
         let i = self.place(checksum.frame);
-        let mut next = self;
-        if i < n {
-            next.entries[i] = checksum;
-            return Put {
-                ok: true,
-                checksums: next,
-            };
-        }
-        if n < 64 {
-            next.entries[n] = checksum;
-            next.used = n + 1;
-            return Put {
-                ok: true,
-                checksums: next,
-            };
+        let ok = i < 64;
+        if ok {
+            self.entries[i] = checksum;
+            if i == n {
+                self.used = n + 1;
+            }
         }
         Put {
-            ok: false,
             checksums: self,
+            ok,
         }
     }
 
@@ -186,25 +177,25 @@ impl Checksums {
     {
         if too_early(self.count(), frame, interval) {
             return Reported {
+                checksums: self,
                 overflow: true,
                 full: false,
-                checksums: self,
             };
         }
         let next = self.clean(frame, interval);
         let put = next.put(Checksum { frame, low, high });
         if !put.ok {
             return Reported {
+                checksums: self,
                 overflow: false,
                 full: true,
-                checksums: self,
             };
         }
         let checksums = put.checksums;
         Reported {
+            checksums,
             overflow: false,
             full: false,
-            checksums,
         }
     }
 }

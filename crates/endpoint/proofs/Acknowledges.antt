@@ -7,9 +7,11 @@ use Rattle.answer.specs.declared.Answer.the-variants.{Done, Full}
 use Rattle.protocol.specs.Sending.{droppedTo, acknowledged}
 use Rattle.protocol.specs.Receiving.{onInputAck}
 use Rattle.protocol.specs.Step.{heard, reacted}
+use Rattle.packing.specs.declared.input_bytes.InputBytes.{InputBytes}
+use Rattle.pending.specs.declared.Pending.{Pending}
 use Rattle.pending.specs.declared.Dropped.{Dropped}
-use Rattle.pending.specs.Pending.{DroppedAs}
-use Rattle.endpoint.specs.declared.Sender.{Sender}
+use Rattle.pending.specs.Pending.{waiting, drops, DroppedAs}
+use Rattle.pending.proofs.Laws.{dropped-same, last-same}
 use Rattle.endpoint.specs.declared.Endpoint.{Endpoint}
 use Rattle.endpoint.specs.Endpoint.{seen, DoneAs}
 use Rattle.endpoint.specs.Sent.{sent}
@@ -17,10 +19,15 @@ use Rattle.endpoint.proofs.Hears.{Ears, HeardAs}
 use Rattle.endpoint.proofs.Ends.{remade}
 use Rattle.endpoint.proofs.Changes.{changes-full, changes-done}
 
-pub dropped-sent : (s : Sender) (ack : ℕ) (d : Dropped) → DroppedAs (s .pending) ack (s .acked) d
-    → sent (record { pending = d .pending; acked = d .last }) ≡ droppedTo ack (sent s)
-unfolding droppedTo
-dropped-sent s ack d h = rw (h .view, h .last)
+module _ (pending : Pending) (acked : InputBytes) (ack : ℕ) where
+  pub dropped-sent : (d : Dropped) → DroppedAs pending ack acked d → sent (d .pending) (d .last) ≡ droppedTo ack (sent pending acked)
+  unfolding droppedTo
+  dropped-sent d h = rw (h .view, h .last)
+
+  -- where none is dropped
+  pub kept-sent : drops ack (waiting pending) ≡ false → sent pending acked ≡ droppedTo ack (sent pending acked)
+  unfolding droppedTo
+  kept-sent h = rw (dropped-same ack (waiting pending) h, last-same ack acked (waiting pending) h)
 
 module _ (e : Endpoint) (ack now : ℕ) (x : Ears) (ex : HeardAs e (heard now (seen e)) x) where
   abbrev Acked : Endpoint → Answer → Type 0
@@ -30,7 +37,7 @@ module _ (e : Endpoint) (ack now : ℕ) (x : Ears) (ex : HeardAs e (heard now (s
   unfolding onInputAck acknowledged
   ack-full k = changes-full e now x (acknowledged ack) (λ s. refl) k ex
 
-  pub ack-done : (s : Sender) → x .ok ≡ true → sent s ≡ droppedTo ack (sent (e .sender))
-      → Acked (remade e s (e .history) (e .phase) (e .sync) (x .clocks) (x .flags) (e .quality) (e .statuses) (e .checksums) (x .events) (e .queued)) Done
+  pub ack-done : (pending : Pending) (acked : InputBytes) → x .ok ≡ true → sent pending acked ≡ droppedTo ack (sent (e .pending) (e .acked))
+      → Acked (remade e pending acked (e .history) (e .phase) (e .sync) (x .clocks) (x .flags) (e .quality) (e .statuses) (e .checksums) (x .events) (e .queued)) Done
   unfolding onInputAck acknowledged seen
-  ack-done s k es = changes-done e now x (acknowledged ack) (λ s. refl) _ k (λ f t h. rw (es, h .clocks, h .flags, h .events, k)) ex
+  ack-done pending acked k es = changes-done e now x (acknowledged ack) (λ s. refl) _ k (λ f t h. rw (es, h .clocks, h .flags, h .events, k)) ex

@@ -26,8 +26,10 @@ use Rattle.events.specs.declared.Events.{Events}
 use Rattle.events.specs.declared.Pushed.{Pushed}
 use Rattle.events.specs.Events.{held, hasRoom, both, PushedAs}
 use Rattle.events.proofs.Laws.{both-length}
+use Rattle.codec.specs.Message.{Wire}
 use Rattle.setup.specs.Setup.{termsOf, termsWith, sendingWidth}
-use Rattle.outbox.specs.Outbox.{sizes}
+use Rattle.outbox.specs.declared.Queued.{Queued}
+use Rattle.outbox.specs.Outbox.{sizes, pendingInput, QueuedAs}
 use Rattle.protocol.specs.declared.Flags.{Flags}
 use Rattle.protocol.specs.declared.Phase.{Phase}
 use Rattle.protocol.specs.declared.Phase.the-variants.{Initializing, Synchronizing, Running, Disconnected, Shutdown}
@@ -46,13 +48,13 @@ use Rattle.endpoint.specs.declared.handshake.Requested.{Requested}
 use Rattle.endpoint.specs.Endpoint.{seen, DidAs, DoneAs}
 use Rattle.endpoint.specs.Handshaking.{RequestedAs}
 use Rattle.endpoint.specs.Due.{dueOf, clocksBy, flagsBy, toldBy}
-use Rattle.endpoint.specs.Batch.{batch, BatchSizedAs, WrittenAs, WrittenWhere}
+use Rattle.endpoint.specs.Batch.{reports, batch, SizedWith, WrittenAs, WrittenWhere}
 use Rattle.endpoint.proofs.Ends.{remade, refused-did, done-done, queued-did}
 use Rattle.endpoint.proofs.Settles.{did-settled}
 use Rattle.endpoint.proofs.Rooms.{full-events, room-none, full-bytes, room-bytes, reacted-full, reacted-done}
 use Rattle.endpoint.proofs.Unqueued.{unqueued}
 use Rattle.endpoint.proofs.Asks.{request-full, request-fits}
-use Rattle.endpoint.proofs.Batches.{empty, none-sent, written-none}
+use Rattle.endpoint.proofs.Batches.{empty, none-sent, written-none, written-one, written-then}
 use Rattle.endpoint.proofs.Runs.{ran, running-is}
 
 -- act by phase, as a reaction: past the tests for 8 and 3 it is refused for room alone
@@ -78,7 +80,7 @@ batch-did e n f d buffer buffer′ stop h k w after =
 -- e with other events and another end of its queue
 abbrev pub grown : Endpoint → Events → ℕ → Endpoint
 grown e events queued =
-    remade e (e .sender) (e .history) (e .phase) (e .sync) (e .clocks) (e .flags) (e .quality) (e .statuses) (e .checksums) events queued
+    remade e (e .pending) (e .acked) (e .history) (e .phase) (e .sync) (e .clocks) (e .flags) (e .quality) (e .statuses) (e .checksums) events queued
 
 module _ (e : Endpoint) (buffer : List ℕ) (statuses : Statuses) (now epoch : ℕ) (d : Due) where
   abbrev Ran : Effect
@@ -99,23 +101,46 @@ module _ (e : Endpoint) (buffer : List ℕ) (statuses : Statuses) (now epoch : �
   Announced s t = (t ≡ grown e (t .events) (s .queued)) × (held (t .events) ≡ held (e .events) ++ Told)
 
   pub packed-none : (d .input || d .report) || d .«keep_alive» ≡ false → Packed e buffer
-  unfolding batch bufferFull sizes
+  unfolding batch reports bufferFull sizes
   packed-none h =
       let none : Ran .out ≡ [] = none-sent _ _ _ (d .input) (d .report) (d .«keep_alive») h in
       (refl, rw none, rw none (written-none buffer (e .queued) refl))
 
-  module _ (width size : ℕ) (full : Bool) (wide : width ≡ sendingWidth (termsOf (e .setup)))
-      (sized : BatchSizedAs d (heldStatuses statuses) (waiting (e .sender .pending)) width (e .sender .acked) size) (tested : full ≡ bufferFull (length buffer) (e .queued) size) where
-    pub size-is : bufferFull (length buffer) (e .queued) (sizes (Ran .out)) ≡ full
-    unfolding seen termsWith
-    size-is = rw (← wide, sized, tested)
+  module _ (width : ℕ) where
+    abbrev Inputs : List Wire
+    Inputs = pick (d .input) (pendingInput (e .setup .magic) (newestOf (received (e .history))) (heldStatuses statuses) (waiting (e .pending)) width (e .acked) ∷ []) []
 
-    pub packed-some : (ack stop : ℕ) (buffer′ : List ℕ) → full ≡ false → ack ≡ newestOf (received (e .history))
-        → WrittenWhere buffer (e .queued) (batch d (e .setup .magic) ack (heldStatuses statuses) (waiting (e .sender .pending)) width (e .sender .acked) (e .quality .«local_frame_advantage») epoch) stop buffer′
-        → Packed (grown e (e .events) stop) buffer′
-    unfolding seen termsWith
-    packed-some ack stop buffer′ k newest written =
-        (refl, size-is ∙ k, rw (newest, wide) at (written (rw (sized (e .setup .magic) ack (e .quality .«local_frame_advantage») epoch) (sym tested ∙ k))))
+    -- s: e with the pending inputs queued, where they are due
+    abbrev pub Resent : Endpoint → List ℕ → Type 0
+    Resent s buffer′ = (s ≡ grown e (e .events) (s .queued)) × WrittenWhere buffer (e .queued) Inputs (s .queued) buffer′
+
+    pub resent-none : d .input ≡ false → Resent e buffer
+    resent-none h = (refl, rw h (written-none buffer (e .queued)))
+
+    pub resent-some : d .input ≡ true → (ack : ℕ) → ack ≡ newestOf (received (e .history)) → (q : Queued) (buffer′ : List ℕ)
+        → QueuedAs buffer (e .queued) (pendingInput (e .setup .magic) ack (heldStatuses statuses) (waiting (e .pending)) width (e .acked)) q buffer′
+        → Resent (grown e (e .events) (q .end)) buffer′
+    resent-some h ack newest q buffer′ eq = (refl, rw h (written-one buffer (e .queued) _ q buffer′ (rw newest at eq)))
+
+    module _ (size : ℕ) (full : Bool) (wide : width ≡ sendingWidth (termsOf (e .setup))) (whole : length (e .acked .bytes) ≡ 64)
+        (sized : SizedWith d (heldStatuses statuses) (waiting (e .pending)) width size) (tested : full ≡ bufferFull (length buffer) (e .queued) size) where
+      pub size-is : bufferFull (length buffer) (e .queued) (sizes (Ran .out)) ≡ full
+      unfolding seen termsWith
+      size-is = rw (← wide, sized (e .acked) whole, tested)
+
+      module _ (s : Endpoint) (buffer′ : List ℕ) (resent : Resent s buffer′) (stop : ℕ) (buffer″ : List ℕ)
+          (reported : WrittenWhere buffer′ (s .queued) (reports d (s .setup .magic) (s .quality .«local_frame_advantage») epoch) stop buffer″) where
+        all-written : WrittenWhere buffer (e .queued) (batch d (e .setup .magic) (newestOf (received (e .history))) (heldStatuses statuses) (waiting (e .pending)) width (e .acked) (e .quality .«local_frame_advantage») epoch) stop buffer″
+        unfolding batch
+        all-written =
+            let magic : s .setup .magic ≡ e .setup .magic = ap (λ (x : Endpoint). x .setup .magic) (resent .0) in
+            let advantage : s .quality .«local_frame_advantage» ≡ e .quality .«local_frame_advantage» = ap (λ (x : Endpoint). x .quality .«local_frame_advantage») (resent .0) in
+            written-then buffer (e .queued) Inputs _ (s .queued) stop buffer′ buffer″ (resent .1) (rw (magic, advantage) at reported)
+
+        pub packed-some : full ≡ false → Packed (grown s (s .events) stop) buffer″
+        unfolding seen termsWith
+        packed-some k =
+            (ap (λ (x : Endpoint). grown x (x .events) stop) (resent .0), size-is ∙ k, rw wide at (all-written (rw (sized (e .acked) whole) (sym tested ∙ k))))
 
   -- n events wait, m are due
   module _ (n m : ℕ) (en : n ≡ length (held (e .events))) (em : m ≡ pick (d .interruption) 1 0 + pick (d .disconnect) 1 0) where
@@ -144,7 +169,7 @@ module _ (e : Endpoint) (buffer : List ℕ) (statuses : Statuses) (now epoch : �
       announced-some h p ep =
           (ap (λ (x : Endpoint). grown x (p .events) (s .queued)) kept, rw (events-kept, told-fits h) at (ep .view))
 
-  module _ (pending : ℕ) (some : pending ≡ length (waiting (e .sender .pending)))
+  module _ (pending : ℕ) (some : pending ≡ length (waiting (e .pending)))
       (due : d ≡ dueOf now (e .clocks) (e .flags) (ltb 0 pending) (e .setup .«disconnect_notify_start») (e .setup .«disconnect_timeout»)) where
     abbrev Run : Reaction
     Run = acts Running now epoch 0 (heldStatuses statuses) (seen e)
@@ -166,7 +191,7 @@ module _ (e : Endpoint) (buffer : List ℕ) (statuses : Statuses) (now epoch : �
 
     module _ (s t : Endpoint) (buffer′ : List ℕ) (c : Clocks) (f : Flags) (room : hasRoom (held (e .events)) (length Told) ≡ true) (packed : Packed s buffer′) (announced : Announced s t) where
       ends : c ≡ clocksBy d now (e .clocks) → f ≡ flagsBy d (e .flags)
-          → Ending Done (remade e (e .sender) (e .history) (e .phase) (e .sync) c f (e .quality) (e .statuses) (e .checksums) (t .events) (s .queued)) buffer′
+          → Ending Done (remade e (e .pending) (e .acked) (e .history) (e .phase) (e .sync) c f (e .quality) (e .statuses) (e .checksums) (t .events) (s .queued)) buffer′
       unfolding acts seen termsWith
       ends ec ef =
           batch-did e _ Ran _ buffer buffer′ (s .queued)
@@ -174,7 +199,7 @@ module _ (e : Endpoint) (buffer : List ℕ) (statuses : Statuses) (now epoch : �
           refl (packed .2) (rw (ec, ef, announced .1))
 
       pub running-done : c ≡ clocksBy d now (t .clocks) → f ≡ flagsBy d (t .flags)
-          → Ending Done (remade t (t .sender) (t .history) (t .phase) (t .sync) c f (t .quality) (t .statuses) (t .checksums) (t .events) (t .queued)) buffer′
+          → Ending Done (remade t (t .pending) (t .acked) (t .history) (t .phase) (t .sync) c f (t .quality) (t .statuses) (t .checksums) (t .events) (t .queued)) buffer′
       running-done ec ef =
           rw (announced .0) (ends (ec ∙ ap (λ (x : Endpoint). clocksBy d now (x .clocks)) (announced .0)) (ef ∙ ap (λ (x : Endpoint). flagsBy d (x .flags)) (announced .0)))
 
@@ -210,7 +235,7 @@ module _ (e : Endpoint) (buffer : List ℕ) (now nonce : ℕ) where
         (rw (due, request-full buffer (e .setup .magic) nonce (outstanding (e .sync .nonces)) Asked refl (r .ok) (er .ok) k)) buffer)
 
     pub synchronizing-done : hasRoom (held (e .events)) 0 ≡ true → r .ok ≡ true
-        → Asking Done (remade e (e .sender) (e .history) (e .phase) (r .sync) (r .clocks) (e .flags) (e .quality) (e .statuses) (e .checksums) (e .events) (r .end)) buffer′
+        → Asking Done (remade e (e .pending) (e .acked) (e .history) (e .phase) (r .sync) (r .clocks) (e .flags) (e .quality) (e .statuses) (e .checksums) (e .events) (r .end)) buffer′
     unfolding reacted decided acts acted request nonceIssued queueWire seen termsWith
     synchronizing-done room k =
         queued-did e _ Asked _
@@ -231,7 +256,7 @@ module _ (e : Endpoint) (now : ℕ) (room : hasRoom (held (e .events)) 0 ≡ tru
       quiet-done e room Wait refl refl refl e (rw k) (rw k) (rw k) (rw k)
 
   pub disconnected-over : e .clocks .«shutdown_timeout» < now
-      → Waiting (remade e (e .sender) (e .history) Shutdown (e .sync) (e .clocks) (e .flags) (e .quality) (e .statuses) (e .checksums) (e .events) (e .queued))
+      → Waiting (remade e (e .pending) (e .acked) (e .history) Shutdown (e .sync) (e .clocks) (e .flags) (e .quality) (e .statuses) (e .checksums) (e .events) (e .queued))
   unfolding acts acted seen
   disconnected-over h =
       let k = lt-ltb (e .clocks .«shutdown_timeout») now h in

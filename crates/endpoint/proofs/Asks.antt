@@ -107,7 +107,7 @@ module _ (e : Endpoint) (buffer : List ℕ) (now epoch nonce : ℕ) where
           (rw (good, first, request-full buffer (e .setup .magic) nonce (outstanding (e .sync .nonces)) Starting refl (r .ok) (rw ey at (er .ok)) k)) buffer)
 
       pub synchronize-done : r .ok ≡ true → hasRoom (held (e .events)) 0 ≡ true → (q : Quality) → q ≡ startedAt epoch (e .quality)
-          → Starts (remade e (e .sender) (e .history) Synchronizing (r .sync) (r .clocks) (e .flags) q (e .statuses) (e .checksums) (e .events) (r .end)) Done buffer′
+          → Starts (remade e (e .pending) (e .acked) (e .history) Synchronizing (r .sync) (r .clocks) (e .flags) q (e .statuses) (e .checksums) (e .events) (r .end)) Done buffer′
       unfolding step synchronizeStep synchronized started request nonceIssued queueWire decided seen termsWith
       synchronize-done k room q eq =
           queued-did e _ Starting _

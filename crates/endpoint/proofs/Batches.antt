@@ -50,7 +50,7 @@ some-bytes (ChecksumReport checksum frame) n b = omega arith
 some-bytes KeepAlive n b = omega arith
 
 -- three messages of which none is due
-pub none-sent : (a b c : Wire) (i r k : Bool) → (i || r) || k ≡ false → (pick i (a ∷ []) [] ++ pick r (b ∷ []) []) ++ pick k (c ∷ []) [] ≡ []
+pub none-sent : (a b c : Wire) (i r k : Bool) → (i || r) || k ≡ false → pick i (a ∷ []) [] ++ (pick r (b ∷ []) [] ++ pick k (c ∷ []) []) ≡ []
 none-sent a b c true r k h = cc
 none-sent a b c false true k h = cc
 none-sent a b c false false true h = cc

@@ -34,7 +34,7 @@ module _ (e : Endpoint) (now : ℕ) where
 
     -- p and c: what the code sets
     pub disconnect-done : (p : Phase) (c : Clocks) → isShutdown (e .phase) ≡ false → p ≡ Disconnected → c ≡ shutdownAt (now + 5000) (e .clocks)
-        → DoneAs e (step (Call.disconnect now) (seen e)) (record { answer = Done; endpoint = remade e (e .sender) (e .history) p (e .sync) c (e .flags) (e .quality) (e .statuses) (e .checksums) (e .events) (e .queued) })
+        → DoneAs e (step (Call.disconnect now) (seen e)) (record { answer = Done; endpoint = remade e (e .pending) (e .acked) (e .history) p (e .sync) c (e .flags) (e .quality) (e .statuses) (e .checksums) (e .events) (e .queued) })
     unfolding step disconnectStep decided seen
     disconnect-done p c h ep ec = rw (good, h, ep, ec) (record { answer = refl; after = refl; same = λ n. absurd (n refl) })
 

@@ -8,6 +8,8 @@ use Rattle.base.proofs.Lay.{laid-none}
 use Rattle.answer.specs.Number.{numberOf}
 use Rattle.answer.specs.declared.Answer.{Answer}
 use Rattle.answer.specs.declared.Answer.the-variants.{Done}
+use Rattle.packing.specs.declared.input_bytes.InputBytes.{InputBytes}
+use Rattle.pending.specs.declared.Pending.{Pending}
 use Rattle.history.specs.declared.History.{History}
 use Rattle.status.specs.declared.list.Statuses.{Statuses}
 use Rattle.checksums.specs.declared.Checksums.{Checksums}
@@ -16,7 +18,6 @@ use Rattle.timers.specs.declared.Clocks.{Clocks}
 use Rattle.quality.specs.declared.Quality.{Quality}
 use Rattle.protocol.specs.declared.Phase.{Phase}
 use Rattle.protocol.specs.declared.Flags.{Flags}
-use Rattle.endpoint.specs.declared.Sender.{Sender}
 use Rattle.endpoint.specs.declared.Sync.{Sync}
 use Rattle.codec.specs.Message.{Wire}
 use Rattle.outbox.specs.declared.Queued.{Queued}
@@ -27,11 +28,12 @@ use Rattle.endpoint.specs.declared.Endpoint.{Endpoint}
 use Rattle.endpoint.specs.Endpoint.{seen, DidAs, DoneAs}
 
 -- an endpoint with the setup of another: how a call that is done leaves it
-abbrev pub remade : Endpoint → Sender → History → Phase → Sync → Clocks → Flags → Quality → Statuses → Checksums → Events → (queued : ℕ) → Endpoint
-remade e sender history phase sync clocks flags quality statuses checksums events queued =
+abbrev pub remade : Endpoint → Pending → InputBytes → History → Phase → Sync → Clocks → Flags → Quality → Statuses → Checksums → Events → (queued : ℕ) → Endpoint
+remade e pending acked history phase sync clocks flags quality statuses checksums events queued =
     record {
       setup = e .setup;
-      sender = sender;
+      pending = pending;
+      acked = acked;
       history = history;
       phase = phase;
       sync = sync;

@@ -1,7 +1,7 @@
 -- What an Input brings besides inputs: reports merged one after another, and what hearing, acknowledging and informing come to.
 use mathlib.Core.Bool.{Bool, true, false, not, _&&_}
-use mathlib.Core.List.{List, [], _∷_, _++_, map, append-nil}
-use mathlib.Core.Path.{_≡_, refl, sym, _∙_}
+use mathlib.Core.List.{List, [], _∷_, _++_, append-nil}
+use mathlib.Core.Path.{_≡_, refl, _∙_}
 use Prim.Native.Nat.{ℕ, _+_, _<_}
 use native.Mathlib.Numerals.{add-one}
 use lib.ListN.{length, take, getD, length-map, List·getD-map}
@@ -10,7 +10,6 @@ use Rattle.base.specs.Pick.{pick}
 use Rattle.base.proofs.Arrays.{view-at}
 use Rattle.base.proofs.Orders.{getD-within}
 use Rattle.status.specs.declared.ConnectionStatus.{ConnectionStatus}
-use Rattle.status.specs.declared.list.Statuses.{Statuses}
 use Rattle.status.specs.Status.{defaultStatus, reported}
 use Rattle.status.specs.Statuses.{mergedAt, mergedAll, held as heldStatuses}
 use Rattle.status.proofs.MergeAll.{all-turn}
@@ -20,7 +19,7 @@ use Rattle.codec.specs.Message.{listed}
 use Rattle.timers.specs.declared.Clocks.{Clocks}
 use Rattle.timers.specs.Timers.{heardAt}
 use Rattle.events.specs.declared.Entry.{Entry}
-use Rattle.events.specs.declared.Event.the-variants.{NetworkResumed, Disconnected}
+use Rattle.events.specs.declared.Event.the-variants.{Disconnected}
 use Rattle.events.specs.Events.{plain, both, ahead}
 use Rattle.protocol.specs.declared.Flags.{Flags}
 use Rattle.protocol.specs.Seen as Seen
@@ -31,7 +30,6 @@ use Rattle.protocol.specs.Receiving.{disconnectAnnounced, statusesMerged, infor
 use Rattle.protocol.specs.Step.{heard}
 use Rattle.protocol.proofs.Laws.{hearing, by-hearing}
 use Rattle.endpoint.specs.declared.Endpoint.{Endpoint}
-use Rattle.endpoint.specs.declared.Sender.{Sender}
 use Rattle.endpoint.specs.Endpoint.{seen}
 use Rattle.endpoint.specs.Sent.{sent}
 use Rattle.endpoint.specs.declared.informing.Informed.{Informed}
@@ -124,6 +122,6 @@ module _ (e : Endpoint) (now : ℕ) where
         rw (heard-by e now, informed-is now ack d reports (seen e) _ _, ← i .tells)
         (record { told = rw (i .resumes); clocks = i .clocks; flags = i .flags; statuses = i .statuses })
 
-    pub informs-sender : (sd : Sender) → sent sd ≡ droppedTo ack (sent (e .sender)) → sent sd ≡ informed d reports (change (acknowledged ack) (heard now (seen e))) .state .carried .sender
+    pub informs-sender : (sd : Seen.Sender) → sd ≡ droppedTo ack (sent (e .pending) (e .acked)) → sd ≡ informed d reports (change (acknowledged ack) (heard now (seen e))) .state .carried .sender
     unfolding seen
-    informs-sender sd h = by-hearing now (seen e) (λ x. sent sd ≡ informed d reports (change (acknowledged ack) x) .state .carried .sender) (λ f t. rw (informed-is now ack d reports (seen e) f t) h)
+    informs-sender sd h = by-hearing now (seen e) (λ x. sd ≡ informed d reports (change (acknowledged ack) x) .state .carried .sender) (λ f t. rw (informed-is now ack d reports (seen e) f t) h)

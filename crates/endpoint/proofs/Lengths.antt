@@ -19,10 +19,13 @@ use Rattle.endpoint.proofs.Endpoint as Endpoint
 events-long : (e : Events) (vs : List Val) → shadow (Events.the-field .row .own (Events.the-type .to e) vs) → length (e .entries) ≡ 640
 events-long e vs h = search (unmap, needs)
 
--- the events are the eleventh field
+-- the events are the twelfth field
 pub entries-long : (e : Endpoint) (vs : List Val) → shadow (Endpoint.the-field .row .own (Endpoint.the-type .to e) vs) → length (e .events .entries) ≡ 640
-entries-long e vs h = events-long (e .events) _ (h .1 .1 .1 .1 .1 .1 .1 .1 .1 .1 .1 .1 .0)
+entries-long e vs h = events-long (e .events) _ (h .1 .1 .1 .1 .1 .1 .1 .1 .1 .1 .1 .1 .1 .0)
 
 pub untold-room : (e : Endpoint) (vs : List Val) → shadow (Endpoint.the-field .row .own (Endpoint.the-type .to e) vs) → hasRoom (held (e .events)) 0 ≡ true
 unfolding hasRoom held
 untold-room e vs h = le-leb (length (held (e .events)) + 0) 640 (omega (arith, entries-long e vs h, view-le (e .events .used) (e .events .entries)))
+
+pub acked-long : (e : Endpoint) (vs : List Val) → shadow (Endpoint.the-field .row .own (Endpoint.the-type .to e) vs) → length (e .acked .bytes) ≡ 64
+acked-long e vs h = search needs

@@ -1,4 +1,5 @@
 pub mod Ends
+pub mod Retells
 pub mod Rooms
 pub mod Crowds
 pub mod Phases

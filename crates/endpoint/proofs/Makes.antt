@@ -62,7 +62,8 @@ module _ (g : Setup) (now : ℕ) where
       → heldEvents ev ≡ []
       → seen (record {
         setup = s;
-        sender = record { pending = p; acked = record { frame = nullFrame; bytes = replicate 64 0 } };
+        pending = p;
+        acked = record { frame = nullFrame; bytes = replicate 64 0 };
         history = h;
         phase = Initializing;
         sync = record { remaining = 5; nonces = n; «remote_magic» = 0 };

@@ -2,7 +2,7 @@
 use borrow.Author.Tests.{lt-ltb, ltb-true, ltb-false}
 use mathlib.Core.Bool.{true, false}
 use mathlib.Core.List.{List, [], _∷_, _++_}
-use mathlib.Core.Path.{_≡_, refl}
+use mathlib.Core.Path.{_≡_, refl, _∙_}
 use Prim.Native.Nat.{ℕ, zero, suc, _+_, _-_, _*_, _^_, _≤_, min}
 use native.Mathlib.Omega.{arith}
 use native.Mathlib.Numerals.{add-one}
@@ -72,8 +72,8 @@ module _ (start w n : ℕ) (r p : List ℕ) (counts : n ≡ frameCount w (length
     above-packet : above newest (packetOf start w r p) ≡ numbered (start + k) (framesOf w r (n - k) (drop (k * w) p))
     above-packet = rw (packet-is, above-numbered newest start (framesOf w r n p) k (rw (frames-length w r n p) skips), frames-drop w r k n p)
 
-    -- m: how many are above, f: the first of them, A: what is told ahead of them
-    module _ (size : ℕ) (hs : List ℕ) (e : Events) (A : List Entry) (m f : ℕ) (em : m ≡ n - k) (ef : f ≡ pick (ltb 0 m) (start + k) start) (hr : length r ≡ 64) where
+    -- m: how many are above, f: the first of them
+    module _ (size : ℕ) (hs : List ℕ) (m f : ℕ) (em : m ≡ n - k) (ef : f ≡ pick (ltb 0 m) (start + k) start) (hr : length r ≡ 64) where
       abbrev More : List Entry
       More = announcedEach size hs (above newest (packetOf start w r p))
 
@@ -92,11 +92,12 @@ module _ (start w n : ℕ) (r p : List ℕ) (counts : n ≡ frameCount w (length
           [ true ↦ λ t. let g : f ≡ start + k = rw t at ef in omega arith | false ↦ λ t. let g : f ≡ start = rw t at ef in omega (arith, ltb-false 0 m t) ]
           refl
 
-      news-pushed : (q : Pushed)
+      -- A: what is told ahead of them
+      news-pushed : (e : Events) (A : List Entry) (q : Pushed)
           → PushedAs e (packetFits (held e ++ A) f m hs) (A ++ announcedAll f size hs (framesOf w r m (drop (k * w) p))) q
           → PushedAs e (hasRoom (held e) (length (A ++ More))) (A ++ More) q
       unfolding hasRoom
-      news-pushed q a =
+      news-pushed e A q a =
           let all = announcedAll f size hs (framesOf w r m (drop (k * w) p)) in
           let total : length (held e ++ A) + m * length hs ≡ length (held e) + length (A ++ all) =
           omega (arith, length-append (held e) A, length-append A all, packet-length f size w r hs (drop (k * w) p) m) in
@@ -109,5 +110,15 @@ pub announced-news : (g : Setup) (newest start : ℕ) (reference payload : List 
     → PushedAs e (hasRoom (held e) (length (A ++ news g newest start reference payload))) (A ++ news g newest start reference payload) q
 announced-news g newest start reference payload e A w ew hr within r er q a =
     rw (← ew)
-    (news-pushed start w (frameCount w (length payload)) reference payload refl within newest (skipped newest start w (length payload)) refl (g .«input_size») (listed (g .handles)) e A (r .count) (r .first) (er .count) (er .first) hr q
+    (news-pushed start w (frameCount w (length payload)) reference payload refl within newest (skipped newest start w (length payload)) refl (g .«input_size») (listed (g .handles)) (r .count) (r .first) (er .count) (er .first) hr e A q
     (rw (er .at) at a))
+
+-- none above the newest are no news
+pub no-news : (g : Setup) (newest start : ℕ) (reference payload : List ℕ) (w : ℕ) → w ≡ receivingWidth (termsOf g)
+    → length reference ≡ 64 → start + frameCount w (length payload) ≤ 2 ^ 32 → (r : News) → NewsAs newest start w (length payload) r → r .count ≡ 0
+    → news g newest start reference payload ≡ []
+unfolding announcedAll framesOf
+no-news g newest start reference payload w ew hr within r er none =
+    rw (← ew)
+    (news-are start w (frameCount w (length payload)) reference payload refl within newest (skipped newest start w (length payload)) refl (g .«input_size») (listed (g .handles)) (r .count) (r .first) (er .count) (er .first) hr
+    ∙ rw none)

@@ -107,7 +107,7 @@ module _ (e : Endpoint) (from : ℕ) (m : Message) (p : List ℕ) (now epoch non
     Clocked = sentAt (y .«last_send_time») (heardAt now (e .clocks))
 
     abbrev Reacts : Endpoint
-    Reacts = remade e (e .sender) (e .history) (e .phase) (e .sync) Clocked (resumedFlags r (e .flags)) (ratedBy y (e .quality)) (e .statuses) (e .checksums) told (y .end)
+    Reacts = remade e (e .pending) (e .acked) (e .history) (e .phase) (e .sync) Clocked (resumedFlags r (e .flags)) (ratedBy y (e .quality)) (e .statuses) (e .checksums) told (y .end)
 
     abbrev Heard : Ears
     Heard = heardWith e now r er n en f ef true told

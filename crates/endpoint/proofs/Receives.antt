@@ -1,5 +1,4 @@
 -- The ways out of an Input that is not discarded: with inputs that cannot be read, and with inputs that can.
-use borrow.Author.Tests.{not-true, not-false}
 use mathlib.Core.Bool.{Bool, true, false}
 use mathlib.Core.List.{List, [], _∷_, _++_, append-nil}
 use mathlib.Core.Path.{_≡_, refl, sym, _∙_, ap}
@@ -7,9 +6,11 @@ use Prim.Native.Nat.{ℕ}
 use native.Mathlib.Omega.{arith}
 use lib.ListN.{length, take}
 use Rattle.base.specs.Pick.{pick}
+use Rattle.base.specs.Lay.{noRoom}
 use Rattle.answer.specs.declared.Answer.{Answer}
 use Rattle.answer.specs.declared.Answer.the-variants.{Done, Full}
 use Rattle.packing.specs.declared.input_bytes.InputBytes.{InputBytes}
+use Rattle.pending.specs.declared.Pending.{Pending}
 use Rattle.history.specs.declared.History.{History}
 use Rattle.history.specs.History.{received, newestOf, packetOf, takenIn}
 use Rattle.status.specs.declared.ConnectionStatus.{ConnectionStatus}
@@ -21,8 +22,8 @@ use Rattle.timers.specs.declared.Clocks.{Clocks}
 use Rattle.timers.specs.Timers.{inputAt, sentAt}
 use Rattle.setup.specs.Setup.{termsOf, termsWith, receivingWidth}
 use Rattle.events.specs.declared.Entry.{Entry}
-use Rattle.events.specs.declared.Pushed.{Pushed}
-use Rattle.events.specs.Events.{held, hasRoom, ahead, PushedAs}
+use Rattle.events.specs.declared.Events.{Events}
+use Rattle.events.specs.Events.{held, hasRoom, ahead}
 use Rattle.outbox.specs.declared.Queued.{Queued}
 use Rattle.outbox.specs.Outbox.{QueuedAs}
 use Rattle.protocol.specs.declared.Flags.{Flags}
@@ -35,7 +36,6 @@ use Rattle.protocol.specs.Receiving.{taken, receivedIf, receive, announcedEach,
 use Rattle.protocol.specs.Step.{heard, reacted}
 use Rattle.protocol.proofs.Laws.{by-hearing}
 use Rattle.endpoint.specs.declared.Endpoint.{Endpoint}
-use Rattle.endpoint.specs.declared.Sender.{Sender}
 use Rattle.endpoint.specs.declared.informing.Informed.{Informed}
 use Rattle.endpoint.specs.Endpoint.{seen, DidAs, DoneAs}
 use Rattle.endpoint.specs.Sent.{sent}
@@ -62,24 +62,28 @@ module _ (e : Endpoint) (now ack : ℕ) (d : Bool) (reports : List StatusReport)
   pub inputless-out : Inputless Told .out ≡ []
   inputless-out = by-informing now ack d reports (seen e) (λ h. Inputless h .out ≡ []) (λ sd c f st t. rw (inputless now b (seen e) sd c f st t))
 
-  module _ (x : Informed) (p : Pushed) (ep : PushedAs (e .events) (hasRoom (held (e .events)) (length (ahead (x .resumes) (x .tells)))) (ahead (x .resumes) (x .tells)) p) where
+  module _ (x : Informed) where
+    abbrev Ahead : List Entry
+    Ahead = ahead (x .resumes) (x .tells)
+
     abbrev Unreadable : Endpoint → Answer → Effect → Type 0
     Unreadable n a h = Brought h x → DoneAs e (reacted 0 (seen e) (plainly (Inputless h))) (record { answer = a; endpoint = n })
 
-    pub unreadable-full : p .ok ≡ false → Unreadable e Full Told
+    pub unreadable-full : hasRoom (held (e .events)) (length Ahead) ≡ false → Unreadable e Full Told
     unfolding seen
     unreadable-full k = by-informing now ack d reports (seen e) (Unreadable e Full) (λ sd c f st t i.
         rw (inputless now b (seen e) sd c f st t)
-        (refused-done e Full _ (reacted-full 0 (seen e) _ refl refl (full-events [] (informing (seen e) sd (pick b (inputAt now c) c) f st t) (rw (i .told) (sym (ep .ok) ∙ k))))))
+        (refused-done e Full _ (reacted-full 0 (seen e) _ refl refl (full-events [] (informing (seen e) sd (pick b (inputAt now c) c) f st t) (rw (i .told) k)))))
 
-    pub unreadable-done : (c′ : Clocks) (sender : Sender) → p .ok ≡ true → c′ ≡ pick b (inputAt now (x .clocks)) (x .clocks) → sent sender ≡ Told .state .carried .sender
-        → Unreadable (remade e sender (e .history) (e .phase) (e .sync) c′ (x .flags) (e .quality) (x .statuses) (e .checksums) (p .events) (e .queued)) Done Told
+    pub unreadable-done : (events : Events) → hasRoom (held (e .events)) (length Ahead) ≡ true → held events ≡ held (e .events) ++ Ahead → (c′ : Clocks) (pending : Pending) (acked : InputBytes)
+        → c′ ≡ pick b (inputAt now (x .clocks)) (x .clocks) → sent pending acked ≡ Told .state .carried .sender
+        → Unreadable (remade e pending acked (e .history) (e .phase) (e .sync) c′ (x .flags) (e .quality) (x .statuses) (e .checksums) events (e .queued)) Done Told
     unfolding seen
-    unreadable-done c′ sender k ec = by-informing now ack d reports (seen e) (λ h. sent sender ≡ h .state .carried .sender → Unreadable (remade e sender (e .history) (e .phase) (e .sync) c′ (x .flags) (e .quality) (x .statuses) (e .checksums) (p .events) (e .queued)) Done h) (λ sd c f st t es i.
+    unreadable-done events room view c′ pending acked ec = by-informing now ack d reports (seen e) (λ h. sent pending acked ≡ h .state .carried .sender → Unreadable (remade e pending acked (e .history) (e .phase) (e .sync) c′ (x .flags) (e .quality) (x .statuses) (e .checksums) events (e .queued)) Done h) (λ sd c f st t es i.
         let y : Effect = informing (seen e) sd (pick b (inputAt now c) c) f st t in
-        let told : held (p .events) ≡ held (e .events) ++ t = rw (i .told) (rw (← ep .ok, k) at (ep .view)) in
+        let told : held events ≡ held (e .events) ++ t = rw (i .told) view in
         rw (inputless now b (seen e) sd c f st t)
-        (done-done e _ y _ (reacted-done 0 (seen e) _ refl refl refl (room-none [] y refl (rw (i .told) (sym (ep .ok) ∙ k)))) refl
+        (done-done e _ y _ (reacted-done 0 (seen e) _ refl refl refl (room-none [] y refl (rw (i .told) room))) refl
         (rw (ec, es, i .clocks, i .flags, i .statuses, told))))
 
 -- inputs that can be read
@@ -119,39 +123,43 @@ module _ (e : Endpoint) (buffer : List ℕ) (now ack start : ℕ) (d : Bool) (re
   abbrev Ending : Endpoint → Answer → List ℕ → Type 0
   Ending n a b′ = Took n a b′ (inputTaken now d start ack reports payload (heard now (seen e)))
 
-  module _ (p : Pushed) (ep : PushedAs (e .events) (hasRoom (held (e .events)) (length (ahead (x .resumes) (x .tells) ++ News))) (ahead (x .resumes) (x .tells) ++ News) p) where
-    pub readable-unannounced : p .ok ≡ false → Ending e Full buffer
+  abbrev More : List Entry
+  More = ahead (x .resumes) (x .tells) ++ News
+
+  pub readable-unannounced : hasRoom (held (e .events)) (length More) ≡ false → Ending e Full buffer
+  unfolding gotten taken queueWire seen termsWith
+  readable-unannounced k =
+      readably e Full buffer (λ sd c f st t i.
+      refused-did e Full _ (reacted-full (length buffer) (seen e) _ refl refl
+      (full-events buffer (Taking (informing (seen e) sd c f st t)) (rw (i .told) k))) buffer)
+
+  -- an InputAck takes 10 bytes, whatever it acknowledges
+  pub readable-full : noRoom buffer (e .queued) 10 ≡ true → Ending e Full buffer
+  unfolding gotten taken queueWire seen termsWith
+  readable-full k =
+      readably e Full buffer (λ sd c f st t i.
+      refused-did e Full _ (reacted-full (length buffer) (seen e) _ refl refl
+      (full-buffer buffer (Taking (informing (seen e) sd c f st t)) (plain (e .setup .magic) (InputAck (newestOf Stored))) (omega arith) refl k)) buffer)
+
+  module _ (spare : noRoom buffer (e .queued) 10 ≡ false) (events : Events) (room : hasRoom (held (e .events)) (length More) ≡ true) (view : held events ≡ held (e .events) ++ More)
+      (h′ : History) (eh : received h′ ≡ Stored) (newest : ℕ) (en : newest ≡ newestOf (received h′)) (q : Queued) (b′ : List ℕ)
+      (eq : QueuedAs buffer (e .queued) (plain (e .setup .magic) (InputAck newest)) q b′) where
+    abbrev Ack : ℕ → List Wire
+    Ack n = plain (e .setup .magic) (InputAck n) ∷ []
+
+    acked : Ack (newestOf Stored) ≡ Ack newest
+    acked = ap Ack (rw (← eh) (sym en))
+
+    pub readable-done : (c′ : Clocks) (pending : Pending) (last : InputBytes) → c′ ≡ sentAt now (inputAt now (x .clocks))
+        → sent pending last ≡ informed d reports (change (acknowledged ack) (heard now (seen e))) .state .carried .sender
+        → Ending (remade e pending last h′ (e .phase) (e .sync) c′ (x .flags) (e .quality) (x .statuses) (e .checksums) events (q .end)) Done b′
     unfolding gotten taken queueWire seen termsWith
-    readable-unannounced k =
-        readably e Full buffer (λ sd c f st t i.
-        refused-did e Full _ (reacted-full (length buffer) (seen e) _ refl refl
-        (full-events buffer (Taking (informing (seen e) sd c f st t)) (rw (i .told) (sym (ep .ok) ∙ k)))) buffer)
-
-    module _ (announced : p .ok ≡ true) (h′ : History) (eh : received h′ ≡ Stored) (newest : ℕ) (en : newest ≡ newestOf (received h′)) (q : Queued) (b′ : List ℕ)
-        (eq : QueuedAs buffer (e .queued) (plain (e .setup .magic) (InputAck newest)) q b′) where
-      abbrev Ack : ℕ → List Wire
-      Ack n = plain (e .setup .magic) (InputAck n) ∷ []
-
-      acked : Ack (newestOf Stored) ≡ Ack newest
-      acked = ap Ack (rw (← eh) (sym en))
-
-      pub readable-full : q .ok ≡ false → Ending e Full b′
-      unfolding gotten taken queueWire seen termsWith
-      readable-full k =
-          rw (rw k at (eq .lent)) (readably e Full buffer (λ sd c f st t i.
-          refused-did e Full _ (reacted-full (length buffer) (seen e) _ refl refl
-          (full-buffer buffer (Taking (informing (seen e) sd c f st t)) (plain (e .setup .magic) (InputAck newest)) (omega arith) acked (not-false _ (sym (eq .ok) ∙ k)))) buffer))
-
-      pub readable-done : (c′ : Clocks) (sender : Sender) → q .ok ≡ true → c′ ≡ sentAt now (inputAt now (x .clocks))
-          → sent sender ≡ informed d reports (change (acknowledged ack) (heard now (seen e))) .state .carried .sender
-          → Ending (remade e sender h′ (e .phase) (e .sync) c′ (x .flags) (e .quality) (x .statuses) (e .checksums) (p .events) (q .end)) Done b′
-      unfolding gotten taken queueWire seen termsWith
-      readable-done c′ sender k ec es =
-          rw taking (by-informing now ack d reports (seen e) (λ h. sent sender ≡ h .state .carried .sender → Readably (remade e sender h′ (e .phase) (e .sync) c′ (x .flags) (e .quality) (x .statuses) (e .checksums) (p .events) (q .end)) Done b′ h) (λ sd c f st t es i.
-          let y : Effect = Taking (informing (seen e) sd c f st t) in
-          let told : held (p .events) ≡ held (e .events) ++ (t ++ News) = rw (i .told) (rw (← ep .ok, announced) at (ep .view)) in
-          queued-did e _ y _
-          (reacted-done (length buffer) (seen e) _ refl refl refl
-          (room-one buffer y (plain (e .setup .magic) (InputAck newest)) (omega arith) acked (rw (i .told) (sym (ep .ok) ∙ announced)) (not-true _ (sym (eq .ok) ∙ k))))
-          (plain (e .setup .magic) (InputAck newest)) acked buffer b′ q eq k refl
-          (rw (ec, es, i .clocks, i .flags, i .statuses, eh, told))) es ex)
+    readable-done c′ pending last ec es =
+        rw taking (by-informing now ack d reports (seen e) (λ h. sent pending last ≡ h .state .carried .sender → Readably (remade e pending last h′ (e .phase) (e .sync) c′ (x .flags) (e .quality) (x .statuses) (e .checksums) events (q .end)) Done b′ h) (λ sd c f st t es i.
+        let y : Effect = Taking (informing (seen e) sd c f st t) in
+        let told : held events ≡ held (e .events) ++ (t ++ News) = rw (i .told) view in
+        queued-did e _ y _
+        (reacted-done (length buffer) (seen e) _ refl refl refl
+        (room-one buffer y (plain (e .setup .magic) (InputAck newest)) (omega arith) acked (rw (i .told) room) spare))
+        (plain (e .setup .magic) (InputAck newest)) acked buffer b′ q eq (eq .ok ∙ rw spare) refl
+        (rw (ec, es, i .clocks, i .flags, i .statuses, eh, told))) es ex)

@@ -1,7 +1,7 @@
 -- Act in Running does what is due: the steps one after the other come to one effect.
 use borrow.Author.Tests.{lt-ltb}
 use mathlib.Core.Bool.{Bool, true, false, not, _&&_, _||_}
-use mathlib.Core.List.{List, [], _∷_, _++_, append-nil}
+use mathlib.Core.List.{List, [], _∷_, _++_, append-nil, append-assoc}
 use mathlib.Core.Path.{_≡_, refl, _∙_}
 use native.Mathlib.Omega.{arith}
 use Prim.Native.Nat.{ℕ, _+_, _-_}
@@ -28,7 +28,7 @@ use Rattle.protocol.specs.Reports.{pingOf, reportQueued}
 use Rattle.protocol.specs.Act.{resendDue, reportDue, keepAliveDue, interruptionDue, disconnectDue, resent, reported, keptAlive, interrupted, timedOut, acted}
 use Rattle.endpoint.specs.declared.plan.Due.{Due}
 use Rattle.endpoint.specs.Due.{dueOf, timed, clocksBy, flagged, flagsBy, toldBy}
-use Rattle.endpoint.specs.Batch.{batch}
+use Rattle.endpoint.specs.Batch.{batch, reports}
 
 -- a clock set by one of two
 either : (a b : Bool) (x y : ℕ) → pick b x (pick a x y) ≡ pick (a || b) x y
@@ -152,8 +152,8 @@ module _ (now : ℕ) (s : Seen) where
       planned = record { resend = r; input = r && some; report = q; «keep_alive» = k; interruption = i; disconnect = o }
 
       comes-to : going c₃ (flagged false o (flagged i false (s .flags))) o₃ (t₁ ++ pick o (disconnection ∷ []) []) ≡ ran planned
-      unfolding clocksBy flagsBy toldBy batch
-      comes-to = rw (either (r && some) q now (s .clocks .«last_send_time»), either ((r && some) || q) k now (s .clocks .«last_send_time»))
+      unfolding clocksBy flagsBy toldBy batch reports
+      comes-to = rw (either (r && some) q now (s .clocks .«last_send_time»), either ((r && some) || q) k now (s .clocks .«last_send_time»), append-assoc)
 
     pub running-is : (nonce : ℕ) → acted Running now epoch nonce statuses (begin s) ≡ ran due
     unfolding dueOf

@@ -24,10 +24,9 @@ use Rattle.status.specs.Statuses.{held as heldStatuses}
 use Rattle.events.specs.Events as Events
 use Rattle.events.specs.Events.{held, hasRoom}
 use Rattle.events.specs.declared.Entry.{Entry}
-use Rattle.events.specs.declared.Events.{Events}
 use Rattle.events.specs.declared.Event.the-variants.{Disconnected}
 use Rattle.events.specs.declared.Pushed.{Pushed as Told}
-use Rattle.events.proofs.Laws.{pushed-if, not-pushed}
+use Rattle.events.proofs.Laws.{pushed-if}
 use Rattle.setup.specs.Setup.{termsOf, termsWith, sendingWidth}
 use Rattle.timers.specs.Timers as Timers
 use Rattle.timers.specs.Timers.{badClock}
@@ -46,6 +45,7 @@ use Rattle.endpoint.specs.Endpoint.{seen, DidAs}
 use Rattle.endpoint.specs.Frames.{badAfter}
 use Rattle.endpoint.proofs.Crowds.{crowded, roomy}
 use Rattle.endpoint.proofs.Ends.{remade, refused-did, queued-did}
+use Rattle.endpoint.proofs.Retells.{retold, ToldAs, told-all, told-nothing}
 use Rattle.endpoint.proofs.Settles.{did-settled}
 use Rattle.endpoint.proofs.Rooms.{full-events, full-buffer, room-one}
 
@@ -63,28 +63,18 @@ tellsIf b = pick b (disconnection ∷ []) []
 abbrev tells : List InputBytes → List Entry
 tells l = tellsIf (leb 129 (length l))
 
-abbrev retold : Endpoint → Events → Endpoint
-retold e events = remade e (e .sender) (e .history) (e .phase) (e .sync) (e .clocks) (e .flags) (e .quality) (e .statuses) (e .checksums) events (e .queued)
-
--- an endpoint after what n pending inputs tell: only its events are others, and there was room for them
-pub record ToldAs (e : Endpoint) (n : ℕ) (s : Endpoint) : Type 0 where
-  pub events : Events
-  pub rest : s ≡ retold e events
-  pub room : hasRoom (held (e .events)) (length (tellsIf (leb 129 n))) ≡ true
-  pub view : held events ≡ held (e .events) ++ tellsIf (leb 129 n)
+-- s: e after what n pending inputs tell
+abbrev pub Telling : Endpoint → ℕ → Endpoint → Type 0
+Telling e n s = ToldAs e (tellsIf (leb 129 n)) s
 
 module _ (e : Endpoint) (n : ℕ) where
-  told-as : (t : Told) → Events.PushedAs (e .events) (hasRoom (held (e .events)) (length (tellsIf (leb 129 n)))) (tellsIf (leb 129 n)) t → t .ok ≡ true
-      → ToldAs e n (retold e (t .events))
-  told-as t et ok = record { events = t .events; rest = refl; room = sym (et .ok) ∙ ok; view = et .view ∙ rw (sym (et .ok) ∙ ok) }
-
   pub tells-one : (m : ℕ) → m ≡ length (held (e .events)) → (t : Told) → (leb 129 n && leb 640 m) ≡ false → leb 129 n ≡ true
-      → Events.PushedAs (e .events) (hasRoom (held (e .events)) 1) (disconnection ∷ []) t → (s : Endpoint) → s ≡ retold e (t .events) → ToldAs e n s
+      → Events.PushedAs (e .events) (hasRoom (held (e .events)) 1) (disconnection ∷ []) t → (s : Endpoint) → s ≡ retold e (t .events) → Telling e n s
   tells-one m em t h k et s es =
-      rw es (told-as t (pushed-if (e .events) (leb 129 n) disconnection t k et) (roomy (e .events) disconnection m em (leb 129 n) t h k et))
+      told-all e _ s t (pushed-if (e .events) (leb 129 n) disconnection t k et) (roomy (e .events) disconnection m em (leb 129 n) t h k et) es
 
-  pub tells-none : leb 129 n ≡ false → length (e .events .entries) ≡ 640 → (s : Endpoint) → s ≡ e → ToldAs e n s
-  tells-none k l s es = rw es (told-as (record { ok = true; events = e .events }) (not-pushed (e .events) (leb 129 n) disconnection k l) refl)
+  pub tells-none : leb 129 n ≡ false → hasRoom (held (e .events)) 0 ≡ true → (s : Endpoint) → s ≡ e → Telling e n s
+  tells-none k room s es = told-nothing e _ s (rw k) room es
 
 some-queued : (now : ℕ) (statuses : List ConnectionStatus) (l : List InputBytes) (x : InputBytes) (f : Effect)
     → pendingQueued now statuses (l ++ x ∷ []) f ≡ queueWire now (pendingIn statuses (f .state)) f
@@ -120,7 +110,7 @@ module _ (e : Endpoint) (frame : ℕ) (bytes : List ℕ) (st : Statuses) (now : 
   taken = record { frame = frame; bytes = padded bytes }
 
   abbrev before : List InputBytes
-  before = waiting (e .sender .pending)
+  before = waiting (e .pending)
 
   abbrev Sending : Effect
   Sending = Sent now frame bytes (heldStatuses st) (seen e) (tells (before ++ taken ∷ []))
@@ -151,11 +141,11 @@ module _ (e : Endpoint) (frame : ℕ) (bytes : List ℕ) (st : Statuses) (now : 
       send-silent h = refused-did e Done _ (rw (good, tested ∙ right, h)) buffer
 
       module _ (running : isRunning (e .phase) ≡ true) where
-        pub send-frame : badAfter (lastFrame (e .sender .acked .frame) before) frame ≡ true → Sends e BadFrame buffer
+        pub send-frame : badAfter (lastFrame (e .acked .frame) before) frame ≡ true → Sends e BadFrame buffer
         unfolding step sendStep decided seen badFrame
         send-frame h = refused-did e BadFrame _ (rw (good, tested ∙ right, running, h)) buffer
 
-        module _ (next : badAfter (lastFrame (e .sender .acked .frame) before) frame ≡ false) where
+        module _ (next : badAfter (lastFrame (e .acked .frame) before) frame ≡ false) where
           send-full : room before ≡ true → isFull (length buffer) Sending ≡ true → Sends e Full buffer
           unfolding step sendStep decided seen badFrame
           send-full k h = refused-did e Full _ (rw (good, tested ∙ right, running, next, k, sends now frame bytes (heldStatuses st) (seen e), h)) buffer
@@ -165,7 +155,7 @@ module _ (e : Endpoint) (frame : ℕ) (bytes : List ℕ) (st : Statuses) (now : 
           send-fits k h = rw (good, tested ∙ right, running, next, k, sends now frame bytes (heldStatuses st) (seen e), h)
 
           -- what the code makes: the input, the store with it, whether that is told
-          module _ (b : List ℕ) (eb : b ≡ padded (xors (take w (drop 0 bytes)) (replicate 64 0))) (p : Pushed) (ep : PushedAs (e .sender .pending) (record { frame = frame; bytes = b }) p) where
+          module _ (b : List ℕ) (eb : b ≡ padded (xors (take w (drop 0 bytes)) (replicate 64 0))) (p : Pushed) (ep : PushedAs (e .pending) (record { frame = frame; bytes = b }) p) where
             pub send-crowded : p .ok ≡ false → Sends e Full buffer
             unfolding step sendStep decided seen badFrame
             send-crowded k = refused-did e Full _ (rw (good, tested ∙ right, running, next, sym (ep .ok) ∙ k)) buffer
@@ -184,8 +174,8 @@ module _ (e : Endpoint) (frame : ℕ) (bytes : List ℕ) (st : Statuses) (now : 
 
               module _ (a : ℕ) (ea : a ≡ newestOf (received (e .history)))
                   (q : Queued) (b′ : List ℕ)
-                  (eq : QueuedAs buffer (e .queued) (pendingInput (e .setup .magic) a (heldStatuses st) (waiting (p .pending)) w (e .sender .acked)) q b′) where
-                wire : pendingInput (e .setup .magic) a (heldStatuses st) (waiting (p .pending)) w (e .sender .acked) ≡ pendingIn (heldStatuses st) (accepted taken (seen e))
+                  (eq : QueuedAs buffer (e .queued) (pendingInput (e .setup .magic) a (heldStatuses st) (waiting (p .pending)) w (e .acked)) q b′) where
+                wire : pendingInput (e .setup .magic) a (heldStatuses st) (waiting (p .pending)) w (e .acked) ≡ pendingIn (heldStatuses st) (accepted taken (seen e))
                 unfolding seen accepted termsWith
                 wire = rw (ea, ew, pends)
 
@@ -202,8 +192,8 @@ module _ (e : Endpoint) (frame : ℕ) (bytes : List ℕ) (st : Statuses) (now : 
                     rw (rw k at (queued .lent))
                     (send-full (sym (ep .ok) ∙ ok) (full-buffer buffer Sending _ some refl (not-false _ (sym (queued .ok) ∙ k))))
 
-                pub send-done : q .ok ≡ true → (s : Endpoint) → ToldAs e n s
-                    → Sends (remade s (record { pending = p .pending; acked = e .sender .acked }) (s .history) (s .phase) (s .sync) (Timers.sentAt now (s .clocks)) (s .flags) (s .quality) (s .statuses) (s .checksums) (s .events) (q .end)) Done b′
+                pub send-done : q .ok ≡ true → (s : Endpoint) → Telling e n s
+                    → Sends (remade s (p .pending) (s .acked) (s .history) (s .phase) (s .sync) (Timers.sentAt now (s .clocks)) (s .flags) (s .quality) (s .statuses) (s .checksums) (s .events) (q .end)) Done b′
                 unfolding seen accepted
                 send-done k s es =
                     rw (es .rest)

@@ -2,7 +2,7 @@
 use borrow.Author.Tests.{lt-ltb, le-ltb}
 use mathlib.Core.Bool.{Bool, true, false, _&&_}
 use mathlib.Core.List.{List, [], _∷_}
-use mathlib.Core.Path.{_≡_, refl, sym, _∙_, ap}
+use mathlib.Core.Path.{_≡_, refl, ap}
 use Prim.Native.Nat.{ℕ, _-_, _<_, _≤_}
 use lib.Dec.{ltb}
 use lib.ListN.{length, replicate}
@@ -38,6 +38,16 @@ module _ (e : Endpoint) (now nonce magic reply : ℕ) where
   abbrev pub Counting : Bool → Reaction
   Counting more = replied now nonce magic reply true more (begin (heardSeen now (seen e)))
 
+  -- no room to tell of it
+  module _ (crowded : hasRoom (held (e .events)) 1 ≡ false) where
+    pub early-untold : (buffer : List ℕ) → DidAs e (reacted (length buffer) (seen e) (Counting true)) buffer (record { answer = Full; endpoint = e }) buffer
+    unfolding replied request counted nonceIssued queueWire seen
+    early-untold buffer = refused-did e Full _ (reacted-full (length buffer) (seen e) (Counting true) refl refl (full-events buffer (Counting true .effect) crowded)) buffer
+
+    pub last-untold : DoneAs e (reacted 0 (seen e) (Counting false)) (record { answer = Full; endpoint = e })
+    unfolding replied counted running seen
+    last-untold = refused-done e Full _ (reacted-full 0 (seen e) (Counting false) refl refl (full-events [] (Counting false .effect) crowded))
+
   -- y: the handshake with the reply counted
   module _ (y : Sync) (ey : syncOf y ≡ countedSync reply (e .sync)) where
     left : y .remaining ≡ e .sync .remaining - 1
@@ -49,45 +59,38 @@ module _ (e : Endpoint) (now nonce magic reply : ℕ) where
     filter : y .«remote_magic» ≡ e .sync .«remote_magic»
     filter = ap (λ (x : SeenSync). x .remoteMagic) ey
 
-    -- count: what is told
-    module _ (buffer : List ℕ) (count : ℕ) (ec : count ≡ 5 - y .remaining) (p : Pushed) (ep : PushedAs (e .events) (hasRoom (held (e .events)) 1) (record { event = Event.Synchronizing 5 count; input = replicate 16 0 } ∷ []) p) where
+    module _ (buffer : List ℕ) where
       abbrev Early : Endpoint → Answer → List ℕ → Type 0
       Early n a buffer′ = DidAs e (reacted (length buffer) (seen e) (Counting true)) buffer (record { answer = a; endpoint = n }) buffer′
 
-      pub early-untold : p .ok ≡ false → Early e Full buffer
-      unfolding replied request counted nonceIssued queueWire seen
-      early-untold k = refused-did e Full _ (reacted-full (length buffer) (seen e) (Counting true) refl refl (full-events buffer (Counting true .effect) (sym (ep .ok) ∙ k))) buffer
-
-      module _ (told : p .ok ≡ true) (d : Clocks) (ed : d ≡ heardAt now (e .clocks)) (r : Requested) (buffer′ : List ℕ) (er : RequestedAs y d (e .setup .magic) now nonce buffer (e .queued) r buffer′) where
+      module _ (d : Clocks) (ed : d ≡ heardAt now (e .clocks)) (r : Requested) (buffer′ : List ℕ) (er : RequestedAs y d (e .setup .magic) now nonce buffer (e .queued) r buffer′) where
         pub early-choked : r .ok ≡ false → Early e Full buffer′
         unfolding reacted decided replied request counted nonceIssued queueWire seen termsWith
         early-choked k =
             rw (er .same k) (refused-did e Full _
             (rw (request-full buffer (e .setup .magic) nonce (spent reply (outstanding (e .sync .nonces))) (Counting true .effect) refl (r .ok) (rw unspent at (er .ok)) k)) buffer)
 
-        pub early-done : r .ok ≡ true
-            → Early (remade e (e .sender) (e .history) (e .phase) (r .sync) (r .clocks) (e .flags) (e .quality) (e .statuses) (e .checksums) (p .events) (r .end)) Done buffer′
+        -- count: what is told
+        pub early-done : (count : ℕ) (p : Pushed) → count ≡ 5 - y .remaining → hasRoom (held (e .events)) 1 ≡ true
+            → PushedAs (e .events) (hasRoom (held (e .events)) 1) (record { event = Event.Synchronizing 5 count; input = replicate 16 0 } ∷ []) p → r .ok ≡ true
+            → Early (remade e (e .pending) (e .acked) (e .history) (e .phase) (r .sync) (r .clocks) (e .flags) (e .quality) (e .statuses) (e .checksums) (p .events) (r .end)) Done buffer′
         unfolding reacted decided replied request counted nonceIssued queueWire seen termsWith
-        early-done k =
+        early-done count p ec room ep k =
             queued-did e _ (Counting true .effect) _
-            (rw (request-fits buffer (e .setup .magic) nonce (spent reply (outstanding (e .sync .nonces))) (Counting true .effect) refl (r .ok) (rw unspent at (er .ok)) k (sym (ep .ok) ∙ told)))
+            (rw (request-fits buffer (e .setup .magic) nonce (spent reply (outstanding (e .sync .nonces))) (Counting true .effect) refl (r .ok) (rw unspent at (er .ok)) k room))
             _ refl buffer buffer′ _ (er .queued k) refl refl
-            (rw (er .sync k, unspent, filter, er .clocks k, ed, rw (sym (ep .ok) ∙ told) at (ep .view), ec, left))
+            (rw (er .sync k, unspent, filter, er .clocks k, ed, rw room at (ep .view), ec, left))
 
-    module _ (p : Pushed) (ep : PushedAs (e .events) (hasRoom (held (e .events)) 1) (record { event = Event.Synchronized; input = replicate 16 0 } ∷ []) p) where
-      abbrev Last : Endpoint → Answer → Type 0
-      Last n a = DoneAs e (reacted 0 (seen e) (Counting false)) (record { answer = a; endpoint = n })
+    abbrev Last : Endpoint → Type 0
+    Last n = DoneAs e (reacted 0 (seen e) (Counting false)) (record { answer = Done; endpoint = n })
 
-      pub last-untold : p .ok ≡ false → Last e Full
-      unfolding replied counted running seen
-      last-untold k = refused-done e Full _ (reacted-full 0 (seen e) (Counting false) refl refl (full-events [] (Counting false .effect) (sym (ep .ok) ∙ k)))
-
-      pub last-done : (d : Clocks) → p .ok ≡ true → d ≡ heardAt now (e .clocks)
-          → Last (remade e (e .sender) (e .history) Running (record { remaining = y .remaining; nonces = y .nonces; «remote_magic» = magic }) d (e .flags) (e .quality) (e .statuses) (e .checksums) (p .events) (e .queued)) Done
-      unfolding replied counted running seen
-      last-done d k ed =
-          done-done e _ (Counting false .effect) _ (reacted-done 0 (seen e) (Counting false) refl refl refl (room-none [] (Counting false .effect) refl (sym (ep .ok) ∙ k))) refl
-          (rw (unspent, left, ed, rw (sym (ep .ok) ∙ k) at (ep .view)))
+    pub last-done : (d : Clocks) (p : Pushed) → hasRoom (held (e .events)) 1 ≡ true → d ≡ heardAt now (e .clocks)
+        → PushedAs (e .events) (hasRoom (held (e .events)) 1) (record { event = Event.Synchronized; input = replicate 16 0 } ∷ []) p
+        → Last (remade e (e .pending) (e .acked) (e .history) Running (record { remaining = y .remaining; nonces = y .nonces; «remote_magic» = magic }) d (e .flags) (e .quality) (e .statuses) (e .checksums) (p .events) (e .queued))
+    unfolding replied counted running seen
+    last-done d p room ed ep =
+        done-done e _ (Counting false .effect) _ (reacted-done 0 (seen e) (Counting false) refl refl refl (room-none [] (Counting false .effect) refl room)) refl
+        (rw (unspent, left, ed, rw room at (ep .view)))
 
   -- which of them it is
   module _ (buffer : List ℕ) where

@@ -1,7 +1,7 @@
 -- Taking events, and taking messages: refused, done, and the part of the buffer that is handed back.
 use borrow.Author.Tests.{ltb-false}
 use mathlib.Core.Bool.{Bool, true, false, not, _&&_}
-use mathlib.Core.List.{List, []}
+use mathlib.Core.List.{List}
 use mathlib.Core.Path.{_≡_, refl, sym, _∙_}
 use native.Mathlib.Omega.{arith}
 use Prim.Native.Nat.{ℕ, _≤_}
@@ -10,10 +10,9 @@ use lib.ListN.{length, take}
 use lib.Seq.{length-take-le}
 use Rattle.base.specs.Pick.{pick}
 use Rattle.base.proofs.Settled.{settled}
-use Rattle.answer.specs.Number.{number-tells}
 use Rattle.answer.specs.declared.Answer.the-variants.{Done, Full}
-use Rattle.events.specs.declared.Events.{Events}
 use Rattle.events.specs.Events.{held}
+use Rattle.events.proofs.Laws.{held-none}
 use Rattle.protocol.specs.Seen.{isShutdown}
 use Rattle.protocol.specs.Did.{Did, refused, decided}
 use Rattle.protocol.specs.Call.{Call}
@@ -44,10 +43,9 @@ filled-part b queued n buffer h =
     sym (length-take-le n buffer fits)
 
 module _ (e : Endpoint) where
-  pub takes-events : (none : Events) → held none ≡ []
-      → TakenAs e (record { events = e .events; endpoint = remade e (e .sender) (e .history) (e .phase) (e .sync) (e .clocks) (e .flags) (e .quality) (e .statuses) (e .checksums) none (e .queued) })
+  pub takes-events : TakenAs e (record { events = e .events; endpoint = remade e (e .pending) (e .acked) (e .history) (e .phase) (e .sync) (e .clocks) (e .flags) (e .quality) (e .statuses) (e .checksums) (record { entries = e .events .entries; used = 0 }) (e .queued) })
   unfolding valueOf step seen
-  takes-events none h = record { events = refl; after = rw h }
+  takes-events = record { events = refl; after = rw (held-none (e .events)) }
 
   module _ (room : ℕ) where
     pub take-short : not (isShutdown (e .phase)) && ltb room (e .queued) ≡ true → DoneAs e (step (Call.takeMessages room) (seen e)) (record { answer = Full; endpoint = e })
@@ -55,7 +53,7 @@ module _ (e : Endpoint) where
     take-short h = refused-done e Full (takeStep room (seen e)) (rw h)
 
     pub take-done : not (isShutdown (e .phase)) && ltb room (e .queued) ≡ false
-        → DoneAs e (step (Call.takeMessages room) (seen e)) (record { answer = Done; endpoint = remade e (e .sender) (e .history) (e .phase) (e .sync) (e .clocks) (e .flags) (e .quality) (e .statuses) (e .checksums) (e .events) 0 })
+        → DoneAs e (step (Call.takeMessages room) (seen e)) (record { answer = Done; endpoint = remade e (e .pending) (e .acked) (e .history) (e .phase) (e .sync) (e .clocks) (e .flags) (e .quality) (e .statuses) (e .checksums) (e .events) 0 })
     unfolding step takeStep decided seen
     take-done h = rw h (record { answer = refl; after = refl; same = λ n. absurd (n refl) })
 

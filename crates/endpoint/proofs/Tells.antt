@@ -86,7 +86,7 @@ module _ (e : Endpoint) where
         unfolding told step statsStep decided refused seen
         stats-early h = rw (good, talks, h)
 
-        pub stats-told : ltb (epoch - e .quality .«stats_start_time») 1000 ≡ false → (n : ℕ) → n ≡ length (waiting (e .sender .pending))
+        pub stats-told : ltb (epoch - e .quality .«stats_start_time») 1000 ≡ false → (n : ℕ) → n ≡ length (waiting (e .pending))
             → shownStats (Stats (record {
               ping = e .quality .«round_trip_time»;
               «send_queue_len» = n;

@@ -46,6 +46,7 @@ use Rattle.endpoint.specs.Heard.{resumedFlags}
 use Rattle.endpoint.specs.Opened.{OpenedAs}
 use Rattle.endpoint.specs.Reacted.{ReactedAs}
 use Rattle.endpoint.proofs.Hears.{Ears, HeardAs}
+use Rattle.endpoint.proofs.Crowds.{one-crowds, one-fits}
 use Rattle.endpoint.proofs.Ears.{heardWith, ears-full, ears-quiet, ears-told}
 use Rattle.endpoint.proofs.Ends.{remade}
 use Rattle.endpoint.proofs.Quiets.{only-full, only-heard}
@@ -105,41 +106,43 @@ module _ (e : Endpoint) (from : ℕ) (m : Message) (p : List ℕ) (now epoch non
           let one : e .sync .remaining ≤ 1 = omega (arith, none h, left) in
           sync-replied e from m p now epoch nonce buffer good heeded x reply buffer eb (reply-last e now nonce (m .magic) reply buffer phase (why .1) one x d)
 
-      -- x: what is told
-      module _ (x : Entry) (ex : x ≡ plain (pick (ltb 0 (y .sync .remaining)) (Event.Synchronizing 5 (5 - y .sync .remaining)) Event.Synchronized)) (q : Pushed)
-          (eq : PushedAs (e .events) (hasRoom (held (e .events)) 1) (x ∷ []) q) where
-        untold : (more : Bool) → ltb 0 (y .sync .remaining) ≡ more → q .ok ≡ false → Ends e Full buffer
-        untold true h k =
-            early h _ buffer (early-untold e now nonce (m .magic) reply (y .sync) (ey .sync counts) buffer (5 - y .sync .remaining) refl q (rw (ex, h) at eq) k)
-        untold false h k = last h _ (last-untold e now nonce (m .magic) reply (y .sync) (ey .sync counts) q (rw (ex, h) at eq) k)
+      untold : (more : Bool) → ltb 0 (y .sync .remaining) ≡ more → hasRoom (held (e .events)) 1 ≡ false → Ends e Full buffer
+      untold true h k = early h _ buffer (early-untold e now nonce (m .magic) reply k buffer)
+      untold false h k = last h _ (last-untold e now nonce (m .magic) reply k)
 
-        pub reply-untold : q .ok ≡ false → Ends e Full buffer
-        reply-untold = untold (ltb 0 (y .sync .remaining)) refl
+      -- n: how many events there are, f: whether no other can be told
+      module _ (n : ℕ) (en : n ≡ length (held (e .events))) (f : Bool) (ef : f ≡ leb 640 n) where
+        pub reply-untold : f ≡ true → Ends e Full buffer
+        reply-untold h = untold (ltb 0 (y .sync .remaining)) refl (one-crowds (e .events) n en (sym ef ∙ h))
 
-        module _ (told : q .ok ≡ true) (c : Clocks) (ec : c ≡ heardAt now (e .clocks)) (g : Requested) (b′ : List ℕ)
+        module _ (told : f ≡ false) (c : Clocks) (ec : c ≡ heardAt now (e .clocks)) (g : Requested) (b′ : List ℕ)
             (eg : GoneOnAs (y .sync) (m .magic) c (e .setup .magic) now nonce buffer (e .queued) g b′) where
           choked : (more : Bool) → ltb 0 (y .sync .remaining) ≡ more → g .ok ≡ false → Ends e Full b′
           choked true h k =
-              early h _ b′ (early-choked e now nonce (m .magic) reply (y .sync) (ey .sync counts) buffer (5 - y .sync .remaining) refl q (rw (ex, h) at eq) told c ec g b′
-              (eg .asks (ltb-true 0 (y .sync .remaining) h)) k)
+              early h _ b′ (early-choked e now nonce (m .magic) reply (y .sync) (ey .sync counts) buffer c ec g b′ (eg .asks (ltb-true 0 (y .sync .remaining) h)) k)
           choked false h k = absurd (false-true (sym k ∙ ap (λ (z : Requested). z .ok) (eg .ends (none h))))
 
           pub reply-choked : g .ok ≡ false → Ends e Full b′
           reply-choked = choked (ltb 0 (y .sync .remaining)) refl
 
-          -- t: the phase after it
-          module _ (t : Phase) (et : t ≡ pick (ltb 0 (y .sync .remaining)) Synchronizing Running) where
+          -- t: the phase after it, x: what is told
+          module _ (t : Phase) (et : t ≡ pick (ltb 0 (y .sync .remaining)) Synchronizing Running) (x : Entry)
+              (ex : x ≡ plain (pick (ltb 0 (y .sync .remaining)) (Event.Synchronizing 5 (5 - y .sync .remaining)) Event.Synchronized)) (q : Pushed)
+              (eq : PushedAs (e .events) (hasRoom (held (e .events)) 1) (x ∷ []) q) where
+            room : hasRoom (held (e .events)) 1 ≡ true
+            room = one-fits (e .events) n en (sym ef ∙ told)
+
             abbrev Replied : Endpoint
-            Replied = remade e (e .sender) (e .history) t (g .sync) (g .clocks) (e .flags) (e .quality) (e .statuses) (e .checksums) (q .events) (g .end)
+            Replied = remade e (e .pending) (e .acked) (e .history) t (g .sync) (g .clocks) (e .flags) (e .quality) (e .statuses) (e .checksums) (q .events) (g .end)
 
             done : (more : Bool) → ltb 0 (y .sync .remaining) ≡ more → g .ok ≡ true → Ends Replied Done b′
             done true h k =
                 let same : t ≡ e .phase = (rw h at et) ∙ sym phase in
-                rw same (early h _ b′ (early-done e now nonce (m .magic) reply (y .sync) (ey .sync counts) buffer (5 - y .sync .remaining) refl q (rw (ex, h) at eq) told c ec g b′
-                (eg .asks (ltb-true 0 (y .sync .remaining) h)) k))
+                rw same (early h _ b′ (early-done e now nonce (m .magic) reply (y .sync) (ey .sync counts) buffer c ec g b′ (eg .asks (ltb-true 0 (y .sync .remaining) h))
+                (5 - y .sync .remaining) q refl room (rw (ex, h) at eq) k))
             done false h k =
                 rw (rw h at et, eg .ends (none h), eg .same (none h))
-                (last h _ (last-done e now nonce (m .magic) reply (y .sync) (ey .sync counts) q (rw (ex, h) at eq) c told ec))
+                (last h _ (last-done e now nonce (m .magic) reply (y .sync) (ey .sync counts) c q room ec (rw (ex, h) at eq)))
 
             pub reply-done : g .ok ≡ true → Ends Replied Done b′
             reply-done = done (ltb 0 (y .sync .remaining)) refl
@@ -165,7 +168,7 @@ module _ (e : Endpoint) (from : ℕ) (m : Message) (p : List ℕ) (now epoch non
     -- as a message leaves it that falls through with s, where t is told
     abbrev pub Ending : Endpoint → Events → Endpoint
     Ending s t =
-        remade s (s .sender) (s .history) (s .phase) (s .sync) (heardAt now (s .clocks)) (resumedFlags r (s .flags)) (s .quality) (s .statuses) (s .checksums) t (s .queued)
+        remade s (s .pending) (s .acked) (s .history) (s .phase) (s .sync) (heardAt now (s .clocks)) (resumedFlags r (s .flags)) (s .quality) (s .statuses) (s .checksums) t (s .queued)
 
     abbrev Hearing : Events → Type 0
     Hearing t = HeardAs e (heard now (seen e)) (heardWith e now r er n en f ef true t)
@@ -179,15 +182,15 @@ module _ (e : Endpoint) (from : ℕ) (m : Message) (p : List ℕ) (now epoch non
     pub only-left : OnlyHeard → f ≡ false → Left e buffer
     only-left by h = record { room = h; events = refl; ends = λ t k. by _ (only-heard e now (heardWith e now r er n en f ef true t) refl k) }
 
-    pub ack-left : (ack : ℕ) → m .body ≡ InputAck ack → f ≡ false → (d : Dropped) → DroppedAs (e .sender .pending) ack (e .sender .acked) d
-        → Left (remade e (record { pending = d .pending; acked = d .last }) (e .history) (e .phase) (e .sync) (e .clocks) (e .flags) (e .quality) (e .statuses) (e .checksums) (e .events) (e .queued)) buffer
+    pub ack-left : (ack : ℕ) → m .body ≡ InputAck ack → f ≡ false → (d : Dropped) → DroppedAs (e .pending) ack (e .acked) d
+        → Left (remade e (d .pending) (d .last) (e .history) (e .phase) (e .sync) (e .clocks) (e .flags) (e .quality) (e .statuses) (e .checksums) (e .events) (e .queued)) buffer
     ack-left ack eb h d ed =
         record {
           room = h;
           events = refl;
           ends = λ t k.
               acknowledged e from m p now epoch nonce buffer good heeded _ ack eb
-              (ack-done e ack now (heardWith e now r er n en f ef true t) k (record { pending = d .pending; acked = d .last }) refl (dropped-sent (e .sender) ack d ed));
+              (ack-done e ack now (heardWith e now r er n en f ef true t) k (d .pending) (d .last) refl (dropped-sent (e .pending) (e .acked) ack d ed));
         }
 
     -- a ChecksumReport; i: the interval, y: the store with it
@@ -206,7 +209,7 @@ module _ (e : Endpoint) (from : ℕ) (m : Message) (p : List ℕ) (now epoch non
         report-choked h = checksum-reported e from m p now epoch nonce buffer good heeded _ checksum frame eb (checksum-choked e checksum frame now i ei y ey within h)
 
         pub report-left : f ≡ false → y .full ≡ false
-            → Left (remade e (e .sender) (e .history) (e .phase) (e .sync) (e .clocks) (e .flags) (e .quality) (e .statuses) (y .checksums) (e .events) (e .queued)) buffer
+            → Left (remade e (e .pending) (e .acked) (e .history) (e .phase) (e .sync) (e .clocks) (e .flags) (e .quality) (e .statuses) (y .checksums) (e .events) (e .queued)) buffer
         report-left h c =
             record {
               room = h;
@@ -225,7 +228,7 @@ module _ (e : Endpoint) (from : ℕ) (m : Message) (p : List ℕ) (now epoch non
           (λ z. others .0 (ek ∙ z), λ z. others .1 (ek ∙ z), λ z. others .2 (ek ∙ z), λ z. others .3 (ek ∙ z))
 
       pub react-left : y .ok ≡ true
-          → Left (remade e (e .sender) (e .history) (e .phase) (e .sync) (sentAt (y .«last_send_time») (e .clocks)) (e .flags) (ratedBy y (e .quality)) (e .statuses) (e .checksums) (e .events) (y .end)) b′
+          → Left (remade e (e .pending) (e .acked) (e .history) (e .phase) (e .sync) (sentAt (y .«last_send_time») (e .clocks)) (e .flags) (ratedBy y (e .quality)) (e .statuses) (e .checksums) (e .events) (y .end)) b′
       react-left h =
           let room : f ≡ false = react-roomy e from m p now epoch nonce buffer good heeded r er n en f ef y b′ ey h in
           record {
@@ -239,9 +242,9 @@ module _ (e : Endpoint) (from : ℕ) (m : Message) (p : List ℕ) (now epoch non
     -- the end, by whether an interruption ends
     module _ (s : Endpoint) (b′ : List ℕ) (l : Left s b′) where
       pub ends-quiet : r ≡ false → length (e .events .entries) ≡ 640
-          → Ends (remade s (s .sender) (s .history) (s .phase) (s .sync) (heardAt now (s .clocks)) (s .flags) (s .quality) (s .statuses) (s .checksums) (s .events) (s .queued)) Done b′
+          → Ends (remade s (s .pending) (s .acked) (s .history) (s .phase) (s .sync) (heardAt now (s .clocks)) (s .flags) (s .quality) (s .statuses) (s .checksums) (s .events) (s .queued)) Done b′
       ends-quiet h k = rw h at (l .ends (s .events) (rw (l .events) (ears-quiet e now r er n en f ef h k)))
 
       pub ends-told : r ≡ true → (x : Entry) → x ≡ plain Event.NetworkResumed → (q : Pushed) → PushedAs (s .events) (hasRoom (held (s .events)) 1) (x ∷ []) q
-          → Ends (remade s (s .sender) (s .history) (s .phase) (s .sync) (heardAt now (s .clocks)) (resumedFlags true (s .flags)) (s .quality) (s .statuses) (s .checksums) (q .events) (s .queued)) Done b′
+          → Ends (remade s (s .pending) (s .acked) (s .history) (s .phase) (s .sync) (heardAt now (s .clocks)) (resumedFlags true (s .flags)) (s .quality) (s .statuses) (s .checksums) (q .events) (s .queued)) Done b′
       ends-told h x ex q eq = rw h at (l .ends (q .events) (ears-told e now r er n en f ef (l .room) h x ex q (rw (l .events) at eq)))

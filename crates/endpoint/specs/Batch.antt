@@ -18,17 +18,20 @@ use Rattle.protocol.specs.Room.{bufferFull}
 use Rattle.protocol.specs.Reports.{pingOf}
 use Rattle.endpoint.specs.declared.plan.Due.{Due}
 
--- input, report and keepalive, each where it is due
+-- report and keepalive, each where it is due
+unfoldable pub reports : Due → (magic advantage epoch : ℕ) → List Wire
+reports d magic advantage epoch =
+    pick (d .report) (plain magic (QualityReport (clamped advantage) (pingOf epoch)) ∷ []) [] ++ pick (d .«keep_alive») (plain magic KeepAlive ∷ []) []
+
+-- the pending inputs, where they are due, and then these
 unfoldable pub batch : Due → (magic ack : ℕ) → List ConnectionStatus → (pending : List InputBytes) → (width : ℕ) → (acked : InputBytes) → (advantage epoch : ℕ) → List Wire
 batch d magic ack statuses pending width acked advantage epoch =
-    (pick (d .input) (pendingInput magic ack statuses pending width acked ∷ []) []
-    ++ pick (d .report) (plain magic (QualityReport (clamped advantage) (pingOf epoch)) ∷ []) [])
-    ++ pick (d .«keep_alive») (plain magic KeepAlive ∷ []) []
+    pick (d .input) (pendingInput magic ack statuses pending width acked ∷ []) [] ++ reports d magic advantage epoch
 
--- their size, whatever their numbers are
-abbrev pub BatchSizedAs : Due → List ConnectionStatus → List InputBytes → ℕ → InputBytes → (size : ℕ) → Type 0
-BatchSizedAs d statuses pending width acked size =
-    (magic ack advantage epoch : ℕ) → sizes (batch d magic ack statuses pending width acked advantage epoch) ≡ size
+-- their size, whatever their numbers and the last acknowledged input are
+abbrev pub SizedWith : Due → List ConnectionStatus → List InputBytes → ℕ → (size : ℕ) → Type 0
+SizedWith d statuses pending width size =
+    (acked : InputBytes) → length (acked .bytes) ≡ 64 → (magic ack advantage epoch : ℕ) → sizes (batch d magic ack statuses pending width acked advantage epoch) ≡ size
 
 -- messages written at a place, and where they end
 pub record WrittenAs (buffer : List ℕ) (at : ℕ) (ws : List Wire) (stop : ℕ) (buffer′ : List ℕ) : Type 0 where

@@ -23,7 +23,7 @@ seen e =
     record {
       setup = termsOf (e .setup);
       carried = record {
-        sender = record { pending = waiting (e .sender .pending); acked = e .sender .acked };
+        sender = record { pending = waiting (e .pending); acked = e .acked };
         receiver = record { history = received (e .history) };
       };
       phase = e .phase;

@@ -1,7 +1,8 @@
--- What is seen of a sender.
+-- What is seen of the inputs sent: those that pend, and the last acknowledged one.
+use Rattle.packing.specs.declared.input_bytes.InputBytes.{InputBytes}
+use Rattle.pending.specs.declared.Pending.{Pending}
 use Rattle.pending.specs.Pending.{waiting}
-use Rattle.protocol.specs.Seen as Seen
-use Rattle.endpoint.specs.declared.Sender.{Sender}
+use Rattle.protocol.specs.Seen.{Sender}
 
-abbrev pub sent : Sender → Seen.Sender
-sent s = record { pending = waiting (s .pending); acked = s .acked }
+abbrev pub sent : Pending → InputBytes → Sender
+sent pending acked = record { pending = waiting pending; acked = acked }

@@ -63,12 +63,9 @@ impl Endpoint {
                     }
                     let sync = requested.sync;
                     let clocks = requested.clocks;
-                    self = Endpoint {
-                        sync,
-                        clocks,
-                        queued: requested.end,
-                        ..self
-                    };
+                    self.sync = sync;
+                    self.clocks = clocks;
+                    self.queued = requested.end;
                 }
                 return Ended {
                     endpoint: self,
@@ -79,7 +76,7 @@ impl Endpoint {
             Phase::Running => {
                 let timeout = self.setup.disconnect_timeout;
                 let notify_start = self.setup.disconnect_notify_start;
-                let pending = self.sender.pending.count();
+                let pending = self.pending.count();
                 let due = plan::due_at(
                     now,
                     self.clocks,
@@ -97,21 +94,31 @@ impl Endpoint {
                 }
                 if plan::sends(due) {
                     let width = self.setup.sending_width();
-                    let size = self.sender.batch_size(due, statuses, width);
+                    let size = batch::size(due, statuses, self.pending, width);
                     if batch::is_full(out.len(), self.queued, size) {
                         return Ended {
                             endpoint: self,
                             answer: Answer::Full,
                         };
                     }
-                    self.queued = self.sender.write_batch(
+                    if due.input {
+                        let queued = outbox::pending_input(
+                            out,
+                            self.queued,
+                            self.setup.magic,
+                            self.history.newest(),
+                            statuses,
+                            self.pending,
+                            width,
+                            self.acked,
+                        );
+                        self.queued = queued.end;
+                    }
+                    self.queued = batch::write_reports(
                         due,
                         out,
                         self.queued,
                         self.setup.magic,
-                        self.history.newest(),
-                        statuses,
-                        width,
                         self.quality.local_frame_advantage,
                         epoch,
                     );
@@ -119,15 +126,12 @@ impl Endpoint {
                 if 0 < told {
                     let pushed = plan::tell(self.events, due, timeout, notify_start);
                     let events = pushed.events;
-                    self = Endpoint { events, ..self };
+                    self.events = events;
                 }
                 let clocks = plan::clocks_after(due, now, self.clocks);
                 let flags = plan::flags_after(due, self.flags);
-                self = Endpoint {
-                    clocks,
-                    flags,
-                    ..self
-                };
+                self.clocks = clocks;
+                self.flags = flags;
                 return Ended {
                     endpoint: self,
                     answer: Answer::Done,

@@ -12,30 +12,31 @@ const UDP_SHUTDOWN_TIMER: u64 = 5000;
 
 impl Endpoint {
     // Each time the wait begins again, except in Shutdown.
-    pub fn disconnect(self, now: u64) -> Ended
+    pub fn disconnect(mut self, now: u64) -> Ended
         ensures { λ r. ⌜ DoneAs self (step (Call.disconnect now) (seen self)) r ⌝ }
     {
         if timers::is_bad(now) {
             return Ended {
-                answer: Answer::BadClock,
                 endpoint: self,
+                answer: Answer::BadClock,
             };
         }
         let phase = self.phase;
         if let Phase::Shutdown = phase {
             return Ended {
-                answer: Answer::Done,
                 endpoint: self,
+                answer: Answer::Done,
             };
         }
         let clocks = self.clocks.shutting_down(now + UDP_SHUTDOWN_TIMER);
+        self = Endpoint {
+            phase: Phase::Disconnected,
+            ..self
+        };
+        self.clocks = clocks;
         Ended {
+            endpoint: self,
             answer: Answer::Done,
-            endpoint: Endpoint {
-                phase: Phase::Disconnected,
-                clocks,
-                ..self
-            },
         }
     }
 }

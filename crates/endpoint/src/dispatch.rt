@@ -1,4 +1,4 @@
-// What arrives: a message as a value or as the bytes of a datagram, handed to the step for its kind.
+// What arrives: a message as a value, or as the bytes of a datagram.
 ghost use mathlib.Core.Path.{_≡_};
 ghost use lib.ListN.{length};
 ghost use Rattle.codec.specs.Message.{meant};
@@ -8,7 +8,7 @@ ghost use Rattle.endpoint.specs.Endpoint.{seen, DidAs};
 ghost use Rattle.endpoint.specs.Filter.{ignoredBy};
 use crate::Ended;
 use crate::Endpoint;
-use crate::Sender;
+use crate::batch;
 use crate::handshake;
 use crate::hearing;
 use crate::informing;
@@ -18,6 +18,7 @@ use crate::telling;
 use answer::Answer;
 use codec::Message;
 use codec::MessageBody;
+use codec::SIZES;
 use protocol::Phase;
 
 // In Shutdown, from another peer, or with a wrong magic while the filter is on.
@@ -48,8 +49,8 @@ impl Endpoint {
     {
         if timers::is_bad(now) | timers::is_bad(epoch) {
             return Ended {
-                answer: Answer::BadClock,
                 endpoint: self,
+                answer: Answer::BadClock,
             };
         }
         let magic = message.magic;
@@ -62,8 +63,8 @@ impl Endpoint {
             magic,
         ) {
             return Ended {
-                answer: Answer::Done,
                 endpoint: self,
+                answer: Answer::Done,
             };
         }
         let resumes = hearing::is_resuming(phase, self.flags);
@@ -83,8 +84,7 @@ impl Endpoint {
                 if counted.found {
                     let sync = counted.sync;
                     let remaining = sync.remaining;
-                    let pushed = self.events.push(handshake::progress(remaining));
-                    if !pushed.ok {
+                    if telling::is_crowded(true, self.events.count()) {
                         return Ended {
                             endpoint: self,
                             answer: Answer::Full,
@@ -108,15 +108,16 @@ impl Endpoint {
                     }
                     let sync = next.sync;
                     let clocks = next.clocks;
-                    let events = pushed.events;
                     self = Endpoint {
                         phase: handshake::phase_after(remaining),
-                        sync,
-                        clocks,
-                        events,
-                        queued: next.end,
                         ..self
                     };
+                    self.sync = sync;
+                    self.clocks = clocks;
+                    self.queued = next.end;
+                    let told = self.events.push(handshake::progress(remaining));
+                    let events = told.events;
+                    self.events = events;
                     return Ended {
                         endpoint: self,
                         answer: Answer::Done,
@@ -175,9 +176,6 @@ impl Endpoint {
                     );
                     let flags = informed.flags;
                     let statuses = informed.statuses;
-                    let dropped = self.sender.pending.drop_to(ack_frame, self.sender.acked);
-                    let pending = dropped.pending;
-                    let acked = dropped.last;
                     // Inputs that can be read: those above the newest are announced, and the newest is acknowledged.
                     if opened.readable {
                         let input = opened.input;
@@ -191,30 +189,43 @@ impl Endpoint {
                         );
                         let handles = self.setup.handles;
                         let list = handles.list;
-                        let told = self.events.push_packet(
-                            informed.resumes,
-                            informed.tells,
-                            news.first,
-                            news.count,
-                            payload,
-                            news.at,
-                            width,
-                            bytes,
-                            list,
-                            handles.count,
-                            self.setup.input_size as usize,
-                        );
-                        if !told.ok {
+                        // The InputAck must fit before anything changes.
+                        if batch::is_full(out.len(), self.queued, SIZES[3]) {
                             return Ended {
                                 endpoint: self,
                                 answer: Answer::Full,
                             };
+                        }
+                        // A store that nothing is told to or dropped from is left alone: to pass it is to copy it.
+                        if informed.resumes | informed.tells | (0 < news.count) {
+                            let told = self.events.push_packet(
+                                informed.resumes,
+                                informed.tells,
+                                news.first,
+                                news.count,
+                                payload,
+                                news.at,
+                                width,
+                                bytes,
+                                list,
+                                handles.count,
+                                self.setup.input_size as usize,
+                            );
+                            if !told.ok {
+                                return Ended {
+                                    endpoint: self,
+                                    answer: Answer::Full,
+                                };
+                            }
+                            let events = told.events;
+                            self.events = events;
                         }
                         let history = self.history.take_in(
                             payload,
                             start_frame,
                             width,
                             input,
+                            opened.newest,
                             self.setup.max_prediction,
                         );
                         let queued = outbox::plain(
@@ -225,52 +236,52 @@ impl Endpoint {
                                 ack_frame: history.newest(),
                             },
                         );
-                        if !queued.ok {
-                            return Ended {
-                                endpoint: self,
-                                answer: Answer::Full,
-                            };
-                        }
                         let clocks = informed.clocks.input_received(now).sent(now);
-                        let events = told.events;
-                        self = Endpoint {
-                            sender: Sender { pending, acked },
-                            history,
-                            clocks,
-                            flags,
-                            statuses,
-                            events,
-                            queued: queued.end,
-                            ..self
-                        };
+                        self.history = history;
+                        self.clocks = clocks;
+                        self.flags = flags;
+                        self.statuses = statuses;
+                        self.queued = queued.end;
+                        if self.pending.drops(ack_frame) {
+                            let dropped = self.pending.drop_to(ack_frame, self.acked);
+                            let pending = dropped.pending;
+                            let acked = dropped.last;
+                            self.pending = pending;
+                            self.acked = acked;
+                        }
                         return Ended {
                             endpoint: self,
                             answer: Answer::Done,
                         };
                     }
                     // Inputs that cannot; with a reference that is held their time is noted all the same.
-                    let told = self.events.push_both(
-                        informed.resumes,
-                        hearing::resumption(),
-                        informed.tells,
-                        informing::disconnection(),
-                    );
-                    if !told.ok {
-                        return Ended {
-                            endpoint: self,
-                            answer: Answer::Full,
-                        };
+                    if informed.resumes | informed.tells {
+                        let told = self.events.push_both(
+                            informed.resumes,
+                            hearing::resumption(),
+                            informed.tells,
+                            informing::disconnection(),
+                        );
+                        if !told.ok {
+                            return Ended {
+                                endpoint: self,
+                                answer: Answer::Full,
+                            };
+                        }
+                        let events = told.events;
+                        self.events = events;
                     }
                     let clocks = packet::noted(informed.clocks, opened.held, now);
-                    let events = told.events;
-                    self = Endpoint {
-                        sender: Sender { pending, acked },
-                        clocks,
-                        flags,
-                        statuses,
-                        events,
-                        ..self
-                    };
+                    self.clocks = clocks;
+                    self.flags = flags;
+                    self.statuses = statuses;
+                    if self.pending.drops(ack_frame) {
+                        let dropped = self.pending.drop_to(ack_frame, self.acked);
+                        let pending = dropped.pending;
+                        let acked = dropped.last;
+                        self.pending = pending;
+                        self.acked = acked;
+                    }
                     return Ended {
                         endpoint: self,
                         answer: Answer::Done,
@@ -296,13 +307,11 @@ impl Endpoint {
                         answer: Answer::Full,
                     };
                 }
-                let dropped = self.sender.pending.drop_to(ack_frame, self.sender.acked);
+                let dropped = self.pending.drop_to(ack_frame, self.acked);
                 let pending = dropped.pending;
                 let acked = dropped.last;
-                self = Endpoint {
-                    sender: Sender { pending, acked },
-                    ..self
-                };
+                self.pending = pending;
+                self.acked = acked;
             }
             6 => {
                 let MessageBody::ChecksumReport { checksum, frame } = body else {
@@ -326,7 +335,7 @@ impl Endpoint {
                     };
                 }
                 let checksums = reported.checksums;
-                self = Endpoint { checksums, ..self };
+                self.checksums = checksums;
             }
             _ => {
                 if 7 < kind {
@@ -362,7 +371,7 @@ impl Endpoint {
         if resumes {
             let told = self.events.push(hearing::resumption());
             let events = told.events;
-            self = Endpoint { events, ..self };
+            self.events = events;
             self.flags.disconnect_notify_sent = false;
         }
         self.clocks.last_recv_time = now;
@@ -388,8 +397,8 @@ impl Endpoint {
         let answer = received.answer;
         let Answer::Done = answer else {
             return Ended {
-                answer,
                 endpoint: self,
+                answer,
             };
         };
         let message = received.message;

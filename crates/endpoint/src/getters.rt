@@ -141,7 +141,7 @@ impl Endpoint {
         if is_early(self.quality.stats_start_time, epoch) {
             return StatsResult::Refused(Answer::NotEnoughData);
         }
-        let send_queue_len = self.sender.pending.count();
+        let send_queue_len = self.pending.count();
         StatsResult::Stats(NetworkStats {
             ping: self.quality.round_trip_time,
             send_queue_len,

@@ -62,10 +62,10 @@ impl Sync {
         let issued = self.nonces.issue(nonce);
         if !issued.ok {
             return Requested {
-                ok: false,
                 sync: self,
                 clocks,
                 end: queued,
+                ok: false,
             };
         }
         let written = outbox::plain(
@@ -78,20 +78,20 @@ impl Sync {
         );
         if !written.ok {
             return Requested {
-                ok: false,
                 sync: self,
                 clocks,
                 end: queued,
+                ok: false,
             };
         }
         let nonces = issued.nonces;
         let noted = clocks.requested(now);
         let sent = noted.sent(now);
         Requested {
-            ok: true,
             sync: Sync { nonces, ..self },
             clocks: sent,
             end: written.end,
+            ok: true,
         }
     }
 
@@ -177,20 +177,20 @@ pub(crate) fn phase_after(remaining: u32) -> Phase
 
 impl Endpoint {
     // The handshake begins: all replies are to come, and the network's statistics count from this epoch.
-    pub fn synchronize(self, now: u64, epoch: u64, nonce: u32, out: &mut [u8]) -> Ended
+    pub fn synchronize(mut self, now: u64, epoch: u64, nonce: u32, out: &mut [u8]) -> Ended
         ensures { λ r. ⌜ DidAs self (step (Call.synchronize now epoch nonce (length (out .entry .now))) (seen self)) (out .entry .now) r (out .exit .now) ⌝ }
     {
         if timers::is_bad(now) || timers::is_bad(epoch) {
             return Ended {
-                answer: Answer::BadClock,
                 endpoint: self,
+                answer: Answer::BadClock,
             };
         }
         let phase = self.phase;
         let Phase::Initializing = phase else {
             return Ended {
-                answer: Answer::WrongState,
                 endpoint: self,
+                answer: Answer::WrongState,
             };
         };
         let started = Sync {
@@ -207,23 +207,24 @@ impl Endpoint {
         );
         if !requested.ok {
             return Ended {
-                answer: Answer::Full,
                 endpoint: self,
+                answer: Answer::Full,
             };
         }
         let sync = requested.sync;
         let clocks = requested.clocks;
         let quality = self.quality.started(epoch);
+        self = Endpoint {
+            phase: Phase::Synchronizing,
+            ..self
+        };
+        self.sync = sync;
+        self.clocks = clocks;
+        self.quality = quality;
+        self.queued = requested.end;
         Ended {
+            endpoint: self,
             answer: Answer::Done,
-            endpoint: Endpoint {
-                phase: Phase::Synchronizing,
-                sync,
-                clocks,
-                quality,
-                queued: requested.end,
-                ..self
-            },
         }
     }
 }

@@ -37,12 +37,6 @@ use timers::Clocks;
 // How many replies complete a handshake.
 const NUM_SYNC_PACKETS: u32 = 5;
 
-// The inputs sent and not acknowledged, and the last acknowledged one, against which they are packed.
-pub struct Sender {
-    pub pending: Pending,
-    pub acked: InputBytes,
-}
-
 // The handshake: replies still to come, nonces outstanding, and the other end's magic, 0 while the filter is off.
 pub struct Sync {
     pub remaining: u32,
@@ -50,11 +44,13 @@ pub struct Sync {
     pub remote_magic: u16,
 }
 
-// The setup, its handles ascending; what carries inputs; what the clocks and the handshake stand at; what was told and reported; the events that
-// wait to be taken, and how many bytes of the lent buffer are queued.
+// The setup, its handles ascending; what carries inputs: those sent and not acknowledged, the last acknowledged one, against which they are packed,
+// and those received; what the clocks and the handshake stand at; what was told and reported; the events that wait to be taken, and how many bytes of
+// the lent buffer are queued.
 pub struct Endpoint {
     pub setup: Setup,
-    pub sender: Sender,
+    pub pending: Pending,
+    pub acked: InputBytes,
     pub history: History,
     pub phase: Phase,
     pub sync: Sync,

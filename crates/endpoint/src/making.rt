@@ -8,7 +8,6 @@ ghost use Rattle.endpoint.specs.Made.{MadeAs};
 use crate::Ended;
 use crate::Endpoint;
 use crate::NUM_SYNC_PACKETS;
-use crate::Sender;
 use crate::Sync;
 use answer::Answer;
 use checksums::Checksums;
@@ -52,12 +51,10 @@ impl Endpoint {
         let events = Events::new();
         Endpoint {
             setup,
-            sender: Sender {
-                pending,
-                acked: InputBytes {
-                    frame: NULL_FRAME,
-                    bytes: [0u8; 64],
-                },
+            pending,
+            acked: InputBytes {
+                frame: NULL_FRAME,
+                bytes: [0u8; 64],
             },
             history,
             phase: Phase::Initializing,
@@ -84,6 +81,6 @@ impl Endpoint {
     {
         let answer = refusal(setup, now);
         let endpoint = Endpoint::made(setup, now);
-        Ended { answer, endpoint }
+        Ended { endpoint, answer }
     }
 }

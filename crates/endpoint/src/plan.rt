@@ -40,10 +40,14 @@ fn time_if(due: bool, now: u64, last: u64) -> u64
     last
 }
 
-fn one_if(due: bool) -> usize
-    ensures { λ r. ⌜ r ≡ pick due 1 0 ⌝ }
+// How many of something that comes only where it is due.
+pub(crate) fn count_if(due: bool, count: usize) -> usize
+    ensures { λ r. ⌜ r ≡ pick due count 0 ⌝ }
 {
-    if due { 1 } else { 0 }
+    if due {
+        return count;
+    }
+    0
 }
 
 // The keepalive looks at the send time as the messages before it leave it.
@@ -82,7 +86,7 @@ pub(crate) fn due_at(
 pub(crate) fn told(due: Due) -> usize
     ensures { λ r. ⌜ r ≡ pick (due .interruption) 1 0 + pick (due .disconnect) 1 0 ⌝ }
 {
-    one_if(due.interruption) + one_if(due.disconnect)
+    count_if(due.interruption, 1) + count_if(due.disconnect, 1)
 }
 
 // Whether any message is due.

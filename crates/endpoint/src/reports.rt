@@ -13,13 +13,19 @@ use quality::Advantage;
 
 impl Endpoint {
     // The own checksum of a frame is told to the other end.
-    pub fn send_checksum_report(self, frame: u32, checksum: Wide, now: u64, out: &mut [u8]) -> Ended
+    pub fn send_checksum_report(
+        mut self,
+        frame: u32,
+        checksum: Wide,
+        now: u64,
+        out: &mut [u8],
+    ) -> Ended
         ensures { λ r. ⌜ DidAs self (step (Call.sendChecksumReport frame checksum now (length (out .entry .now))) (seen self)) (out .entry .now) r (out .exit .now) ⌝ }
     {
         if timers::is_bad(now) {
             return Ended {
-                answer: Answer::BadClock,
                 endpoint: self,
+                answer: Answer::BadClock,
             };
         }
         let queued = outbox::plain(
@@ -30,30 +36,28 @@ impl Endpoint {
         );
         if !queued.ok {
             return Ended {
-                answer: Answer::Full,
                 endpoint: self,
+                answer: Answer::Full,
             };
         }
         let clocks = self.clocks.sent(now);
+        self.clocks = clocks;
+        self.queued = queued.end;
         Ended {
+            endpoint: self,
             answer: Answer::Done,
-            endpoint: Endpoint {
-                clocks,
-                queued: queued.end,
-                ..self
-            },
         }
     }
 
     // Nothing changes while either frame is -1.
-    pub fn update_local_frame_advantage(self, local_frame: u32) -> Ended
+    pub fn update_local_frame_advantage(mut self, local_frame: u32) -> Ended
         ensures { λ r. ⌜ DoneAs self (step (Call.updateLocalFrameAdvantage «local_frame») (seen self)) r ⌝ }
     {
         let newest = self.history.newest();
         if local_frame == NULL_FRAME || newest == NULL_FRAME {
             return Ended {
-                answer: Answer::Done,
                 endpoint: self,
+                answer: Answer::Done,
             };
         }
         let advantage = quality::local_advantage(
@@ -64,14 +68,15 @@ impl Endpoint {
         );
         let Advantage::Frames(frames) = advantage else {
             return Ended {
-                answer: Answer::Overflow,
                 endpoint: self,
+                answer: Answer::Overflow,
             };
         };
         let quality = self.quality.local(frames);
+        self.quality = quality;
         Ended {
+            endpoint: self,
             answer: Answer::Done,
-            endpoint: Endpoint { quality, ..self },
         }
     }
 }

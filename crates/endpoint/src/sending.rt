@@ -8,7 +8,6 @@ ghost use Rattle.endpoint.specs.Endpoint.{seen, DidAs};
 ghost use Rattle.endpoint.specs.Frames.{badAfter};
 use crate::Ended;
 use crate::Endpoint;
-use crate::Sender;
 use crate::telling;
 use answer::Answer;
 use events::Entry;
@@ -61,8 +60,8 @@ impl Endpoint {
                 answer: Answer::Done,
             };
         };
-        let acked = self.sender.acked;
-        if is_bad_frame(frame, self.sender.pending.last_frame(acked.frame)) {
+        let acked = self.acked;
+        if is_bad_frame(frame, self.pending.last_frame(acked.frame)) {
             return Ended {
                 endpoint: self,
                 answer: Answer::BadFrame,
@@ -70,7 +69,7 @@ impl Endpoint {
         }
         // XOR zeros is the input itself, with zeros after it.
         let padded = packing::frame_at(bytes, 0, width, [0u8; 64]);
-        let pushed = self.sender.pending.push(InputBytes {
+        let pushed = self.pending.push(InputBytes {
             frame,
             bytes: padded,
         });
@@ -110,12 +109,9 @@ impl Endpoint {
                 input: [0u8; 16],
             });
             let events = told.events;
-            self = Endpoint { events, ..self };
+            self.events = events;
         }
-        self = Endpoint {
-            sender: Sender { pending, acked },
-            ..self
-        };
+        self.pending = pending;
         self.clocks.last_send_time = now;
         self.queued = queued.end;
         Ended {

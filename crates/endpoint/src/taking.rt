@@ -16,8 +16,8 @@ use events::Events;
 use protocol::Phase;
 
 pub struct TakenEvents {
-    pub events: Events,
     pub endpoint: Endpoint,
+    pub events: Events,
 }
 
 // In Shutdown no buffer is too short.
@@ -45,31 +45,32 @@ fn filled(phase: Phase, queued: usize, room: usize) -> usize
 
 impl Endpoint {
     // The events held, and the endpoint without them.
-    pub fn take_events(self) -> TakenEvents
+    pub fn take_events(mut self) -> TakenEvents
         ensures { λ r. ⌜ TakenAs self r ⌝ }
     {
-        let taken = self.events;
-        let events = self.events.take_all();
+        let events = self.events;
+        self.events.used = 0;
         TakenEvents {
-            events: taken,
-            endpoint: Endpoint { events, ..self },
+            endpoint: self,
+            events,
         }
     }
 
     // The queue is emptied, where the buffer holds what is queued.
-    pub fn take_messages(self, out: &[u8]) -> Ended
+    pub fn take_messages(mut self, out: &[u8]) -> Ended
         ensures { λ r. ⌜ DoneAs self (step (Call.takeMessages (length (now (out .entry)))) (seen self)) r ⌝ }
     {
         let phase = self.phase;
         if is_short(phase, self.queued, out.len()) {
             return Ended {
-                answer: Answer::Full,
                 endpoint: self,
+                answer: Answer::Full,
             };
         }
+        self.queued = 0;
         Ended {
+            endpoint: self,
             answer: Answer::Done,
-            endpoint: Endpoint { queued: 0, ..self },
         }
     }
 

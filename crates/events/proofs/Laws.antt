@@ -132,6 +132,11 @@ module _ (frame size w : ℕ) (r hs p : List ℕ) (count k : ℕ) (l T : List En
         announcedAll-length (frame + k) size hs (framesOf w r (count - k) q) ∙ rw (frames-length w r (count - k) q, n, suc-mul) in
         omega (arith, ap length inv, length-append l (announcedAll (frame + k) size hs (framesOf w r (count - k) q)))
 
+-- a count of 0 holds nothing
+pub held-none : (e : Events) → held (record { entries = e .entries; used = 0 }) ≡ []
+unfolding held
+held-none e = refl
+
 -- room: 640 at most are held after, and where the numbers are frames only the room decides
 pub pushed-bound : (l more : List Entry) → length l ≤ 640 → length (pick (hasRoom l (length more)) (l ++ more) l) ≤ 640
 unfolding hasRoom

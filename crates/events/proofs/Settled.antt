@@ -4,7 +4,6 @@ use mathlib.Core.List.{List, [], _∷_, _++_}
 use mathlib.Core.Path.{_≡_, sym, _∙_}
 use Prim.Native.Nat.{ℕ}
 use lib.ListN.{length, take, drop, getD}
-use Rattle.base.specs.Pick.{pick}
 use Rattle.base.proofs.Settled.{settled}
 use Rattle.packing.specs.Packing.{framesOf}
 use Rattle.events.specs.declared.Entry.{Entry}
@@ -21,9 +20,6 @@ module _ (e : Events) where
 
   pub entry-settled : (i : ℕ) (r s : Entry) → r ≡ getD (held e) i blankEntry → s ≡ getD (held e) i blankEntry → r ≡ s
   entry-settled i = settled (λ r. r) (getD (held e) i blankEntry)
-
-  pub take-all-settled : (r s : Events) → held r ≡ [] → held s ≡ [] → held r ≡ held s
-  take-all-settled = settled held []
 
   pushed-settled : (able : Bool) (more : List Entry) (r s : Pushed) → PushedAs e able more r → PushedAs e able more s
       → (r .ok ≡ s .ok) × (held (r .events) ≡ held (s .events))

@@ -119,14 +119,6 @@ impl Events {
         }
     }
 
-    // The store after all its events are taken.
-    pub fn take_all(mut self) -> Events
-        ensures { λ r. ⌜ held r ≡ [] ⌝ }
-    {
-        self.used = 0;
-        self
-    }
-
     // One more at the end; where there is no room, unchanged.
     pub fn push(mut self, entry: Entry) -> Pushed
         ensures { λ r. ⌜ PushedAs self (hasRoom (held self) 1) (entry ∷ []) r ⌝ }
@@ -163,7 +155,7 @@ impl Events {
 
     // What an Input tells: the end of an interruption, a disconnect, and the packet's Input events, frame by frame, in each one per handle: `count`
     // frames of `width` bytes from a place of the payload on, each XOR the reference, the first being `frame`. Where there is no room for all, or a
-    // number would be no frame, unchanged. All of it is done in here, so that the store is copied once.
+    // number would be no frame, unchanged. All of it is done in here, so that the store is handed over once.
     pub fn push_packet(
         mut self,
         resumed: bool,

@@ -7,7 +7,7 @@ use Rattle.base.proofs.Settled.{settled}
 use Rattle.packing.specs.declared.input_bytes.InputBytes.{InputBytes}
 use Rattle.history.specs.declared.History.{History}
 use Rattle.history.specs.declared.Found.{Found}
-use Rattle.history.specs.History.{received, blank, newestOf, foundIn, packetOf, takenIn}
+use Rattle.history.specs.History.{received, blank, newestOf, foundIn, packetOf, takenAbove}
 
 pub new-settled : (r s : History) → received r ≡ blank ∷ [] → received s ≡ blank ∷ [] → received r ≡ received s
 new-settled = settled received (blank ∷ [])
@@ -19,8 +19,8 @@ module _ (h : History) where
   pub find-settled : (frame : ℕ) (r s : Found) → r ≡ foundIn frame (received h) → s ≡ foundIn frame (received h) → r ≡ s
   find-settled frame = settled (λ r. r) (foundIn frame (received h))
 
-  pub take-in-settled : (payload : List ℕ) (start width : ℕ) (reference : InputBytes) (maxPrediction : ℕ) (r s : History)
-      → received r ≡ take 33 (takenIn maxPrediction (received h) (packetOf start width (reference .bytes) payload))
-      → received s ≡ take 33 (takenIn maxPrediction (received h) (packetOf start width (reference .bytes) payload)) → received r ≡ received s
-  take-in-settled payload start width reference maxPrediction =
-      settled received (take 33 (takenIn maxPrediction (received h) (packetOf start width (reference .bytes) payload)))
+  pub take-in-settled : (payload : List ℕ) (start width : ℕ) (reference : InputBytes) (newest maxPrediction : ℕ) (r s : History)
+      → received r ≡ take 33 (takenAbove newest maxPrediction (received h) (packetOf start width (reference .bytes) payload))
+      → received s ≡ take 33 (takenAbove newest maxPrediction (received h) (packetOf start width (reference .bytes) payload)) → received r ≡ received s
+  take-in-settled payload start width reference newest maxPrediction =
+      settled received (take 33 (takenAbove newest maxPrediction (received h) (packetOf start width (reference .bytes) payload)))

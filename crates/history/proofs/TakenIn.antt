@@ -14,7 +14,7 @@ use Rattle.base.specs.Keyed.{kept}
 use Rattle.base.proofs.Kept.{kept-append, kept-kept}
 use Rattle.frame.specs.Bias.{nullFrame}
 use Rattle.packing.specs.declared.input_bytes.InputBytes.{InputBytes}
-use Rattle.history.specs.History.{highest, newestOf, stays, atLine, above, numbered, takenIn, newestAfter, fresh, Ascending}
+use Rattle.history.specs.History.{highest, newestOf, stays, atLine, above, numbered, takenIn, takenAbove, newestAfter, fresh, Ascending}
 use Rattle.history.proofs.Laws.{newest-is}
 
 -- ---- the newest after a packet
@@ -24,18 +24,20 @@ unfolding highest
 highest-append [] m = omega arith
 highest-append (x ∷ l) m = rw (highest-append l m) (omega arith)
 
--- one frame above n or not
-one-above : (n : ℕ) (x : InputBytes) (l : List InputBytes) → max n (highest (above n (x ∷ l))) ≡ max (x .frame) (max n (highest (above n l)))
+-- those not above n do not count beside n
+highest-above : (n : ℕ) (l : List InputBytes) → max n (highest (above n l)) ≡ max n (highest l)
 unfolding above kept highest
-one-above n x l =
-    elim (ltb n (x .frame)) as (λ b. ltb n (x .frame) ≡ b → max n (highest (pick b (x ∷ above n l) (above n l))) ≡ max (x .frame) (max n (highest (above n l))))
-    [ true ↦ λ e. omega (arith, ltb-true n (x .frame) e) | false ↦ λ e. omega (arith, ltb-false n (x .frame) e) ] refl
+highest-above n [] = refl
+highest-above n (x ∷ l) =
+    let r : max n (highest (above n l)) ≡ max n (highest l) = highest-above n l in
+    elim (ltb n (x .frame)) as (λ b. ltb n (x .frame) ≡ b → max n (highest (pick b (x ∷ above n l) (above n l))) ≡ max n (max (x .frame) (highest l)))
+    [ true ↦ λ e. omega arith | false ↦ λ e. omega (arith, ltb-false n (x .frame) e) ] refl
 
-highest-numbered : (n start : ℕ) (fs : List (List ℕ)) → max n (highest (above n (numbered start fs))) ≡ newestAfter n start (length fs)
-unfolding numbered newestAfter highest above kept
+highest-numbered : (n start : ℕ) (fs : List (List ℕ)) → max n (highest (numbered start fs)) ≡ newestAfter n start (length fs)
+unfolding numbered newestAfter highest
 highest-numbered n start [] = omega arith
-highest-numbered n start (f ∷ []) = one-above n _ [] ∙ omega arith
-highest-numbered n start (f ∷ g ∷ fs) = one-above n _ (numbered (suc start) (g ∷ fs)) ∙ rw (highest-numbered n (suc start) (g ∷ fs)) (omega arith)
+highest-numbered n start (f ∷ []) = omega arith
+highest-numbered n start (f ∷ g ∷ fs) = omega (arith, highest-numbered n (suc start) (g ∷ fs))
 
 -- what is above -1 has its newest above -1
 newest-above : (l : List InputBytes) → newestOf (above nullFrame l) ≡ max nullFrame (highest (above nullFrame l))
@@ -46,38 +48,50 @@ newest-above (x ∷ l) =
     (λ b. ltb nullFrame (x .frame) ≡ b → newestOf (pick b (x ∷ above nullFrame l) (above nullFrame l)) ≡ max nullFrame (highest (pick b (x ∷ above nullFrame l) (above nullFrame l))))
     [ true ↦ λ e. omega (arith, ltb-true nullFrame (x .frame) e) | false ↦ λ e. newest-above l ] refl
 
--- the newest after a packet is told by its first number and its count
+-- the newest after a packet is the higher of the newest and the packet's highest
+newest-with : (l packet : List InputBytes) → newestOf (l ++ above (newestOf l) packet) ≡ max (newestOf l) (highest packet)
+unfolding newestOf
+newest-with [] packet = newest-above packet ∙ highest-above nullFrame packet
+newest-with (x ∷ l) packet = highest-append (x ∷ l) (above (highest (x ∷ l)) packet) ∙ highest-above (highest (x ∷ l)) packet
+
+-- it is told by the packet's first number and its count
 pub newest-after : (l : List InputBytes) (start : ℕ) (fs : List (List ℕ))
     → newestOf (l ++ above (newestOf l) (numbered start fs)) ≡ newestAfter (newestOf l) start (length fs)
-unfolding newestOf
-newest-after [] start fs = newest-above (numbered start fs) ∙ highest-numbered nullFrame start fs
-newest-after (x ∷ l) start fs =
-    highest-append (x ∷ l) (above (highest (x ∷ l)) (numbered start fs)) ∙ highest-numbered (highest (x ∷ l)) start fs
+newest-after l start fs = newest-with l (numbered start fs) ∙ highest-numbered (newestOf l) start fs
 
 -- ---- what stays
 
 -- dropped below the new line first, then only what stays appended: the same as append all, then keep
-pub taken-is : (mp : ℕ) (l : List InputBytes) (start : ℕ) (fs : List (List ℕ)) (last : ℕ) → last ≡ newestAfter (newestOf l) start (length fs)
-    → takenIn mp l (numbered start fs)
-    ≡ kept (λ x. stays last mp (x .frame)) l ++ kept (λ x. fresh (newestOf l) last mp (x .frame)) (numbered start fs)
-unfolding takenIn atLine above
-taken-is mp l start fs last e =
-    let a : List InputBytes = kept (λ x. ltb (newestOf l) (x .frame)) (numbered start fs) in
-    let n : newestOf (l ++ a) ≡ last = newest-after l start fs ∙ sym e in
+pub taken-is : (newest mp : ℕ) (l : List InputBytes) (start : ℕ) (fs : List (List ℕ)) (last : ℕ) → last ≡ newestAfter newest start (length fs)
+    → takenAbove newest mp l (numbered start fs) ≡ kept (λ x. stays last mp (x .frame)) l ++ kept (λ x. fresh newest last mp (x .frame)) (numbered start fs)
+unfolding takenAbove above
+taken-is newest mp l start fs last e =
+    let a : List InputBytes = kept (λ x. ltb newest (x .frame)) (numbered start fs) in
+    let n : max newest (highest (numbered start fs)) ≡ last = highest-numbered newest start fs ∙ sym e in
     ap (λ (m : ℕ). kept (λ x. stays m mp (x .frame)) (l ++ a)) n
     ∙ kept-append (λ x. stays last mp (x .frame)) l a
     ∙ ap (λ (r : List InputBytes). kept (λ x. stays last mp (x .frame)) l ++ r)
-    (kept-kept (λ x. ltb (newestOf l) (x .frame)) (λ x. stays last mp (x .frame)) (numbered start fs))
+    (kept-kept (λ x. ltb newest (x .frame)) (λ x. stays last mp (x .frame)) (numbered start fs))
 
 -- so a call that does that, as many as fit
-pub taken-by : (mp : ℕ) (l left out : List InputBytes) (start : ℕ) (fs : List (List ℕ)) (newest last : ℕ)
-    → newest ≡ newestOf l → last ≡ newestAfter newest start (length fs) → left ≡ kept (λ x. stays last mp (x .frame)) l
-    → out ≡ take 33 (left ++ kept (λ x. fresh newest last mp (x .frame)) (numbered start fs)) → out ≡ take 33 (takenIn mp l (numbered start fs))
-taken-by mp l left out start fs newest last n e k o =
+pub taken-by : (newest mp : ℕ) (l left out : List InputBytes) (start : ℕ) (fs : List (List ℕ)) (last : ℕ)
+    → last ≡ newestAfter newest start (length fs) → left ≡ kept (λ x. stays last mp (x .frame)) l
+    → out ≡ take 33 (left ++ kept (λ x. fresh newest last mp (x .frame)) (numbered start fs)) → out ≡ take 33 (takenAbove newest mp l (numbered start fs))
+taken-by newest mp l left out start fs last e k o =
     o
     ∙ ap (λ (m : List InputBytes). take 33 (m ++ kept (λ x. fresh newest last mp (x .frame)) (numbered start fs))) k
-    ∙ ap (λ (m : ℕ). take 33 (kept (λ x. stays last mp (x .frame)) l ++ kept (λ x. fresh m last mp (x .frame)) (numbered start fs))) n
-    ∙ ap (take 33) (sym (taken-is mp l start fs last (e ∙ rw n)))
+    ∙ ap (take 33) (sym (taken-is newest mp l start fs last e))
+
+-- above the list's own newest: the rule
+pub taken-newest : (mp : ℕ) (l packet : List InputBytes) → takenAbove (newestOf l) mp l packet ≡ takenIn mp l packet
+unfolding takenAbove takenIn atLine
+taken-newest mp l packet = ap (λ (m : ℕ). kept (λ x. stays m mp (x .frame)) (l ++ above (newestOf l) packet)) (sym (newest-with l packet))
+
+-- so a caller that knows the newest takes a packet in by the rule
+pub taken-known : (newest mp : ℕ) (l out packet : List InputBytes) → newest ≡ newestOf l → out ≡ take 33 (takenAbove newest mp l packet)
+    → out ≡ take 33 (takenIn mp l packet)
+taken-known newest mp l out packet n o =
+    o ∙ ap (λ (m : ℕ). take 33 (takenAbove m mp l packet)) n ∙ ap (take 33) (taken-newest mp l packet)
 
 -- ---- how many are held
 

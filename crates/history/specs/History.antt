@@ -61,6 +61,10 @@ packetOf start width reference payload = numbered start (take (2 ^ 32 - start) (
 unfoldable pub takenIn : ℕ → List InputBytes → List InputBytes → List InputBytes
 takenIn maxPrediction l packet = atLine maxPrediction (l ++ above (newestOf l) packet)
 
+-- append all frames of a packet above a frame, then keep those at or above the keep line of the higher of that frame and the packet's highest
+unfoldable pub takenAbove : ℕ → ℕ → List InputBytes → List InputBytes → List InputBytes
+takenAbove newest maxPrediction l packet = kept (λ x. stays (max newest (highest packet)) maxPrediction (x .frame)) (l ++ above newest packet)
+
 -- the newest after it, by numbers alone
 unfoldable pub newestAfter : ℕ → ℕ → ℕ → ℕ
 newestAfter newest start zero = newest
@@ -82,6 +86,11 @@ input f = record { frame = f; bytes = [] }
 leaves : takenIn 1 (input 10 ∷ []) (input 9 ∷ input 10 ∷ input 11 ∷ input 12 ∷ input 13 ∷ input 14 ∷ []) ≡ input 12 ∷ input 13 ∷ input 14 ∷ []
 unfolding takenIn atLine above kept newestOf highest input
 leaves = refl
+
+-- worked: with the list's own newest, the same of that packet
+leaves-above : takenAbove 10 1 (input 10 ∷ []) (input 9 ∷ input 10 ∷ input 11 ∷ input 12 ∷ input 13 ∷ input 14 ∷ []) ≡ input 12 ∷ input 13 ∷ input 14 ∷ []
+unfolding takenAbove above kept highest input
+leaves-above = refl
 
 -- worked: a packet that comes again leaves the history as it was
 again : takenIn 1 (input 10 ∷ input 11 ∷ []) (input 10 ∷ input 11 ∷ []) ≡ input 10 ∷ input 11 ∷ []

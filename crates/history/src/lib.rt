@@ -5,7 +5,7 @@ ghost use Prim.Native.Nat.{_-_, _*_, _≤_, _^_, min};
 ghost use lib.ListN.{length, take};
 ghost use Rattle.base.specs.Keyed.{kept};
 ghost use Rattle.packing.specs.Packing.{frameCount, framesOf};
-ghost use Rattle.history.specs.History.{received, blank, newestOf, foundIn, newestAfter, stays, fresh, numbered, packetOf, takenIn};
+ghost use Rattle.history.specs.History.{received, blank, newestOf, foundIn, newestAfter, stays, fresh, numbered, packetOf, takenAbove};
 use frame::NULL_FRAME;
 use packing::InputBytes;
 
@@ -134,24 +134,23 @@ impl History {
         }
     }
 
-    // Those that stay, in a store of their own.
-    fn keep(self, newest: u32, max_prediction: u32) -> History
+    // Only those that stay, moved to the front.
+    fn keep(mut self, newest: u32, max_prediction: u32) -> History
         ensures { λ r. ⌜ received r ≡ kept (λ x. stays newest «max_prediction» (x .frame)) (received self) ⌝ }
     {
         let n = self.count();
-        let mut next = self;
         let mut at = 0;
         let mut k = 0;
         while k < n {
             let x = self.slots[k];
             if stays_above(x.frame, newest, max_prediction) {
-                next.slots[at] = x;
+                self.slots[at] = x;
                 at += 1;
             }
             k += 1;
         }
-        next.used = at;
-        next
+        self.used = at;
+        self
     }
 
     // Appends the fresh ones of the first count frames of a payload, as many as fit.
@@ -187,19 +186,20 @@ impl History {
         self
     }
 
-    // Takes in a packet's frames above the newest and drops those below the new keep line. What would be dropped at once is never stored.
+    // Takes in a packet's frames above the newest, which the caller knows, and drops those below the new keep line. What would be dropped at once is
+    // never stored.
     pub fn take_in(
         self,
         payload: &[u8],
         start: u32,
         width: usize,
         reference: InputBytes,
+        newest: u32,
         max_prediction: u32,
     ) -> History
-        ensures { λ r. ⌜ received r ≡ take 33 (takenIn «max_prediction» (received self) (packetOf start width (reference .bytes) (now (payload .entry)))) ⌝ }
+        ensures { λ r. ⌜ received r ≡ take 33 (takenAbove newest «max_prediction» (received self) (packetOf start width (reference .bytes) (now (payload .entry)))) ⌝ }
     {
         let count = arriving(payload.len(), width, start);
-        let newest = self.newest();
         let last = after(newest, start, count);
         let kept = self.keep(last, max_prediction);
         kept.append(

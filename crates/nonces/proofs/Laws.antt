@@ -1,11 +1,11 @@
 -- Laws of the nonces outstanding, on their list: membership, no nonce twice, lengths, room.
-use borrow.Author.Tests.{lt-ltb, ltb-true, eq-eqb, ne-eqb}
+use borrow.Author.Tests.{lt-ltb, le-ltb, ltb-true, eq-eqb, ne-eqb}
 use mathlib.Core.Bool.{true, false, not}
 use mathlib.Core.List.{List, [], _∷_}
 use mathlib.Core.Path.{_≡_, refl, _∙_}
 use Prim.Native.Nat.{ℕ, _+_, _≤_}
 use native.Mathlib.Omega.{arith}
-use lib.Dec.{eqb}
+use lib.Dec.{eqb, ltb}
 use lib.ListN.{length, length-append}
 use Rattle.base.specs.Pick.{pick}
 use Rattle.base.specs.Keyed.{has, without, Distinct}
@@ -52,6 +52,13 @@ module _ (nonce : ℕ) (l : List ℕ) where
 
   pub spent-length : Distinct (λ x. x) l → isOutstanding nonce l ≡ true → length (spent nonce l) + 1 ≡ length l
   spent-length d e = without-length (λ x. x) nonce l d e
+
+  -- fewer are left exactly where it was outstanding
+  pub spent-fewer : ltb (length (spent nonce l)) (length l) ≡ isOutstanding nonce l
+  spent-fewer =
+      elim (isOutstanding nonce l) as (λ b. isOutstanding nonce l ≡ b → ltb (length (spent nonce l)) (length l) ≡ b)
+      [ true ↦ λ e. lt-ltb _ _ (without-shorter (λ x. x) nonce l e) | false ↦ λ e. rw (without-none (λ x. x) nonce l e) (le-ltb (length l) (length l) (omega arith)) ]
+      refl
 
   -- a store that holds 256 at most holds no more after
   pub issued-bound : fits nonce l ≡ true → length (issued nonce l) ≤ 256

@@ -1,5 +1,4 @@
 -- Two answers that a contract allows are equal, by name for each public function: stores up to what their array holds past the count.
-use mathlib.Core.Bool.{Bool}
 use mathlib.Core.List.{[]}
 use mathlib.Core.Path.{_≡_, sym, _∙_}
 use Prim.Native.Nat.{ℕ}
@@ -8,7 +7,7 @@ use Rattle.base.proofs.Settled.{settled}
 use Rattle.nonces.specs.declared.Nonces.{Nonces}
 use Rattle.nonces.specs.declared.Issued.{Issued}
 use Rattle.nonces.specs.declared.Spent.{Spent}
-use Rattle.nonces.specs.Nonces.{outstanding, isOutstanding, IssuedAs, SpentAs}
+use Rattle.nonces.specs.Nonces.{outstanding, IssuedAs, SpentAs}
 
 pub new-settled : (r s : Nonces) → outstanding r ≡ [] → outstanding s ≡ [] → outstanding r ≡ outstanding s
 new-settled = settled outstanding []
@@ -18,9 +17,6 @@ module _ (n : Nonces) where
   count-settled = settled (λ r. r) (length (outstanding n))
 
   module _ (nonce : ℕ) where
-    pub contains-settled : (r s : Bool) → r ≡ isOutstanding nonce (outstanding n) → s ≡ isOutstanding nonce (outstanding n) → r ≡ s
-    contains-settled = settled (λ r. r) (isOutstanding nonce (outstanding n))
-
     pub issue-settled : (r s : Issued) → IssuedAs n nonce r → IssuedAs n nonce s → (r .ok ≡ s .ok) × (outstanding (r .nonces) ≡ outstanding (s .nonces))
     issue-settled r s a b = (a .ok ∙ sym (b .ok), a .view ∙ sym (b .view))
 

@@ -2,21 +2,22 @@
 ghost use mathlib.Core.Path.{_≡_};
 ghost use mathlib.Core.List.{[]};
 ghost use lib.ListN.{length};
-ghost use Rattle.nonces.specs.Nonces.{outstanding, isOutstanding, spent, IssuedAs, SpentAs};
+ghost use Rattle.nonces.specs.Nonces.{outstanding, spent, IssuedAs, SpentAs};
 
 pub struct Nonces {
     pub list: [u32; 256],
     pub used: usize,
 }
 
+// The store stands first in what a call gives back: a flag in front of it would make padding, and then the compiler copies the store once more.
 pub struct Issued {
-    pub ok: bool,
     pub nonces: Nonces,
+    pub ok: bool,
 }
 
 pub struct Spent {
-    pub found: bool,
     pub nonces: Nonces,
+    pub found: bool,
 }
 
 impl Nonces {
@@ -36,39 +37,23 @@ impl Nonces {
         if used < 256 { used } else { 256 }
     }
 
-    pub fn contains(self, nonce: u32) -> bool
-        ensures { λ r. ⌜ r ≡ isOutstanding nonce (outstanding self) ⌝ }
-    {
-        let n = self.count();
-        let mut i = 0;
-        while i < n {
-            let x = self.list[i];
-            if nonce == x {
-                return true;
-            }
-            i += 1;
-        }
-        false
-    }
-
     // All but the nonce, in their order: each that stays is written behind those that stayed before it.
-    fn others(self, nonce: u32) -> Nonces
+    fn others(mut self, nonce: u32) -> Nonces
         ensures { λ r. ⌜ outstanding r ≡ spent nonce (outstanding self) ⌝ }
     {
         let n = self.count();
-        let mut next = self;
         let mut kept = 0;
         let mut i = 0;
         while i < n {
             let x = self.list[i];
             if nonce != x {
-                next.list[kept] = x;
+                self.list[kept] = x;
                 kept += 1;
             }
             i += 1;
         }
-        next.used = kept;
-        next
+        self.used = kept;
+        self
     }
 
     // The nonce at the end, and nowhere else; where 256 others are outstanding, unchanged.
@@ -81,30 +66,32 @@ impl Nonces {
             next.list[n] = nonce;
             next.used = n + 1;
             return Issued {
-                ok: true,
                 nonces: next,
+                ok: true,
             };
         }
         Issued {
-            ok: false,
             nonces: self,
+            ok: false,
         }
     }
 
-    // The nonce is found where it is outstanding, and is so no longer.
+    // The nonce is found where it is outstanding, and is so no longer: fewer are left.
     pub fn spend(self, nonce: u32) -> Spent
         ensures { λ r. ⌜ SpentAs self nonce r ⌝ }
     {
-        if !self.contains(nonce) {
+        let before = self.count();
+        let next = self.others(nonce);
+        let after = next.count();
+        if after < before {
             return Spent {
-                found: false,
-                nonces: self,
+                nonces: next,
+                found: true,
             };
         }
-        let next = self.others(nonce);
         Spent {
-            found: true,
-            nonces: next,
+            nonces: self,
+            found: false,
         }
     }
 }

@@ -11,7 +11,7 @@ use Rattle.base.specs.Pick.{pick}
 use Rattle.base.proofs.Arrays.{view-at, view-le}
 use Rattle.packing.specs.declared.input_bytes.InputBytes.{InputBytes}
 use Rattle.pending.specs.declared.Pending.{Pending}
-use Rattle.pending.specs.Pending.{waiting, room, pushed, dropTo, firstFrame, lastFrame}
+use Rattle.pending.specs.Pending.{waiting, room, pushed, drops, dropTo, lastTo, firstFrame, lastFrame}
 
 -- the view is no longer than the array, and what is read of the array below the count is of the view
 pub waiting-le : (p : Pending) → length (waiting p) ≤ length (p .slots)
@@ -45,6 +45,28 @@ last-is none (x ∷ []) d zero h = refl
 last-is none (x ∷ []) d (suc k) h = absurd (omega arith)
 last-is none (x ∷ y ∷ l) d zero h = absurd (omega arith)
 last-is none (x ∷ y ∷ l) d (suc k) h = last-is (x .frame) (y ∷ l) d k (omega arith)
+
+-- a drop that changes nothing, and whether one does, by the first place
+pub drops-none : (ack : ℕ) (l : List InputBytes) → length l ≡ 0 → drops ack l ≡ false
+unfolding drops
+drops-none ack [] h = refl
+drops-none ack (x ∷ l) h = absurd (omega arith)
+
+pub drops-is : (ack : ℕ) (l : List InputBytes) (d : InputBytes) → 0 < length l → drops ack l ≡ leb (getD l 0 d .frame) ack
+unfolding drops
+drops-is ack [] d h = absurd (omega arith)
+drops-is ack (x ∷ l) d h = refl
+
+module _ (ack : ℕ) where
+  pub dropped-same : (l : List InputBytes) → drops ack l ≡ false → dropTo ack l ≡ l
+  unfolding drops dropTo
+  dropped-same [] h = refl
+  dropped-same (x ∷ l) h = rw h
+
+  pub last-same : (reference : InputBytes) (l : List InputBytes) → drops ack l ≡ false → lastTo ack reference l ≡ reference
+  unfolding drops lastTo
+  last-same reference [] h = refl
+  last-same reference (x ∷ l) h = rw h
 
 -- what callers need: a drop frees room, a push takes one place of it, and the last is then the one pushed
 pub drop-le : (a : ℕ) (l : List InputBytes) → length (dropTo a l) ≤ length l

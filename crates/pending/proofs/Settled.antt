@@ -11,7 +11,7 @@ use Rattle.packing.proofs.Settled.{laid-settled}
 use Rattle.pending.specs.declared.Pending.{Pending}
 use Rattle.pending.specs.declared.Pushed.{Pushed}
 use Rattle.pending.specs.declared.Dropped.{Dropped}
-use Rattle.pending.specs.Pending.{waiting, firstFrame, lastFrame, payload, PushedAs, SizedAs, DroppedAs}
+use Rattle.pending.specs.Pending.{waiting, drops, firstFrame, lastFrame, payload, PushedAs, SizedAs, DroppedAs}
 
 pub new-settled : (r s : Pending) → waiting r ≡ [] → waiting s ≡ [] → waiting r ≡ waiting s
 new-settled = settled waiting []
@@ -22,6 +22,9 @@ module _ (p : Pending) where
 
   pub push-settled : (x : InputBytes) (r s : Pushed) → PushedAs p x r → PushedAs p x s → (r .ok ≡ s .ok) × (waiting (r .pending) ≡ waiting (s .pending))
   push-settled x r s a b = (a .ok ∙ sym (b .ok), a .view ∙ sym (b .view))
+
+  pub drops-settled : (ack : ℕ) (r s : Bool) → r ≡ drops ack (waiting p) → s ≡ drops ack (waiting p) → r ≡ s
+  drops-settled ack = settled (λ r. r) (drops ack (waiting p))
 
   pub drop-to-settled : (ack : ℕ) (reference : InputBytes) (r s : Dropped) → DroppedAs p ack reference r → DroppedAs p ack reference s
       → (r .last ≡ s .last) × (waiting (r .pending) ≡ waiting (s .pending))

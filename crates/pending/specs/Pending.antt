@@ -24,6 +24,11 @@ room l = ltb (length l) 129
 unfoldable pub pushed : List InputBytes → InputBytes → List InputBytes
 pushed l x = pick (room l) (l ++ x ∷ []) l
 
+-- whether the first input has a frame of at most ack
+unfoldable pub drops : ℕ → List InputBytes → Bool
+drops ack [] = false
+drops ack (x ∷ xs) = leb (x .frame) ack
+
 -- what is left when the leading inputs with a frame of at most ack are dropped
 unfoldable pub dropTo : ℕ → List InputBytes → List InputBytes
 dropTo ack [] = []
@@ -69,9 +74,9 @@ pub record DroppedAs (p : Pending) (ack : ℕ) (reference : InputBytes) (r : Dro
 frame-of : ℕ → InputBytes
 frame-of f = record { frame = f; bytes = [] }
 
-drops : dropTo 2 (frame-of 1 ∷ frame-of 2 ∷ frame-of 3 ∷ []) ≡ frame-of 3 ∷ []
+dropped : dropTo 2 (frame-of 1 ∷ frame-of 2 ∷ frame-of 3 ∷ []) ≡ frame-of 3 ∷ []
 unfolding dropTo frame-of
-drops = refl
+dropped = refl
 
 refers : lastTo 2 (frame-of 0) (frame-of 1 ∷ frame-of 2 ∷ frame-of 3 ∷ []) ≡ frame-of 2
 unfolding lastTo frame-of

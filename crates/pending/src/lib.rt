@@ -3,7 +3,7 @@ ghost use mathlib.Core.Path.{_≡_};
 ghost use mathlib.Core.List.{[]};
 ghost use lib.ListN.{length};
 ghost use Rattle.packing.specs.Packing.{LaidAs};
-ghost use Rattle.pending.specs.Pending.{waiting, firstFrame, lastFrame, payload, PushedAs, SizedAs, DroppedAs};
+ghost use Rattle.pending.specs.Pending.{waiting, drops, firstFrame, lastFrame, payload, PushedAs, SizedAs, DroppedAs};
 use packing::InputBytes;
 
 // Where the crate tells the session that the other end is too far behind.
@@ -61,6 +61,17 @@ impl Pending {
             self.used = n + 1;
         }
         Pushed { pending: self, ok }
+    }
+
+    // Whether a drop to ack changes anything: the oldest input has a frame of at most ack.
+    pub fn drops(self, ack: u32) -> bool
+        ensures { λ r. ⌜ r ≡ drops ack (waiting self) ⌝ }
+    {
+        if self.count() == 0 {
+            return false;
+        }
+        let x = self.slots[0];
+        x.frame <= ack
     }
 
     // Drops the leading inputs with a frame of at most ack. The last dropped is the new reference; where none is dropped, the old one stays.

@@ -135,7 +135,7 @@ fn changed(endpoint: Endpoint, record: Record, payload: &[u8], out: &mut [u8]) -
 }
 
 fn unchanged(endpoint: Endpoint, answer: Answer) -> Ended {
-    Ended { answer, endpoint }
+    Ended { endpoint, answer }
 }
 
 fn asked_stats(endpoint: Endpoint, epoch: u64) -> Ended {

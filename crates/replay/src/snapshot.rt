@@ -42,8 +42,8 @@ fn put_standing(out: Out, endpoint: Endpoint) -> Out {
 // What it holds, each input in the bytes of its side's width.
 fn put_stores(out: Out, endpoint: Endpoint) -> Out {
     let sending = endpoint.setup.sending_width();
-    let out = put_pending(out, endpoint.sender.pending, sending);
-    let out = put_input(out, endpoint.sender.acked, sending);
+    let out = put_pending(out, endpoint.pending, sending);
+    let out = put_input(out, endpoint.acked, sending);
     let receiving = endpoint.setup.receiving_width();
     let out = put_history(out, endpoint.history, receiving);
     let out = put_checksums(out, endpoint.checksums);

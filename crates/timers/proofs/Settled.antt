@@ -4,7 +4,7 @@ use mathlib.Core.Path.{_≡_}
 use Prim.Native.Nat.{ℕ}
 use Rattle.base.proofs.Settled.{settled}
 use Rattle.timers.specs.declared.Clocks.{Clocks}
-use Rattle.timers.specs.Timers.{badClock, passed, madeAt, qualityAt, inputAt, sentAt, requestAt, heardAt, shutdownAt}
+use Rattle.timers.specs.Timers.{badClock, passed, madeAt, inputAt, sentAt, requestAt, heardAt, shutdownAt}
 
 module _ (now : ℕ) where
   pub is-bad-settled : (r s : Bool) → r ≡ badClock now → s ≡ badClock now → r ≡ s
@@ -17,9 +17,6 @@ module _ (now : ℕ) where
   new-settled = settled (λ r. r) (madeAt now)
 
   module _ (c r s : Clocks) where
-    pub quality-reported-settled : r ≡ qualityAt now c → s ≡ qualityAt now c → r ≡ s
-    quality-reported-settled = settled (λ r. r) (qualityAt now c) r s
-
     pub input-received-settled : r ≡ inputAt now c → s ≡ inputAt now c → r ≡ s
     input-received-settled = settled (λ r. r) (inputAt now c) r s
 

@@ -1,6 +1,6 @@
 // The timer clocks of an endpoint (ggrs, protocol.rs), when a clock is refused, and when a wait is over. Each clock is set by a step of its own.
 ghost use mathlib.Core.Path.{_≡_};
-ghost use Rattle.timers.specs.Timers.{badClock, passed, madeAt, qualityAt, inputAt, sentAt, requestAt, heardAt, shutdownAt};
+ghost use Rattle.timers.specs.Timers.{badClock, passed, madeAt, inputAt, sentAt, requestAt, heardAt, shutdownAt};
 
 // The first clock that is refused.
 pub const CLOCK_END: u64 = 0x4000_0000_0000_0000;
@@ -39,15 +39,6 @@ impl Clocks {
             last_sync_request_time: now,
             last_recv_time: now,
             shutdown_timeout: now,
-        }
-    }
-
-    pub fn quality_reported(self, now: u64) -> Clocks
-        ensures { λ r. ⌜ r ≡ qualityAt now self ⌝ }
-    {
-        Clocks {
-            running_last_quality_report: now,
-            ..self
         }
     }
 

@@ -1,26 +1,25 @@
--- `kept_from` writes what stays behind what stayed before it. The invariant: what is written, with what stays of those left, is the whole.
+-- `kept_from` writes what stays behind what stayed before it, in place. The invariant is `Keeping`.
 use borrow.Author.Needs.{needs}
 use borrow.Author.Tests.{le-leb, lt-leb}
-use mathlib.Core.List.{_++_}
 use mathlib.Core.Logic.{⊎-elim}
-use mathlib.Core.Path.{_≡_, refl}
-use Prim.Native.Nat.{_+_, _-_, _≤_}
+use mathlib.Core.Path.{_≡_}
+use Prim.Native.Nat.{_-_, _≤_}
 use native.Mathlib.Omega.{arith}
 use lib.Dec.{leb}
-use lib.ListN.{length, take, drop, length-set}
+use lib.ListN.{length, length-set}
 use Rattle.base.proofs.Arrays.{unmap, view-le}
-use Rattle.base.proofs.Kept.{keep-turn, leave-turn, keep-end}
-use Rattle.checksums.specs.Checksums.{stored, keptFrom, blank}
+use Rattle.base.proofs.InPlace.{Keeping, keeping-start, keeping-took, keeping-left, keeping-end}
+use Rattle.checksums.specs.Checksums.{stored, blank}
 use Rattle.checksums.proofs.Checksums.kept_from.Statement.{statement}
 use Rattle.checksums.proofs.Checksums.kept_from.Tie as tie
 
 abbrev Inv-loop : tie.InvT-loop
-Inv-loop oldest self n next₀ w₀ i₀ next w i =
-    (i ≤ n) × (w ≤ i) × (n ≤ 64) × (n ≡ length (stored self)) × (length (next .entries) ≡ 64)
-    × (take w (next .entries) ++ keptFrom oldest (drop i (stored self)) ≡ keptFrom oldest (stored self))
+Inv-loop oldest self₀ n w₀ i₀ self w i =
+    (i ≤ n) × (w ≤ i) × (n ≤ 64) × (n ≡ length (stored self₀)) × (length (self .entries) ≡ 64)
+    × Keeping (λ x. leb oldest (x .frame)) (self₀ .used) (self₀ .entries) (self .entries) w i
 
 abbrev μ-loop : tie.MeasureT-loop
-μ-loop oldest self n next₀ w₀ i₀ next w i = n - i
+μ-loop oldest self₀ n w₀ i₀ self w i = n - i
 
 long : (c : tie.Start Inv-loop μ-loop) → length (c .args .t1 .entries) ≡ 64
 long c = search (unmap, needs)
@@ -31,8 +30,15 @@ count-requires c κs = search needs
 loop-holds : tie.Need-loop-holds Inv-loop μ-loop
 unfolding stored
 loop-holds c =
-    let s = c .before .args .t1 in
-    (omega arith, omega arith, omega (arith, long (c .before), view-le (s .used) (s .entries), c .count .ensures), c .count .ensures, long (c .before), refl)
+    let a = c .before .args in
+    let s = a .t1 in (
+      omega arith,
+      omega arith,
+      omega (arith, long (c .before), view-le (s .used) (s .entries), c .count .ensures),
+      c .count .ensures,
+      long (c .before),
+      keeping-start (λ x. leb (a .oldest) (x .frame)) (s .used) (s .entries),
+    )
 
 mul-x : tie.Need-mul-x Inv-loop μ-loop
 mul-x c = omega arith
@@ -68,7 +74,7 @@ loop-again c =
       l .inv .2,
       l .inv .3,
       rw length-set (l .inv .4),
-      keep-turn (λ x. leb (a .oldest) (x .frame)) (a .t1 .used) (a .t1 .entries) (l .next .entries) (l .kept) (l .i) blank _ (omega arith) (l .inv .5) (omega arith)
+      keeping-took (λ x. leb (a .oldest) (x .frame)) (a .t1 .used) (a .t1 .entries) (l .self .entries) (l .kept) (l .i) (l .inv .5) blank (omega arith) (omega arith) (omega arith)
           (le-leb _ _ (w .0 .taken)),
     ))
     (λ w.
@@ -78,7 +84,7 @@ loop-again c =
       l .inv .2,
       l .inv .3,
       l .inv .4,
-      leave-turn (λ x. leb (a .oldest) (x .frame)) (a .t1 .used) (a .t1 .entries) (l .next .entries) (l .kept) (l .i) blank _ (omega arith) (l .inv .5)
+      keeping-left (λ x. leb (a .oldest) (x .frame)) (a .t1 .used) (a .t1 .entries) (l .self .entries) (l .kept) (l .i) (l .inv .5) blank (omega arith)
           (lt-leb _ _ (w .0 .left)),
     ))
     (c .if1 .came)
@@ -88,7 +94,7 @@ unfolding stored
 returns c =
     let a = c .before .before .before .args in
     let l = c .before .loop in
-    keep-end (λ x. leb (a .oldest) (x .frame)) (a .t1 .used) (a .t1 .entries) (l .next .entries) (l .kept) (l .i) (omega arith) (l .inv .5)
+    keeping-end (λ x. leb (a .oldest) (x .frame)) (a .t1 .used) (a .t1 .entries) (l .self .entries) (l .kept) (l .i) (l .inv .5) (omega arith)
 
 pub kept-from-spec : {M : Type 1} → statement M
 kept-from-spec =

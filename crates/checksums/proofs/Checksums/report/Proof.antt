@@ -1,4 +1,4 @@
--- `report` has one law for each way out (proofs/ChecksumLaws.antt), which takes what the calls gave.
+-- `report` has one law for each way out (proofs/Laws.antt), which takes what the calls gave.
 use borrow.Author.Needs.{needs}
 use borrow.Author.Tests.{not-true, not-false}
 use mathlib.Core.Bool.{true, false}

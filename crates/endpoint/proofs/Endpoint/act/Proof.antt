@@ -9,9 +9,9 @@ use borrow.Author.Tests.{not-true, not-false}
 use Rattle.base.proofs.Arrays.{view-le}
 use Rattle.timers.specs.Timers.{badClocks}
 use Rattle.events.specs.Events.{held}
-use Rattle.endpoint.proofs.Lengths.{entries-long, untold-room}
+use Rattle.endpoint.proofs.Lengths.{entries-long, acked-long, untold-room}
 use Rattle.endpoint.proofs.Batches.{size-if-most}
-use Rattle.endpoint.proofs.Acts.{Packed, Announced, packed-none, size-is, packed-some, told-full, told-fits, announced-none, announced-some, running-untold, running-full, running-done}
+use Rattle.endpoint.proofs.Acts.{Resent, Packed, Announced, resent-none, resent-some, packed-none, size-is, packed-some, told-full, told-fits, announced-none, announced-some, running-untold, running-full, running-done}
 use Rattle.endpoint.proofs.Acts.{synchronizing-idle, synchronizing-full, synchronizing-done, disconnected-idle, disconnected-over}
 use Rattle.endpoint.proofs.Acts.{act-clocks, act-count, act-synchronizing, act-running, act-disconnected, act-idle}
 use borrow.Author.Needs.{needs}
@@ -57,10 +57,9 @@ same-length c = search needs
 
 returns-3 : tie.Need-returns-3
 returns-3 c =
-    let t = c .before .before .before .before .before .before .before .before .before .before in
     let a = c .before .before .before .before .before .before .before .before .before .before .before .before .before .before .before .before .before .before .args in
     let asked = c .before .before .before .before .request in
-    act-synchronizing (a .self) (a .out .now) (a .statuses) (a .now) (a .epoch) (a .nonce) (good-clocks (t .before .before .before)) (t .if3 .left) (c .before .before .before .before .before .before .before .before .enum-told .given .1) _ _
+    act-synchronizing (a .self) (a .out .now) (a .statuses) (a .now) (a .epoch) (a .nonce) (good-clocks (c .before .before .before .before .before .before .before .before .before .before .before .before .before)) (c .before .before .before .before .before .before .before .before .before .before .if3 .left) (c .before .before .before .before .before .before .before .before .enum-told .given .1) _ _
     (synchronizing-full (a .self) (a .out .now) (a .now) (a .nonce) (sym (c .before .before .before .before .before .before .before .passed .ensures) ∙ c .before .before .before .before .before .before .if4 .taken) (asked .result) _ (asked .ensures) (not-true _ (c .if5 .taken)))
 
 same-length-2 : tie.Need-same-length-2
@@ -68,19 +67,17 @@ same-length-2 c = search needs
 
 returns-4 : tie.Need-returns-4
 returns-4 c =
-    let t = c .before .before .before .before .before .before .before .before .before .before .before .before .before .before .before .before .before .before .before .before in
-    let s = c .before .before .before .before .before .before .before .before .before .before .before .before .before .before .before .before .before .before .before .before .before .before .before .before .before .before .before .before in
+    let s = c .before .before .before .before .before .before .before .before .before .before .before .before .before .before .before .before .before .before .before .before in
     let a = s .args in
-    let asked = c .before .before .before .before .before .before .before .before .before .before .before .before .before .before .request in
-    act-synchronizing (a .self) (a .out .now) (a .statuses) (a .now) (a .epoch) (a .nonce) (good-clocks (t .before .before .before)) (t .if3 .left) (c .before .before .before .before .before .before .before .before .before .before .before .before .before .before .before .before .before .before .enum-told .given .1) _ _
-    (synchronizing-done (a .self) (a .out .now) (a .now) (a .nonce) (sym (c .before .before .before .before .before .before .before .before .before .before .before .before .before .before .before .before .before .passed .ensures) ∙ c .before .before .before .before .before .before .before .before .before .before .before .before .before .before .before .before .if4 .taken) (asked .result) _ (asked .ensures) (untold-room (a .self) _ (s .good .0)) (not-false _ (c .before .before .before .before .before .before .before .before .before .before .if5 .left)))
+    let asked = c .before .before .before .before .before .before .request in
+    act-synchronizing (a .self) (a .out .now) (a .statuses) (a .now) (a .epoch) (a .nonce) (good-clocks (c .before .before .before .before .before .before .before .before .before .before .before .before .before .before .before)) (c .before .before .before .before .before .before .before .before .before .before .before .before .if3 .left) (c .before .before .before .before .before .before .before .before .before .before .enum-told .given .1) _ _
+    (synchronizing-done (a .self) (a .out .now) (a .now) (a .nonce) (sym (c .before .before .before .before .before .before .before .before .before .passed .ensures) ∙ c .before .before .before .before .before .before .before .before .if4 .taken) (asked .result) _ (asked .ensures) (untold-room (a .self) _ (s .good .0)) (not-false _ (c .before .before .if5 .left)))
 
 returns-5 : tie.Need-returns-5
 returns-5 c =
-    let t = c .before .before .before .before in
     let s = c .before .before .before .before .before .before .before .before .before .before .before .before in
     let a = s .args in
-    act-synchronizing (a .self) (a .out .now) (a .statuses) (a .now) (a .epoch) (a .nonce) (good-clocks (t .before .before .before)) (t .if3 .left) (c .before .before .enum-told .given .1) _ _
+    act-synchronizing (a .self) (a .out .now) (a .statuses) (a .now) (a .epoch) (a .nonce) (good-clocks (c .before .before .before .before .before .before .before)) (c .before .before .before .before .if3 .left) (c .before .before .enum-told .given .1) _ _
     (synchronizing-idle (a .self) (a .out .now) (a .now) (a .nonce) (untold-room (a .self) _ (s .good .0)) (sym (c .before .passed .ensures) ∙ c .if4 .left))
 
 -- ---- Running
@@ -113,11 +110,10 @@ add-if6 c =
 
 returns-6 : tie.Need-returns-6
 returns-6 c =
-    let t = c .before .before .before .before .before .before .before in
     let a = c .before .before .before .before .before .before .before .before .before .before .before .before .before .before .before .args in
     let count = c .before .before .before .before .count in
     let due = c .before .before .before .due-at in
-    act-running (a .self) (a .out .now) (a .statuses) (a .now) (a .epoch) (a .nonce) (good-clocks (t .before .before .before)) (t .if3 .left) (c .before .before .before .before .before .enum-told2 .given .1) _ _
+    act-running (a .self) (a .out .now) (a .statuses) (a .now) (a .epoch) (a .nonce) (good-clocks (c .before .before .before .before .before .before .before .before .before .before)) (c .before .before .before .before .before .before .before .if3 .left) (c .before .before .before .before .before .enum-told2 .given .1) _ _
     (running-untold (a .self) (a .out .now) (a .statuses) (a .now) (a .epoch) (due .result) (count .result) (count .ensures) (due .ensures)
     (told-full (a .self) (a .out .now) (a .statuses) (a .now) (a .epoch) (due .result) (c .before .count2 .result) (c .before .before .told .result) (c .before .count2 .ensures) (c .before .before .told .ensures) (c .if6 .taken)))
 
@@ -127,58 +123,75 @@ sends-requires c κs = search needs
 sending-width-requires : tie.Need-sending-width-requires
 sending-width-requires c κs = search needs
 
-batch-size-requires : tie.Need-batch-size-requires
-batch-size-requires c κs = search needs
+size-requires : tie.Need-size-requires
+size-requires c κs = search needs
 
 is-full-requires : tie.Need-is-full-requires
 is-full-requires c κs = search needs
 
 returns-7 : tie.Need-returns-7
 returns-7 c =
-    let t = c .before .before .before .before .before .before .before .before .before .before .before .before .before in
     let a = c .before .before .before .before .before .before .before .before .before .before .before .before .before .before .before .before .before .before .before .before .before .args in
     let count = c .before .before .before .before .before .before .before .before .before .before .count in
     let due = c .before .before .before .before .before .before .before .before .before .due-at in
     let full = c .before .is-full in
-    let size = c .before .before .batch-size in
+    let size = c .before .before .size in
     let wide = c .before .before .before .sending-width in
-    act-running (a .self) (a .out .now) (a .statuses) (a .now) (a .epoch) (a .nonce) (good-clocks (t .before .before .before)) (t .if3 .left) (c .before .before .before .before .before .before .before .before .before .before .before .enum-told2 .given .1) _ _
+    act-running (a .self) (a .out .now) (a .statuses) (a .now) (a .epoch) (a .nonce) (good-clocks (c .before .before .before .before .before .before .before .before .before .before .before .before .before .before .before .before)) (c .before .before .before .before .before .before .before .before .before .before .before .before .before .if3 .left) (c .before .before .before .before .before .before .before .before .before .before .before .enum-told2 .given .1) _ _
     (running-full (a .self) (a .out .now) (a .statuses) (a .now) (a .epoch) (due .result) (count .result) (count .ensures) (due .ensures)
-    (size-is (a .self) (a .out .now) (a .statuses) (a .now) (a .epoch) (due .result) (wide .result) (size .result) (full .result) (wide .ensures) (size .ensures) (full .ensures) ∙ c .if8 .taken))
+    (size-is (a .self) (a .out .now) (a .statuses) (a .now) (a .epoch) (due .result) (wide .result) (size .result) (full .result) (wide .ensures) (acked-long (a .self) _ (c .before .before .before .before .before .before .before .before .before .before .before .before .before .before .before .before .before .before .before .before .before .good .0)) (size .ensures) (full .ensures) ∙ c .if8 .taken))
 
 newest-requires : tie.Need-newest-requires
 newest-requires c κs = search needs
 
-write-batch-requires : tie.Need-write-batch-requires
-write-batch-requires c κs = search needs
+pending-input-requires : tie.Need-pending-input-requires
+pending-input-requires c κs = search needs
+
+-- the pending inputs are queued, where they are due
+resent : (c : tie.Joined9) → Resent (c .before .before .before .before .before .before .before .before .before .before .before .before .before .before .before .before .before .before .before .before .before .before .args .self) (c .before .before .before .before .before .before .before .before .before .before .before .before .before .before .before .before .before .before .before .before .before .before .args .out .now) (c .before .before .before .before .before .before .before .before .before .before .before .before .before .before .before .before .before .before .before .before .before .before .args .statuses) (c .before .before .before .before .before .before .before .before .before .before .before .before .before .before .before .before .before .before .before .before .before .before .args .now) (c .before .before .before .before .before .before .before .before .before .before .before .before .before .before .before .before .before .before .before .before .before .before .args .epoch) (c .before .before .before .before .before .before .before .before .before .before .due-at .result) (c .before .before .before .before .sending-width .result) (c .if9 .self) (c .if9 .out)
+resent c =
+    let a = c .before .before .before .before .before .before .before .before .before .before .before .before .before .before .before .before .before .before .before .before .before .before .args in
+    let d = c .before .before .before .before .before .before .before .before .before .before .due-at .result in
+    let width = c .before .before .before .before .sending-width .result in
+    ⊎-elim {0, 0, 0}
+    (λ w. rw (w .6, w .7) (resent-some (a .self) (a .out .now) (a .statuses) (a .now) (a .epoch) d width (w .0 .taken) (w .2 .result) (w .2 .ensures) (w .3 .result) _ (w .3 .ensures)))
+    (λ w. rw (w .1, w .2) (resent-none (a .self) (a .out .now) (a .statuses) (a .now) (a .epoch) d width (w .0 .left)))
+    (c .if9 .came)
+
+long-resent : (c : tie.Joined9) → length (c .if9 .out) ≡ length (c .before .before .before .before .before .before .before .before .before .before .before .before .before .before .before .before .before .before .before .before .before .before .args .out .now)
+long-resent c = ⊎-elim {0, 0, 0} (λ w. rw (w .7) (w .3 .kept .0)) (λ w. rw (w .2)) (c .if9 .came)
+
+write-reports-requires : tie.Need-write-reports-requires
+write-reports-requires c κs = search needs
 
 -- what is due is queued
 packed : (c : tie.Joined7) → Packed (c .before .before .before .before .before .before .before .before .before .before .before .before .before .before .before .before .before .args .self) (c .before .before .before .before .before .before .before .before .before .before .before .before .before .before .before .before .before .args .out .now) (c .before .before .before .before .before .before .before .before .before .before .before .before .before .before .before .before .before .args .statuses) (c .before .before .before .before .before .before .before .before .before .before .before .before .before .before .before .before .before .args .now) (c .before .before .before .before .before .before .before .before .before .before .before .before .before .before .before .before .before .args .epoch) (c .before .before .before .before .before .due-at .result) (c .if7 .self) (c .if7 .out)
 packed c =
-    let a = c .before .before .before .before .before .before .before .before .before .before .before .before .before .before .before .before .before .args in
+    let s = c .before .before .before .before .before .before .before .before .before .before .before .before .before .before .before .before .before in
+    let a = s .args in
     let d = c .before .before .before .before .before .due-at .result in
     ⊎-elim {0, 0, 0}
-    (λ w. rw (w .10, w .11) (packed-some (a .self) (a .out .now) (a .statuses) (a .now) (a .epoch) d (w .1 .result) (w .2 .result) (w .3 .result) (w .1 .ensures) (w .2 .ensures) (w .3 .ensures) (w .6 .result) (w .7 .result) _ (w .4 .left) (w .6 .ensures) (w .7 .ensures)))
+    (λ w. rw (w .10, w .11) (packed-some (a .self) (a .out .now) (a .statuses) (a .now) (a .epoch) d (w .1 .result) (w .2 .result) (w .3 .result) (w .1 .ensures) (acked-long (a .self) _ (s .good .0)) (w .2 .ensures) (w .3 .ensures) (w .5 .self) (w .5 .out) (resent (record { before = record { before = record { before = record { before = record { before = record { before = c .before; if7 = w .0 }; sending-width = w .1 }; size = w .2 }; is-full = w .3 }; if8 = w .4 }; if9 = w .5 })) (w .7 .result) _ (w .7 .ensures) (w .4 .left)))
     (λ w. rw (w .1, w .2) (packed-none (a .self) (a .out .now) (a .statuses) (a .now) (a .epoch) d (sym (c .before .sends .ensures) ∙ w .0 .left)))
     (c .if7 .came)
 
 long : (c : tie.Joined7) → length (c .if7 .out) ≡ length (c .before .before .before .before .before .before .before .before .before .before .before .before .before .before .before .before .before .args .out .now)
-long c = ⊎-elim {0, 0, 0} (λ w. rw (w .11) (w .7 .kept .1 .1 .0)) (λ w. rw (w .2)) (c .if7 .came)
+long c = ⊎-elim {0, 0, 0} (λ w. rw (w .11) (w .7 .kept .1 .0 ∙ long-resent (record { before = record { before = record { before = record { before = record { before = record { before = c .before; if7 = w .0 }; sending-width = w .1 }; size = w .2 }; is-full = w .3 }; if8 = w .4 }; if9 = w .5 }))) (λ w. rw (w .2)) (c .if7 .came)
 
 tell-requires : tie.Need-tell-requires
 tell-requires c κs = search needs
 
 -- and told
-announced : (c : tie.Joined9) → Announced (c .before .before .before .before .before .before .before .before .before .before .before .before .before .before .before .before .before .before .args .self) (c .before .before .before .before .before .before .before .before .before .before .before .before .before .before .before .before .before .before .args .out .now) (c .before .before .before .before .before .before .before .before .before .before .before .before .before .before .before .before .before .before .args .statuses) (c .before .before .before .before .before .before .before .before .before .before .before .before .before .before .before .before .before .before .args .now) (c .before .before .before .before .before .before .before .before .before .before .before .before .before .before .before .before .before .before .args .epoch) (c .before .before .before .before .before .before .due-at .result) (c .before .if7 .self) (c .if9 .self)
+announced : (c : tie.Joined10) → Announced (c .before .before .before .before .before .before .before .before .before .before .before .before .before .before .before .before .before .before .args .self) (c .before .before .before .before .before .before .before .before .before .before .before .before .before .before .before .before .before .before .args .out .now) (c .before .before .before .before .before .before .before .before .before .before .before .before .before .before .before .before .before .before .args .statuses) (c .before .before .before .before .before .before .before .before .before .before .before .before .before .before .before .before .before .before .args .now) (c .before .before .before .before .before .before .before .before .before .before .before .before .before .before .before .before .before .before .args .epoch) (c .before .before .before .before .before .before .due-at .result) (c .before .if7 .self) (c .if10 .self)
 announced c =
     let a = c .before .before .before .before .before .before .before .before .before .before .before .before .before .before .before .before .before .before .args in
     let d = c .before .before .before .before .before .before .due-at .result in
     let n = c .before .before .before .before .count2 in
     let m = c .before .before .before .before .before .told in
     ⊎-elim {0, 0, 0}
-    (λ w. rw (w .12) (announced-some (a .self) (a .out .now) (a .statuses) (a .now) (a .epoch) d (n .result) (m .result) (n .ensures) (m .ensures) (c .before .if7 .self) (packed (c .before) .0) (c .before .before .before .if6 .left) (w .1 .result) (w .1 .ensures)))
+    (λ w. rw (w .3) (announced-some (a .self) (a .out .now) (a .statuses) (a .now) (a .epoch) d (n .result) (m .result) (n .ensures) (m .ensures) (c .before .if7 .self) (packed (c .before) .0) (c .before .before .before .if6 .left) (w .1 .result) (w .1 .ensures)))
     (λ w. rw (w .1) (announced-none (a .self) (a .out .now) (a .statuses) (a .now) (a .epoch) d (n .result) (m .result) (n .ensures) (m .ensures) (c .before .if7 .self) (packed (c .before) .0) (w .0 .left)))
-    (c .if9 .came)
+    (c .if10 .came)
 
 clocks-after-requires : tie.Need-clocks-after-requires
 clocks-after-requires c κs = search needs
@@ -187,21 +200,20 @@ flags-after-requires : tie.Need-flags-after-requires
 flags-after-requires c κs = search needs
 
 same-length-3 : tie.Need-same-length-3
-same-length-3 c = long (c .before .before .before .before .before .before .before .before .before .before .before)
+same-length-3 c = long (c .before .before .before)
 
 returns-8 : tie.Need-returns-8
 returns-8 c =
-    let t = c .before .before .before .before .before .before .before .before .before .before .before .before .before .before .before .before .before .before .before .before in
-    let a = c .before .before .before .before .before .before .before .before .before .before .before .before .before .before .before .before .before .before .before .before .before .before .before .before .before .before .before .before .args in
-    let count = c .before .before .before .before .before .before .before .before .before .before .before .before .before .before .before .before .before .count in
-    let due = c .before .before .before .before .before .before .before .before .before .before .before .before .before .before .before .before .due-at in
-    let n = c .before .before .before .before .before .before .before .before .before .before .before .before .before .before .count2 in
-    let m = c .before .before .before .before .before .before .before .before .before .before .before .before .before .before .before .told in
-    act-running (a .self) (a .out .now) (a .statuses) (a .now) (a .epoch) (a .nonce) (good-clocks (t .before .before .before)) (t .if3 .left) (c .before .before .before .before .before .before .before .before .before .before .before .before .before .before .before .before .before .before .enum-told2 .given .1) _ _
+    let a = c .before .before .before .before .before .before .before .before .before .before .before .before .before .before .before .before .before .before .before .before .args in
+    let count = c .before .before .before .before .before .before .before .before .before .count in
+    let due = c .before .before .before .before .before .before .before .before .due-at in
+    let n = c .before .before .before .before .before .before .count2 in
+    let m = c .before .before .before .before .before .before .before .told in
+    act-running (a .self) (a .out .now) (a .statuses) (a .now) (a .epoch) (a .nonce) (good-clocks (c .before .before .before .before .before .before .before .before .before .before .before .before .before .before .before)) (c .before .before .before .before .before .before .before .before .before .before .before .before .if3 .left) (c .before .before .before .before .before .before .before .before .before .before .enum-told2 .given .1) _ _
     (running-done (a .self) (a .out .now) (a .statuses) (a .now) (a .epoch) (due .result) (count .result) (count .ensures) (due .ensures)
-    (c .before .before .before .before .before .before .before .before .before .before .before .if7 .self) (c .before .before .before .before .before .before .before .before .before .before .if9 .self) (c .before .before .before .before .before .before .before .before .before .before .before .if7 .out) (c .before .before .before .before .before .before .before .before .before .clocks-after .result) (c .before .before .before .before .before .before .before .before .flags-after .result)
-    (told-fits (a .self) (a .out .now) (a .statuses) (a .now) (a .epoch) (due .result) (n .result) (m .result) (n .ensures) (m .ensures) (c .before .before .before .before .before .before .before .before .before .before .before .before .before .if6 .left))
-    (packed (c .before .before .before .before .before .before .before .before .before .before .before)) (announced (c .before .before .before .before .before .before .before .before .before .before)) (c .before .before .before .before .before .before .before .before .before .clocks-after .ensures) (c .before .before .before .before .before .before .before .before .flags-after .ensures))
+    (c .before .before .before .if7 .self) (c .before .before .if10 .self) (c .before .before .before .if7 .out) (c .before .clocks-after .result) (c .flags-after .result)
+    (told-fits (a .self) (a .out .now) (a .statuses) (a .now) (a .epoch) (due .result) (n .result) (m .result) (n .ensures) (m .ensures) (c .before .before .before .before .before .if6 .left))
+    (packed (c .before .before .before)) (announced (c .before .before)) (c .before .clocks-after .ensures) (c .flags-after .ensures))
 
 -- ---- Disconnected, and the phases in which nothing happens
 
@@ -210,26 +222,23 @@ enum-told-3 c = search needs
 
 returns-9 : tie.Need-returns-9
 returns-9 c =
-    let t = c .before .before .before .before .before .before .before .before .before .before .before .before .before .before in
-    let s = c .before .before .before .before .before .before .before .before .before .before .before .before .before .before .before .before .before .before .before .before .before .before in
+    let s = c .before .before .before .before .before .before .before .before .before .before .before .before .before .before .before .before .before .before .before .before .before .before .before in
     let a = s .args in
-    act-disconnected (a .self) (a .out .now) (a .statuses) (a .now) (a .epoch) (a .nonce) (good-clocks (t .before .before .before)) (t .if3 .left) (c .before .before .before .before .before .before .before .before .before .before .before .before .enum-told3 .given .1) _
-    (disconnected-over (a .self) (a .now) (untold-room (a .self) _ (s .good .0)) (c .before .before .before .before .before .before .before .before .before .before .if10 .taken))
+    act-disconnected (a .self) (a .out .now) (a .statuses) (a .now) (a .epoch) (a .nonce) (good-clocks (c .before .before .before .before .before .before .before .before .before .before .before .before .before .before .before .before .before .before)) (c .before .before .before .before .before .before .before .before .before .before .before .before .before .before .before .if3 .left) (c .before .before .before .before .before .before .before .before .before .before .before .before .before .enum-told3 .given .1) _
+    (disconnected-over (a .self) (a .now) (untold-room (a .self) _ (s .good .0)) (c .before .before .before .before .before .before .before .before .before .before .before .if11 .taken))
 
 returns-10 : tie.Need-returns-10
 returns-10 c =
-    let t = c .before .before .before .before in
     let s = c .before .before .before .before .before .before .before .before .before .before .before .before in
     let a = s .args in
-    act-disconnected (a .self) (a .out .now) (a .statuses) (a .now) (a .epoch) (a .nonce) (good-clocks (t .before .before .before)) (t .if3 .left) (c .before .before .enum-told3 .given .1) _
-    (disconnected-idle (a .self) (a .now) (untold-room (a .self) _ (s .good .0)) (c .if10 .left))
+    act-disconnected (a .self) (a .out .now) (a .statuses) (a .now) (a .epoch) (a .nonce) (good-clocks (c .before .before .before .before .before .before .before)) (c .before .before .before .before .if3 .left) (c .before .before .enum-told3 .given .1) _
+    (disconnected-idle (a .self) (a .now) (untold-room (a .self) _ (s .good .0)) (c .if11 .left))
 
 returns-11 : tie.Need-returns-11
 returns-11 c =
-    let t = c .before in
     let s = c .before .before .before .before .before .before .before .before .before in
     let a = s .args in
-    act-idle (a .self) (a .out .now) (a .statuses) (a .now) (a .epoch) (a .nonce) (good-clocks (t .before .before .before)) (t .if3 .left) (untold-room (a .self) _ (s .good .0)) (c .match .keys4)
+    act-idle (a .self) (a .out .now) (a .statuses) (a .now) (a .epoch) (a .nonce) (good-clocks (c .before .before .before .before)) (c .before .if3 .left) (untold-room (a .self) _ (s .good .0)) (c .match .keys4)
 
 pub act-spec : {M : Type 1} → statement M
 act-spec =
@@ -257,11 +266,12 @@ act-spec =
     returns-6
     sends-requires
     sending-width-requires
-    batch-size-requires
+    size-requires
     is-full-requires
     returns-7
     newest-requires
-    write-batch-requires
+    pending-input-requires
+    write-reports-requires
     tell-requires
     clocks-after-requires
     flags-after-requires

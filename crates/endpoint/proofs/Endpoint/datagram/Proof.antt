@@ -1,40 +1,29 @@
-use mathlib.Core.Path.{_≡_, ap}
+use mathlib.Core.Path.{ap}
 use Rattle.answer.specs.Number.{numberOf}
 use Rattle.answer.proofs.Done.{not-done}
 use Rattle.endpoint.proofs.Datagrams.{datagram-refused, datagram-taken}
 use borrow.Author.Needs.{needs}
 use Rattle.endpoint.proofs.Endpoint.datagram.Statement.{statement}
 use Rattle.endpoint.proofs.Endpoint.datagram.Tie as tie
-use Rattle.endpoint.proofs.Endpoint.datagram.Reads as reads
-use Rattle.endpoint.proofs.Endpoint.datagram.Lts as lts
-use Rattle.codec.proofs.payload_of.Reads as payload-of-reads
-use Rattle.codec.proofs.read.Reads as read-reads
-use Rattle.endpoint.proofs.Endpoint.message.Reads as message-reads
 
--- src/dispatch.rt:161:13
 read-requires : tie.Need-read-requires
 read-requires c κs = search needs
 
 enum-told : tie.Need-enum-told
 enum-told c = search needs
 
--- src/dispatch.rt:164:13
 returns : tie.Need-returns
 returns c = datagram-refused (c .before .before .before .before .args .self) (c .before .before .before .before .args .from) (c .before .before .before .before .args .datagram .now) (c .before .before .before .before .args .now) (c .before .before .before .before .args .epoch) (c .before .before .before .before .args .nonce) (c .before .before .before .before .args .out .now) (c .before .read .result) (c .before .read .ensures) (not-done (c .before .read .result .answer) (c .match .keys2))
 
--- src/dispatch.rt:170:13
 payload-of-requires : tie.Need-payload-of-requires
 payload-of-requires c κs = search needs
 
--- src/dispatch.rt:171:9
 message-requires : tie.Need-message-requires
 message-requires c κs = search needs
 
--- src/dispatch.rt:150:5
 same-length : tie.Need-same-length
 same-length c = search needs
 
--- src/dispatch.rt:150:5
 returns-2 : tie.Need-returns-2
 returns-2 c = datagram-taken (c .before .before .before .before .before .before .before .before .before .before .before .args .self) (c .before .before .before .before .before .before .before .before .before .before .before .args .from) (c .before .before .before .before .before .before .before .before .before .before .before .args .datagram .now) (c .before .before .before .before .before .before .before .before .before .before .before .args .now) (c .before .before .before .before .before .before .before .before .before .before .before .args .epoch) (c .before .before .before .before .before .before .before .before .before .before .before .args .nonce) (c .before .before .before .before .before .before .before .before .before .before .before .args .out .now) (c .before .before .before .before .before .before .before .before .read .result) (c .before .before .before .before .before .before .before .before .read .ensures) _ (c .before .before .message2 .result) _ (ap numberOf (c .before .before .before .before .before .before .enum-told .given .1)) (c .before .before .before .before .payload-of .ensures) (c .before .before .message2 .ensures)
 

@@ -1,15 +1,10 @@
 use borrow.Author.Tests.{not-true, not-false}
-use mathlib.Core.Path.{_≡_, sym, _∙_}
+use mathlib.Core.Path.{sym, _∙_}
 use Rattle.endpoint.proofs.Lengths.{untold-room}
 use Rattle.endpoint.proofs.ChecksumReports.{send-clock, send-full, send-done}
 use borrow.Author.Needs.{needs}
 use Rattle.endpoint.proofs.Endpoint.send_checksum_report.Statement.{statement}
 use Rattle.endpoint.proofs.Endpoint.send_checksum_report.Tie as tie
-use Rattle.endpoint.proofs.Endpoint.send_checksum_report.Reads as reads
-use Rattle.endpoint.proofs.Endpoint.send_checksum_report.Lts as lts
-use Rattle.outbox.proofs.plain.Reads as plain-reads
-use Rattle.timers.proofs.Clocks.sent.Reads as sent-reads
-use Rattle.timers.proofs.is_bad.Reads as is-bad-reads
 
 is-bad-requires : tie.Need-is-bad-requires
 is-bad-requires c κs = search needs
@@ -33,7 +28,11 @@ same-length-2 : tie.Need-same-length-2
 same-length-2 c = search needs
 
 returns-3 : tie.Need-returns-3
-returns-3 c = send-done (c .before .before .before .before .before .before .before .before .before .before .before .before .before .before .before .before .before .before .before .args .self) (c .before .before .before .before .before .before .before .before .before .before .before .before .before .before .before .before .before .before .before .args .out .now) (c .before .before .before .before .before .before .before .before .before .before .before .before .before .before .before .before .before .before .before .args .frame) (c .before .before .before .before .before .before .before .before .before .before .before .before .before .before .before .before .before .before .before .args .checksum) (c .before .before .before .before .before .before .before .before .before .before .before .before .before .before .before .before .before .before .before .args .now) (sym (c .before .before .before .before .before .before .before .before .before .before .before .before .before .before .before .before .before .is-bad .ensures) ∙ c .before .before .before .before .before .before .before .before .before .before .before .before .before .before .before .before .if1 .left) (c .before .before .before .before .before .before .before .before .before .before .before .before .before .before .plain .result) (c .before .before .before .before .before .before .before .before .before .before .before .before .before .before .plain .last .0) (c .before .before .before .before .before .before .before .before .before .before .before .before .before .before .plain .ensures) (c .before .before .before .before .before .before .before .before .before .sent .result) (untold-room (c .before .before .before .before .before .before .before .before .before .before .before .before .before .before .before .before .before .before .before .args .self) _ (c .before .before .before .before .before .before .before .before .before .before .before .before .before .before .before .before .before .before .before .good .0)) (not-false _ (c .before .before .before .before .before .before .before .before .before .before .if2 .left)) (c .before .before .before .before .before .before .before .before .before .sent .ensures)
+returns-3 c =
+    let s = c .before .before .before .before .before .before .before .before .before .before .args in
+    send-done (s .self) (s .out .now) (s .frame) (s .checksum) (s .now) (sym (c .before .before .before .before .before .before .before .before .is-bad .ensures) ∙ c .before .before .before .before .before .before .before .if1 .left)
+    (c .before .before .before .before .before .plain .result) (c .before .before .before .before .before .plain .last .0) (c .before .before .before .before .before .plain .ensures) (c .sent .result)
+    (untold-room (s .self) _ (c .before .before .before .before .before .before .before .before .before .before .good .0)) (not-false _ (c .before .if2 .left)) (c .sent .ensures)
 
 pub send-checksum-report-spec : {M : Type 1} → statement M
 send-checksum-report-spec =

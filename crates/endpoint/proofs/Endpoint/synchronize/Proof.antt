@@ -8,11 +8,6 @@ use Rattle.endpoint.proofs.Asks.{synchronize-clocks, synchronize-state,
 use borrow.Author.Needs.{needs}
 use Rattle.endpoint.proofs.Endpoint.synchronize.Statement.{statement}
 use Rattle.endpoint.proofs.Endpoint.synchronize.Tie as tie
-use Rattle.endpoint.proofs.Endpoint.synchronize.Reads as reads
-use Rattle.endpoint.proofs.Endpoint.synchronize.Lts as lts
-use Rattle.endpoint.proofs.Sync.request.Reads as request-reads
-use Rattle.quality.proofs.Quality.started.Reads as started-reads
-use Rattle.timers.proofs.is_bad.Reads as is-bad-reads
 
 is-bad-requires : tie.Need-is-bad-requires
 is-bad-requires c κs = search needs
@@ -50,7 +45,11 @@ same-length-2 c = search needs
 
 returns-4 : tie.Need-returns-4
 returns-4 c =
-    synchronize-done (c .before .before .before .before .before .before .before .before .before .before .before .before .before .before .before .before .before .before .before .before .before .before .before .before .args .self) (c .before .before .before .before .before .before .before .before .before .before .before .before .before .before .before .before .before .before .before .before .before .before .before .before .args .out .now) (c .before .before .before .before .before .before .before .before .before .before .before .before .before .before .before .before .before .before .before .before .before .before .before .before .args .now) (c .before .before .before .before .before .before .before .before .before .before .before .before .before .before .before .before .before .before .before .before .before .before .before .before .args .epoch) (c .before .before .before .before .before .before .before .before .before .before .before .before .before .before .before .before .before .before .before .before .before .before .before .before .args .nonce) (rw (← c .before .before .before .before .before .before .before .before .before .before .before .before .before .before .before .before .before .before .before .before .before .before .is-bad .ensures, c .before .before .before .before .before .before .before .before .before .before .before .before .before .before .before .before .before .before .before .before .before .if1 .left, ← c .before .before .before .before .before .before .before .before .before .before .before .before .before .before .before .before .before .before .before .before .is-bad2 .ensures, c .before .before .before .before .before .before .before .before .before .before .before .before .before .before .before .before .before .before .before .if2 .left)) (ap isInitializing (c .before .before .before .before .before .before .before .before .before .before .before .before .before .before .before .before .before .enum-told .given .1)) _ refl (c .before .before .before .before .before .before .before .before .before .before .before .before .before .before .request .result) (c .before .before .before .before .before .before .before .before .before .before .before .before .before .before .request .last .1 .1 .1 .1 .1 .0) (c .before .before .before .before .before .before .before .before .before .before .before .before .before .before .request .ensures) (not-false _ (c .before .before .before .before .before .before .before .before .before .before .if3 .left)) (untold-room (c .before .before .before .before .before .before .before .before .before .before .before .before .before .before .before .before .before .before .before .before .before .before .before .before .args .self) _ (c .before .before .before .before .before .before .before .before .before .before .before .before .before .before .before .before .before .before .before .before .before .before .before .before .good .0)) (c .before .before .before .before .before .before .before .started .result) (c .before .before .before .before .before .before .before .started .ensures)
+    let s = c .before .before .before .before .before .before .before .before .before .before .before .before .before .before .before .before .before .before .before .before .before .before .before .before .before .before .before .before .args in
+    synchronize-done (s .self) (s .out .now) (s .now) (s .epoch) (s .nonce)
+    (rw (← c .before .before .before .before .before .before .before .before .before .before .before .before .before .before .before .before .before .before .before .before .before .before .before .before .before .before .is-bad .ensures, c .before .before .before .before .before .before .before .before .before .before .before .before .before .before .before .before .before .before .before .before .before .before .before .before .before .if1 .left, ← c .before .before .before .before .before .before .before .before .before .before .before .before .before .before .before .before .before .before .before .before .before .before .before .before .is-bad2 .ensures, c .before .before .before .before .before .before .before .before .before .before .before .before .before .before .before .before .before .before .before .before .before .before .before .if2 .left)) (ap isInitializing (c .before .before .before .before .before .before .before .before .before .before .before .before .before .before .before .before .before .before .before .before .before .enum-told .given .1)) _ refl
+    (c .before .before .before .before .before .before .before .before .before .before .before .before .before .before .before .before .before .before .request .result) (c .before .before .before .before .before .before .before .before .before .before .before .before .before .before .before .before .before .before .request .last .1 .1 .1 .1 .1 .0) (c .before .before .before .before .before .before .before .before .before .before .before .before .before .before .before .before .before .before .request .ensures) (not-false _ (c .before .before .before .before .before .before .before .before .before .before .before .before .before .before .if3 .left))
+    (untold-room (s .self) _ (c .before .before .before .before .before .before .before .before .before .before .before .before .before .before .before .before .before .before .before .before .before .before .before .before .before .before .before .before .good .0)) (c .before .before .before .before .before .before .before .before .before .before .before .started .result) (c .before .before .before .before .before .before .before .before .before .before .before .started .ensures)
 
 pub synchronize-spec : {M : Type 1} → statement M
 synchronize-spec =

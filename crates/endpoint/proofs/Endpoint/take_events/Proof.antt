@@ -1,13 +1,9 @@
 use Rattle.endpoint.proofs.Takes.{takes-events}
-use borrow.Author.Needs.{needs}
 use Rattle.endpoint.proofs.Endpoint.take_events.Statement.{statement}
 use Rattle.endpoint.proofs.Endpoint.take_events.Tie as tie
 
-take-all-requires : tie.Need-take-all-requires
-take-all-requires c κs = search needs
-
 returns : tie.Need-returns
-returns c = takes-events (c .before .before .before .before .before .before .before .before .before .before .before .args .self) (c .before .before .before .before .before .before .before .before .before .take-all .result) (c .before .before .before .before .before .before .before .before .before .take-all .ensures)
+returns c = takes-events (c .before .before .args .self)
 
 pub take-events-spec : {M : Type 1} → statement M
-take-events-spec = tie.close (tie.spec take-all-requires returns)
+take-events-spec = tie.close (tie.spec returns)

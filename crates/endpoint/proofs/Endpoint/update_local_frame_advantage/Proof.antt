@@ -1,16 +1,11 @@
 use borrow.Author.Tests.{eqb-true, eqb-false}
-use mathlib.Core.Path.{_≡_, sym, _∙_, ap}
+use mathlib.Core.Path.{sym, _∙_, ap}
 use mathlib.Core.Logic.{⊎-elim}
 use Rattle.quality.specs.Advantage.{shownAdvantage}
 use Rattle.endpoint.proofs.Advantages.{local-unknown, newest-unknown, advantage-overflows, advantage-told}
 use borrow.Author.Needs.{needs}
 use Rattle.endpoint.proofs.Endpoint.update_local_frame_advantage.Statement.{statement}
 use Rattle.endpoint.proofs.Endpoint.update_local_frame_advantage.Tie as tie
-use Rattle.endpoint.proofs.Endpoint.update_local_frame_advantage.Reads as reads
-use Rattle.endpoint.proofs.Endpoint.update_local_frame_advantage.Lts as lts
-use Rattle.history.proofs.History.newest.Reads as newest-reads
-use Rattle.quality.proofs.Quality.local.Reads as local-reads
-use Rattle.quality.proofs.local_advantage.Reads as local-advantage-reads
 
 newest-requires : tie.Need-newest-requires
 newest-requires c κs = search needs
@@ -38,7 +33,9 @@ local-requires : tie.Need-local-requires
 local-requires c κs = search needs
 
 returns-3 : tie.Need-returns-3
-returns-3 c = advantage-told (c .before .before .before .before .before .before .before .before .before .before .before .before .before .before .before .before .before .args .self) (c .before .before .before .before .before .before .before .before .before .before .before .before .before .before .before .before .before .args .local-frame) (c .before .before .before .before .before .before .before .before .before .before .before .before .before .before .before .before .newest .result) (c .before .before .before .before .before .before .before .before .before .before .before .before .before .before .before .before .newest .ensures) (c .before .before .before .before .before .before .before .before .before .before .before .before .before .before .before .if1 .left) (eqb-false _ _ (c .before .before .before .before .before .before .before .before .before .before .before .before .before .before .if2 .left)) _ (c .before .before .before .before .before .before .before .before .before .local .result) (sym (ap shownAdvantage (c .before .before .before .before .before .before .before .before .before .before .before .advantage .given .1)) ∙ c .before .before .before .before .before .before .before .before .before .before .before .before .before .local-advantage .ensures) (c .before .before .before .before .before .before .before .before .before .local .ensures)
+returns-3 c =
+    advantage-told (c .before .before .before .before .before .before .before .before .args .self) (c .before .before .before .before .before .before .before .before .args .local-frame) (c .before .before .before .before .before .before .before .newest .result) (c .before .before .before .before .before .before .before .newest .ensures) (c .before .before .before .before .before .before .if1 .left) (eqb-false _ _ (c .before .before .before .before .before .if2 .left)) _ (c .local .result)
+    (sym (ap shownAdvantage (c .before .before .advantage .given .1)) ∙ c .before .before .before .before .local-advantage .ensures) (c .local .ensures)
 
 pub update-local-frame-advantage-spec : {M : Type 1} → statement M
 update-local-frame-advantage-spec =

@@ -5,12 +5,6 @@ use Rattle.endpoint.proofs.Asks.{ask-choked, ask-full, ask-done}
 use borrow.Author.Needs.{needs}
 use Rattle.endpoint.proofs.Sync.request.Statement.{statement}
 use Rattle.endpoint.proofs.Sync.request.Tie as tie
-use Rattle.endpoint.proofs.Sync.request.Reads as reads
-use Rattle.endpoint.proofs.Sync.request.Lts as lts
-use Rattle.nonces.proofs.Nonces.issue.Reads as issue-reads
-use Rattle.outbox.proofs.plain.Reads as plain-reads
-use Rattle.timers.proofs.Clocks.requested.Reads as requested-reads
-use Rattle.timers.proofs.Clocks.sent.Reads as sent-reads
 
 issue-requires : tie.Need-issue-requires
 issue-requires c κs = search needs

@@ -1,14 +1,10 @@
 use borrow.Author.Needs.{needs}
 use Rattle.endpoint.proofs.hearing.resumed_flags.Statement.{statement}
 use Rattle.endpoint.proofs.hearing.resumed_flags.Tie as tie
-use Rattle.endpoint.proofs.hearing.resumed_flags.Reads as reads
-use Rattle.endpoint.proofs.hearing.resumed_flags.Lts as lts
 
--- src/hearing.rt:31:9
 returns : tie.Need-returns
 returns c = rw (c .if1 .taken)
 
--- src/hearing.rt:27:1
 returns-2 : tie.Need-returns-2
 returns-2 c = search needs
 

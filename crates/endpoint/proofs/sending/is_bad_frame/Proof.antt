@@ -2,22 +2,16 @@ use Rattle.endpoint.proofs.Frames.{negative, first, follows}
 use borrow.Author.Needs.{needs}
 use Rattle.endpoint.proofs.sending.is_bad_frame.Statement.{statement}
 use Rattle.endpoint.proofs.sending.is_bad_frame.Tie as tie
-use Rattle.endpoint.proofs.sending.is_bad_frame.Reads as reads
-use Rattle.endpoint.proofs.sending.is_bad_frame.Lts as lts
 
--- src/sending.rt:26:9
 returns : tie.Need-returns
 returns c = negative (c .before .args .last) (c .before .args .frame) (c .if1 .taken)
 
--- src/sending.rt:28:23
 sub-result : tie.Need-sub-result
 sub-result c = search needs
 
--- src/sending.rt:22:1
 returns-2 : tie.Need-returns-2
 returns-2 c = follows (c .before .before .args .last) (c .before .before .args .frame) (c .before .if1 .left) (c .if2 .taken)
 
--- src/sending.rt:22:1
 returns-3 : tie.Need-returns-3
 returns-3 c = first (c .before .before .args .last) (c .before .before .args .frame) (c .before .if1 .left) (c .if2 .left)
 

@@ -1,27 +1,26 @@
--- `keep` writes the inputs that stay from the front. The invariant: those written, with those that stay of what is left, are all that stay.
+-- `keep` passes the inputs once and writes those that stay from the front. The invariant is `Keeping`.
 use borrow.Author.Needs.{needs}
-use mathlib.Core.Path.{_≡_, refl, sym, _∙_}
-use mathlib.Core.List.{[], _++_}
+use mathlib.Core.List.{[]}
+use mathlib.Core.Logic.{⊎-elim}
+use mathlib.Core.Path.{_≡_, sym, _∙_}
 use Prim.Native.Nat.{_-_, _≤_}
 use native.Mathlib.Omega.{arith}
-use lib.ListN.{length, take, drop, length-set}
-use Rattle.base.specs.Keyed.{kept}
+use lib.ListN.{length, length-set}
 use Rattle.base.proofs.Arrays.{unmap}
-use Rattle.base.proofs.Kept.{keep-turn, leave-turn, keep-end}
+use Rattle.base.proofs.InPlace.{Keeping, keeping-start, keeping-took, keeping-left, keeping-end}
 use Rattle.packing.specs.declared.input_bytes.InputBytes.{InputBytes}
-use mathlib.Core.Logic.{⊎-elim}
 use Rattle.history.specs.History.{received, stays}
 use Rattle.history.proofs.Laws.{received-le}
 use Rattle.history.proofs.History.keep.Statement.{statement}
 use Rattle.history.proofs.History.keep.Tie as tie
 
 abbrev Inv-loop : tie.InvT-loop
-Inv-loop newest max-prediction self n next₀ at₀ k₀ next at k =
-    (k ≤ n) × (at ≤ k) × (n ≤ 33) × (n ≡ length (received self)) × (length (next .slots) ≡ 33)
-    × (take at (next .slots) ++ kept (λ x. stays newest max-prediction (x .frame)) (drop k (received self)) ≡ kept (λ x. stays newest max-prediction (x .frame)) (received self))
+Inv-loop newest max-prediction self₀ n at₀ k₀ self at k =
+    (k ≤ n) × (at ≤ k) × (n ≤ 33) × (n ≡ length (received self₀)) × (length (self .slots) ≡ 33)
+    × Keeping (λ x. stays newest max-prediction (x .frame)) (self₀ .used) (self₀ .slots) (self .slots) at k
 
 abbrev μ-loop : tie.MeasureT-loop
-μ-loop newest max-prediction self n next₀ at₀ k₀ next at k = n - k
+μ-loop newest max-prediction self₀ n at₀ k₀ self at k = n - k
 
 none : InputBytes
 none = record { frame = 0; bytes = [] }
@@ -34,8 +33,15 @@ long c = search (unmap, needs)
 
 loop-holds : tie.Need-loop-holds Inv-loop μ-loop
 loop-holds c =
-    let h = long (c .before) in
-    (omega arith, omega arith, omega (arith, received-le (c .before .args .t1), c .count .ensures), c .count .ensures, h, refl)
+    let a = c .before .args in
+    let h = long (c .before) in (
+      omega arith,
+      omega arith,
+      omega (arith, received-le (a .t1), c .count .ensures),
+      c .count .ensures,
+      h,
+      keeping-start (λ x. stays (a .newest) (a .max-prediction) (x .frame)) (a .t1 .used) (a .t1 .slots),
+    )
 
 mul-x : tie.Need-mul-x Inv-loop μ-loop
 mul-x c = omega arith
@@ -75,8 +81,8 @@ loop-again c =
       l .inv .2,
       l .inv .3,
       rw length-set (l .inv .4),
-      keep-turn (λ x. stays (a .newest) (a .max-prediction) (x .frame)) (a .t1 .used) (a .t1 .slots) (l .next .slots) (l .at) (l .k) none _ (omega arith) (l .inv .5) (omega arith)
-          (e ∙ w .0 .taken),
+      keeping-took (λ x. stays (a .newest) (a .max-prediction) (x .frame)) (a .t1 .used) (a .t1 .slots) (l .self .slots) (l .at) (l .k) (l .inv .5) none (omega arith)
+          (omega arith) (omega arith) (e ∙ w .0 .taken),
     ))
     (λ w.
     rw (w .1, w .2) (
@@ -85,7 +91,7 @@ loop-again c =
       l .inv .2,
       l .inv .3,
       l .inv .4,
-      leave-turn (λ x. stays (a .newest) (a .max-prediction) (x .frame)) (a .t1 .used) (a .t1 .slots) (l .next .slots) (l .at) (l .k) none _ (omega arith) (l .inv .5)
+      keeping-left (λ x. stays (a .newest) (a .max-prediction) (x .frame)) (a .t1 .used) (a .t1 .slots) (l .self .slots) (l .at) (l .k) (l .inv .5) none (omega arith)
           (e ∙ w .0 .left),
     ))
     (c .if1 .came)
@@ -95,7 +101,7 @@ unfolding received
 returns c =
     let a = c .before .before .before .args in
     let l = c .before .loop in
-    keep-end (λ x. stays (a .newest) (a .max-prediction) (x .frame)) (a .t1 .used) (a .t1 .slots) (l .next .slots) (l .at) (l .k) (omega arith) (l .inv .5)
+    keeping-end (λ x. stays (a .newest) (a .max-prediction) (x .frame)) (a .t1 .used) (a .t1 .slots) (l .self .slots) (l .at) (l .k) (l .inv .5) (omega arith)
 
 pub keep-spec : {M : Type 1} → statement M
 keep-spec =

@@ -16,9 +16,6 @@ use Rattle.history.proofs.History.take_in.Tie as tie
 arriving-requires : tie.Need-arriving-requires
 arriving-requires c κs = search needs
 
-newest-requires : tie.Need-newest-requires
-newest-requires c κs = search needs
-
 after-requires : tie.Need-after-requires
 after-requires c κs = search needs
 
@@ -27,24 +24,23 @@ keep-requires c κs = search needs
 
 append-requires : tie.Need-append-requires
 append-requires c κs =
-    let a = c .before .before .before .before .before .args in
-    let n = c .before .before .before .arriving in
+    let a = c .before .before .before .before .args in
+    let n = c .before .before .arriving in
     let whole : n .result * a .width ≤ length (a .payload .now) / a .width * a .width = mul-le-mul-right (a .width) (omega (arith, n .ensures)) in
     (omega (arith, n .ensures), omega (arith, div-mul-le-self (length (a .payload .now)) (a .width)))
 
 returns : tie.Need-returns
 unfolding packetOf
 returns c =
-    let a = c .before .before .before .before .before .before .args in
-    let n = c .before .before .before .before .arriving in
-    let new = c .before .before .before .newest in
+    let a = c .before .before .before .before .before .args in
+    let n = c .before .before .before .arriving in
     let last = c .before .before .after in
     let fs : List (List ℕ) = framesOf (a .width) (a .reference .bytes) (n .result) (a .payload .now) in
     let long : length fs ≡ n .result = frames-length (a .width) (a .reference .bytes) (n .result) (a .payload .now) in
     let packet : take (2 ^ 32 - a .start) (unpack (a .width) (a .reference .bytes) (a .payload .now)) ≡ fs
     = unpack-take (a .width) (a .reference .bytes) (2 ^ 32 - a .start) (a .payload .now) ∙ rw (n .ensures) in
-    taken-by (a .max-prediction) (received (a .self)) (received (c .before .keep .result)) (received (c .append .result)) (a .start) fs (new .result) (last .result)
-    (new .ensures) (last .ensures ∙ rw long) (c .before .keep .ensures) (c .append .ensures)
+    taken-by (a .newest) (a .max-prediction) (received (a .self)) (received (c .before .keep .result)) (received (c .append .result)) (a .start) fs (last .result)
+    (last .ensures ∙ rw long) (c .before .keep .ensures) (c .append .ensures)
     ∙ rw packet
 
 pub take-in-spec : {M : Type 1} → statement M
@@ -52,7 +48,6 @@ take-in-spec =
     tie.close
     (tie.spec
     arriving-requires
-    newest-requires
     after-requires
     keep-requires
     append-requires

@@ -1,28 +1,27 @@
--- `others` writes what stays behind what stayed before it. The invariant: what is written, with what stays of those left, is the whole.
+-- `others` writes what stays behind what stayed before it, in place. The invariant is `Keeping`.
 use borrow.Author.Needs.{needs}
 use borrow.Author.Tests.{eq-eqb, ne-eqb}
 use mathlib.Core.Bool.{not}
-use mathlib.Core.List.{_++_}
 use mathlib.Core.Logic.{⊎-elim}
-use mathlib.Core.Path.{_≡_, refl, ap}
-use Prim.Native.Nat.{_+_, _-_, _≤_}
+use mathlib.Core.Path.{_≡_, ap}
+use Prim.Native.Nat.{_-_, _≤_}
 use native.Mathlib.Omega.{arith}
 use lib.Dec.{eqb}
-use lib.ListN.{length, take, drop, length-set}
-use Rattle.base.specs.Keyed.{without, kept}
+use lib.ListN.{length, length-set}
+use Rattle.base.specs.Keyed.{without}
 use Rattle.base.proofs.Arrays.{view-le}
-use Rattle.base.proofs.Kept.{keep-turn, leave-turn, keep-end}
+use Rattle.base.proofs.InPlace.{Keeping, keeping-start, keeping-took, keeping-left, keeping-end}
 use Rattle.nonces.specs.Nonces.{outstanding}
 use Rattle.nonces.proofs.Nonces.others.Statement.{statement}
 use Rattle.nonces.proofs.Nonces.others.Tie as tie
 
 abbrev Inv-loop : tie.InvT-loop
-Inv-loop nonce self n next₀ w₀ i₀ next w i =
-    (i ≤ n) × (w ≤ i) × (n ≤ 256) × (n ≡ length (outstanding self)) × (length (next .list) ≡ 256)
-    × (take w (next .list) ++ without (λ x. x) nonce (drop i (outstanding self)) ≡ without (λ x. x) nonce (outstanding self))
+Inv-loop nonce self₀ n w₀ i₀ self w i =
+    (i ≤ n) × (w ≤ i) × (n ≤ 256) × (n ≡ length (outstanding self₀)) × (length (self .list) ≡ 256)
+    × Keeping (λ x. not (eqb nonce x)) (self₀ .used) (self₀ .list) (self .list) w i
 
 abbrev μ-loop : tie.MeasureT-loop
-μ-loop nonce self n next₀ w₀ i₀ next w i = n - i
+μ-loop nonce self₀ n w₀ i₀ self w i = n - i
 
 long : (c : tie.Start Inv-loop μ-loop) → length (c .args .t1 .list) ≡ 256
 long c = search needs
@@ -33,8 +32,15 @@ count-requires c κs = search needs
 loop-holds : tie.Need-loop-holds Inv-loop μ-loop
 unfolding outstanding
 loop-holds c =
-    let s = c .before .args .t1 in
-    (omega arith, omega arith, omega (arith, long (c .before), view-le (s .used) (s .list), c .count .ensures), c .count .ensures, long (c .before), refl)
+    let a = c .before .args in
+    let s = a .t1 in (
+      omega arith,
+      omega arith,
+      omega (arith, long (c .before), view-le (s .used) (s .list), c .count .ensures),
+      c .count .ensures,
+      long (c .before),
+      keeping-start (λ x. not (eqb (a .nonce) x)) (s .used) (s .list),
+    )
 
 mul-x : tie.Need-mul-x Inv-loop μ-loop
 mul-x c = omega arith
@@ -42,11 +48,11 @@ mul-x c = omega arith
 element-copy-out-x : tie.Need-element-copy-out-x Inv-loop μ-loop
 element-copy-out-x c = omega arith
 
-mul-next : tie.Need-mul-next Inv-loop μ-loop
-mul-next c = omega arith
+mul-self : tie.Need-mul-self Inv-loop μ-loop
+mul-self c = omega arith
 
-element-write-next : tie.Need-element-write-next Inv-loop μ-loop
-element-write-next c = omega arith
+element-write-self : tie.Need-element-write-self Inv-loop μ-loop
+element-write-self c = omega arith
 
 add-kept : tie.Need-add-kept Inv-loop μ-loop
 add-kept c = omega arith
@@ -58,7 +64,7 @@ loop-less : tie.Need-loop-less Inv-loop μ-loop
 loop-less c = omega arith
 
 loop-again : tie.Need-loop-again Inv-loop μ-loop
-unfolding outstanding without
+unfolding outstanding
 loop-again c =
     let a = c .before .before .before .before .before .args in
     let l = c .before .before .before .loop in
@@ -70,7 +76,7 @@ loop-again c =
       l .inv .2,
       l .inv .3,
       rw length-set (l .inv .4),
-      keep-turn (λ x. not (eqb (a .nonce) x)) (a .t1 .used) (a .t1 .list) (l .next .list) (l .kept) (l .i) 0 _ (omega arith) (l .inv .5) (omega arith)
+      keeping-took (λ x. not (eqb (a .nonce) x)) (a .t1 .used) (a .t1 .list) (l .self .list) (l .kept) (l .i) (l .inv .5) 0 (omega arith) (omega arith) (omega arith)
           (ap not (ne-eqb _ _ (w .0 .taken))),
     ))
     (λ w.
@@ -80,7 +86,7 @@ loop-again c =
       l .inv .2,
       l .inv .3,
       l .inv .4,
-      leave-turn (λ x. not (eqb (a .nonce) x)) (a .t1 .used) (a .t1 .list) (l .next .list) (l .kept) (l .i) 0 _ (omega arith) (l .inv .5)
+      keeping-left (λ x. not (eqb (a .nonce) x)) (a .t1 .used) (a .t1 .list) (l .self .list) (l .kept) (l .i) (l .inv .5) 0 (omega arith)
           (ap not (eq-eqb _ _ (w .0 .left))),
     ))
     (c .if1 .came)
@@ -90,7 +96,7 @@ unfolding outstanding without
 returns c =
     let a = c .before .before .before .args in
     let l = c .before .loop in
-    keep-end (λ x. not (eqb (a .nonce) x)) (a .t1 .used) (a .t1 .list) (l .next .list) (l .kept) (l .i) (omega arith) (l .inv .5)
+    keeping-end (λ x. not (eqb (a .nonce) x)) (a .t1 .used) (a .t1 .list) (l .self .list) (l .kept) (l .i) (l .inv .5) (omega arith)
 
 pub others-spec : {M : Type 1} → statement M
 others-spec =
@@ -102,8 +108,8 @@ others-spec =
     loop-holds
     mul-x
     element-copy-out-x
-    mul-next
-    element-write-next
+    mul-self
+    element-write-self
     add-kept
     add-i
     loop-less
