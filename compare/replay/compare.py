@@ -1,8 +1,5 @@
 #!/usr/bin/env python3
-"""compare.py DIR COMMAND..: runs DIR's scripts on the command that starts `replay` and holds what it writes against DIR's answers, call by call.
-
-`replay` does not play the spectator yet. Left out are the calls of object 2 once a script uses it, and all calls of an endpoint from the first
-on that carries bytes from there."""
+"""compare.py DIR COMMAND..: runs DIR's scripts on the command that starts `replay` and holds what it writes against DIR's answers, call by call."""
 
 import os
 import struct
@@ -12,46 +9,36 @@ from concurrent.futures import ThreadPoolExecutor
 from pathlib import Path
 
 HEADER, RECORD, ANSWER = 8, 64, 12
-CARRY, BUFFER, SPECTATOR = 3, 15, 2
 DIGEST = 1
 
 
-def records(script):
-    """Each record's call and object, and the object that it carries from."""
-    at = HEADER
+def calls(script):
+    """How many records a script has."""
+    count, at = 0, HEADER
     while at < len(script):
-        call, thing = script[at], script[at + 1]
         (length,) = struct.unpack_from("<I", script, at + 4)
-        source = struct.unpack_from("<I", script, at + RECORD)[0] if call == CARRY else None
-        yield call, thing, source
-        at += RECORD + length
-
-
-def compared(script):
-    """For each record whether its answer counts."""
-    foreign = set()
-    for call, thing, source in records(script):
-        if thing == SPECTATOR and call != BUFFER or source in foreign:
-            foreign.add(thing)
-        yield thing not in foreign
+        count, at = count + 1, at + RECORD + length
+    return count
 
 
 def difference(script, expected, got):
     """The first call that differs, or None."""
+    if got == expected:
+        return None
     if script[5] != DIGEST:
-        return None if got == expected else "somewhere"
-    for k, counts in enumerate(compared(script)):
+        return "somewhere"
+    for k in range(calls(script)):
         part = slice(ANSWER * k, ANSWER * (k + 1))
-        if counts and got[part] != expected[part]:
+        if got[part] != expected[part]:
             return f"call {k}: expected {expected[part].hex()}, found {got[part].hex()}"
-    return None if len(got) == len(expected) else "in length"
+    return "in length"
 
 
 def main(folder, *replay):
     def answered(path):
         return subprocess.run(replay, input=path.read_bytes(), stdout=subprocess.PIPE, check=False).stdout
 
-    calls = left_out = faults = 0
+    compared = faults = 0
     scripts = sorted(Path(folder).glob("*.script"))
     with ThreadPoolExecutor(os.cpu_count()) as pool:
         answers = list(pool.map(answered, scripts))
@@ -61,10 +48,8 @@ def main(folder, *replay):
         if found:
             faults += 1
             print(f"{path.name}: {found}")
-        counts = list(compared(script))
-        calls += sum(counts)
-        left_out += len(counts) - sum(counts)
-    print(f"{len(scripts)} scripts: {calls} calls compared, {left_out} of the spectator left out, {faults} scripts differ")
+        compared += calls(script)
+    print(f"{len(scripts)} scripts: {compared} calls compared, {faults} scripts differ")
     return 1 if faults or not scripts else 0
 
 

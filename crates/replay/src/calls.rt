@@ -1,7 +1,7 @@
 // One record on one endpoint: the call, by its number in docs/REPLAY.md.
-use crate::record::BUFFER;
-use crate::record::NEW;
+use crate::record::PANICKED;
 use crate::record::Record;
+use crate::record::Way;
 use crate::value::message_of;
 use crate::value::payload_of;
 use crate::value::setup_of;
@@ -11,11 +11,6 @@ use endpoint::Ended;
 use endpoint::Endpoint;
 use endpoint::StatsResult;
 use endpoint::StatusResult;
-
-// Beside document 01's numbers: the payload part is not what the call takes, where the judge panics; no `new` has made the object.
-const PANICKED: u32 = 254;
-
-pub const ABSENT: u32 = 255;
 
 // An object of the script; a side that is not there holds an endpoint of no use.
 pub struct Side {
@@ -41,23 +36,13 @@ impl Side {
 }
 
 pub fn turn(side: Side, record: Record, payload: &[u8], array: &mut [u8]) -> Outcome {
-    let call = record.call;
-    if call == BUFFER {
-        return Outcome { answer: 0, side };
+    let way = record.way(side.present);
+    match way {
+        Way::Same(answer) => Outcome { answer, side },
+        Way::New => made(side, record.now, payload),
+        Way::Gone => panicked(side.endpoint),
+        Way::Called => called(side.endpoint, record, payload, array),
     }
-    if call == NEW && record.sound {
-        return made(side, record.now, payload);
-    }
-    if call != NEW && !side.present {
-        return Outcome {
-            answer: ABSENT,
-            side,
-        };
-    }
-    if !record.sound {
-        return panicked(side.endpoint);
-    }
-    called(side.endpoint, record, payload, array)
 }
 
 fn panicked(endpoint: Endpoint) -> Outcome {
@@ -138,12 +123,15 @@ fn unchanged(endpoint: Endpoint, answer: Answer) -> Ended {
     Ended { endpoint, answer }
 }
 
-fn asked_stats(endpoint: Endpoint, epoch: u64) -> Ended {
-    let result = endpoint.network_stats(epoch);
+pub fn stats_answer(result: StatsResult) -> Answer {
     match result {
-        StatsResult::Stats(_) => unchanged(endpoint, Answer::Done),
-        StatsResult::Refused(answer) => unchanged(endpoint, answer),
+        StatsResult::Stats(_) => Answer::Done,
+        StatsResult::Refused(answer) => answer,
     }
+}
+
+fn asked_stats(endpoint: Endpoint, epoch: u64) -> Ended {
+    unchanged(endpoint, stats_answer(endpoint.network_stats(epoch)))
 }
 
 fn asked_status(endpoint: Endpoint, handle: u32) -> Ended {

@@ -19,7 +19,7 @@ pub fn put_given(out: Out, endpoint: Endpoint, record: Record, array: &[u8]) -> 
         10 => put_stats(out, endpoint.network_stats(record.epoch)),
         11 => put_peer_status(out, endpoint.peer_connect_status(record.number as usize)),
         12 => put_events(out, endpoint.events, endpoint.setup.input_size),
-        13 => put_messages(out, endpoint, front(array, record.buffer)),
+        13 => put_all(out, endpoint.messages(front(array, record.buffer))),
         14 => put_getters(out, endpoint, record.number),
         15 => out.u32(crc32(array)),
         _ => out,
@@ -33,7 +33,7 @@ pub fn put_side(out: Out, side: Side, array: &[u8]) -> Out {
     put_endpoint(out, side.endpoint, array)
 }
 
-fn put_stats(out: Out, result: StatsResult) -> Out {
+pub fn put_stats(out: Out, result: StatsResult) -> Out {
     let StatsResult::Stats(stats) = result else {
         return out;
     };
@@ -50,8 +50,7 @@ fn put_peer_status(out: Out, result: StatusResult) -> Out {
     put_status(out, status)
 }
 
-fn put_messages(out: Out, endpoint: Endpoint, lent: &[u8]) -> Out {
-    let messages = endpoint.messages(lent);
+pub fn put_all(out: Out, messages: &[u8]) -> Out {
     out.part(messages, messages.len())
 }
 

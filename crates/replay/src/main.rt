@@ -1,4 +1,4 @@
-// Runs a script of calls on two endpoints and writes the canonical answers: docs/REPLAY.md.
+// Runs a script of calls on two endpoints and a spectator session and writes the canonical answers: docs/REPLAY.md.
 mod calls;
 mod crc;
 mod given;
@@ -8,20 +8,20 @@ mod record;
 mod script;
 mod snapshot;
 mod value;
+mod watch;
+mod watched;
 
-use calls::ABSENT;
 use calls::Outcome;
 use calls::Side;
-use crc::crc32;
 use endpoint::Endpoint;
-use given::put_given;
-use given::put_side;
 use little::front;
 use out::Out;
-use record::BUFFER;
 use record::Record;
 use record::SPECTATOR;
 use script::Mode;
+use spectator::SpectatorSession;
+use watch::Watched;
+use watch::Watcher;
 
 // A proved loop has to end, and nothing says that the input does.
 const MOST: usize = 100000000;
@@ -38,28 +38,36 @@ fn main() {
 fn replay(digest: bool) {
     let mut a = io::large_buffer();
     let mut b = io::large_buffer();
+    let mut c = io::large_buffer();
     let mut payload = io::large_buffer();
-    run(digest, &mut a, &mut b, &mut payload);
+    run(digest, &mut a, &mut b, &mut c, &mut payload);
 }
 
 struct Sides {
     first: Side,
     second: Side,
+    third: Watcher,
 }
 
-fn run(digest: bool, a: &mut [u8], b: &mut [u8], payload: &mut [u8]) {
+fn none() -> Sides {
     let none = Side::absent();
-    let mut sides = Sides {
+    let third = Watcher::absent();
+    Sides {
         first: none,
         second: none,
-    };
+        third,
+    }
+}
+
+fn run(digest: bool, a: &mut [u8], b: &mut [u8], c: &mut [u8], payload: &mut [u8]) {
+    let mut sides = none();
     let mut left = MOST;
     while 0 < left {
-        let next = script::next_record(payload, a, b);
+        let next = script::next_record(payload, a, b, c);
         if !next.more {
             return;
         }
-        sides = after(digest, sides, next.record, payload, a, b);
+        sides = after(digest, sides, next.record, payload, a, b, c);
         left -= 1;
     }
 }
@@ -72,11 +80,16 @@ fn after(
     payload: &[u8],
     a: &mut [u8],
     b: &mut [u8],
+    c: &mut [u8],
 ) -> Sides {
-    spectator(digest, record);
     let first = answered(digest, 0, sides.first, record, payload, a);
     let second = answered(digest, 1, sides.second, record, payload, b);
-    Sides { first, second }
+    let third = answered_by_watcher(digest, sides.third, record, payload, c);
+    Sides {
+        first,
+        second,
+        third,
+    }
 }
 
 fn answered(
@@ -99,22 +112,41 @@ fn print(digest: bool, record: Record, before: Endpoint, outcome: Outcome, array
     let answer = outcome.answer;
     let head = Out::begin(digest, record, answer);
     if answer != 0 {
-        put_side(head, outcome.side, array).end();
+        given::put_side(head, outcome.side, array).end();
         return;
     }
-    let given = put_given(head, before, record, array);
-    put_side(given, outcome.side, array).end();
+    let body = given::put_given(head, before, record, array);
+    given::put_side(body, outcome.side, array).end();
 }
 
-// The spectator is not played yet: it never exists, and its array stays zero.
-fn spectator(digest: bool, record: Record) {
+fn answered_by_watcher(
+    digest: bool,
+    side: Watcher,
+    record: Record,
+    payload: &[u8],
+    array: &mut [u8],
+) -> Watcher {
     if record.object != SPECTATOR {
+        return side;
+    }
+    let outcome = watch::turn(side, record, front(payload, record.length), array);
+    print_watched(digest, record, side.session, outcome, array);
+    outcome.side
+}
+
+fn print_watched(
+    digest: bool,
+    record: Record,
+    before: SpectatorSession,
+    outcome: Watched,
+    array: &[u8],
+) {
+    let answer = outcome.answer;
+    let head = Out::begin(digest, record, answer);
+    if answer != 0 {
+        watched::put_side(head, outcome.side, array).end();
         return;
     }
-    if record.call != BUFFER {
-        Out::begin(digest, record, ABSENT).u8(0).end();
-        return;
-    }
-    let sum = crc32(&io::large_buffer());
-    Out::begin(digest, record, 0).u32(sum).u8(0).end();
+    let body = watched::put_given(head, before, record, array, outcome.filled);
+    watched::put_side(body, outcome.side, array).end();
 }

@@ -13,15 +13,28 @@ const PAYLOAD_MAX: usize = 16384;
 const BUFFER_MAX: usize = 65536;
 
 // The calls that are told apart outside the tables of calls.
-pub const NEW: u8 = 0;
+const NEW: u8 = 0;
 
 pub const CARRY: u8 = 3;
 
-pub const BUFFER: u8 = 15;
+const BUFFER: u8 = 15;
 
 const LAST_CALL: u8 = 17;
 
 pub const SPECTATOR: u8 = 2;
+
+// Beside document 01's numbers: the payload part is not what the call takes, where the judge panics; no `new` has made the object.
+pub const PANICKED: u32 = 254;
+
+const ABSENT: u32 = 255;
+
+// What becomes of a record: its object stays as it is, is made, is gone, or is called.
+pub enum Way {
+    Same(u32),
+    New,
+    Gone,
+    Called,
+}
 
 pub struct Record {
     pub call: u8,
@@ -88,6 +101,24 @@ impl Record {
             16 | 17 => spectator,
             _ => true,
         }
+    }
+
+    // By whether the object is there.
+    pub fn way(self, present: bool) -> Way {
+        let call = self.call;
+        if call == BUFFER {
+            return Way::Same(0);
+        }
+        if call == NEW && self.sound {
+            return Way::New;
+        }
+        if call != NEW && !present {
+            return Way::Same(ABSENT);
+        }
+        if !self.sound {
+            return Way::Gone;
+        }
+        Way::Called
     }
 
     pub fn is_bad(self) -> bool {

@@ -55,7 +55,7 @@ fn mode_of(header: &[u8]) -> Mode {
 }
 
 // The next record; its payload part, or the datagram that it carries, stands at the start of `payload`.
-pub fn next_record(payload: &mut [u8], a: &[u8], b: &[u8]) -> Next {
+pub fn next_record(payload: &mut [u8], a: &[u8], b: &[u8], c: &[u8]) -> Next {
     let mut head = [0u8; 64];
     let n = io::read_full(STDIN_FILENO, &mut head);
     let record = Record::read(&head);
@@ -72,7 +72,7 @@ pub fn next_record(payload: &mut [u8], a: &[u8], b: &[u8]) -> Next {
     }
     Next {
         more: true,
-        record: looked_at(record, payload, a, b),
+        record: looked_at(record, payload, a, b, c),
     }
 }
 
@@ -92,10 +92,10 @@ fn read_part(payload: &mut [u8], length: usize) -> bool {
 }
 
 // The record with what its payload part is to its call.
-fn looked_at(record: Record, payload: &mut [u8], a: &[u8], b: &[u8]) -> Record {
+fn looked_at(record: Record, payload: &mut [u8], a: &[u8], b: &[u8], c: &[u8]) -> Record {
     let mut looked = record;
     if record.call == CARRY {
-        let carried = carry(payload, record.length, a, b);
+        let carried = carry(payload, record.length, a, b, c);
         looked.length = carried.length;
         looked.sound = carried.sound;
         return looked;
@@ -113,8 +113,8 @@ fn is_sound(call: u8, payload: &[u8]) -> bool {
     }
 }
 
-// The bytes at a place of an object's array, in the place of the twelve that name them. The spectator's array is zero.
-fn carry(payload: &mut [u8], length: usize, a: &[u8], b: &[u8]) -> Carried {
+// The bytes at a place of an object's array, in the place of the twelve that name them.
+fn carry(payload: &mut [u8], length: usize, a: &[u8], b: &[u8], c: &[u8]) -> Carried {
     if length != 12 {
         return Carried {
             sound: false,
@@ -127,7 +127,7 @@ fn carry(payload: &mut [u8], length: usize, a: &[u8], b: &[u8]) -> Carried {
     match object {
         0 => carry_part(payload, a, at, count),
         1 => carry_part(payload, b, at, count),
-        2 => carry_part(payload, &io::large_buffer(), at, count),
+        2 => carry_part(payload, c, at, count),
         _ => Carried {
             sound: false,
             length: 0,

@@ -136,7 +136,7 @@ pub fn put_status(out: Out, status: ConnectionStatus) -> Out {
     out.flag(status.disconnected).frame(status.last_frame)
 }
 
-fn put_statuses(out: Out, statuses: Statuses) -> Out {
+pub fn put_statuses(out: Out, statuses: Statuses) -> Out {
     let n = statuses.count();
     let mut to = out.count(n);
     let mut i = 0;
@@ -216,7 +216,7 @@ fn put_checksums(out: Out, checksums: Checksums) -> Out {
     to
 }
 
-fn put_event(out: Out, event: Event, input: [u8; 16], size: u32) -> Out {
+pub fn put_event(out: Out, event: Event, input: [u8; 16], size: u32) -> Out {
     match event {
         Event::Synchronizing { total, count } => out.u8(0).u32(total).u32(count),
         Event::Synchronized => out.u8(1),

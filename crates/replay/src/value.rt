@@ -12,6 +12,8 @@ use setup::Choices;
 use setup::DesyncDetection;
 use setup::Handles;
 use setup::Setup;
+use watching::Limits;
+use watching::SessionSetup;
 ghost use Prim.Native.Nat.{_<_};
 
 const SETUP_SIZE: usize = 88;
@@ -68,6 +70,34 @@ pub fn setup_of(bytes: &[u8]) -> Setup {
         magic: u16_at(bytes, 60),
         peer_addr: u32_at(bytes, 56),
         choices,
+    }
+}
+
+fn limits_of(bytes: &[u8]) -> Limits {
+    Limits {
+        slots: u32_at(bytes, 72),
+        session_events: u32_at(bytes, 76),
+        max_frames_behind: u32_at(bytes, 80),
+        catchup_speed: u32_at(bytes, 84),
+    }
+}
+
+// A setup without its handles and its local players, and with the limits.
+pub fn session_setup_of(bytes: &[u8]) -> SessionSetup {
+    let setup = setup_of(bytes);
+    let choices = setup.choices;
+    let limits = limits_of(bytes);
+    SessionSetup {
+        num_players: setup.num_players,
+        input_size: setup.input_size,
+        max_prediction: setup.max_prediction,
+        disconnect_timeout: setup.disconnect_timeout,
+        disconnect_notify_start: setup.disconnect_notify_start,
+        fps: setup.fps,
+        magic: setup.magic,
+        peer_addr: setup.peer_addr,
+        choices,
+        limits,
     }
 }
 

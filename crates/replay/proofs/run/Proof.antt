@@ -7,16 +7,16 @@ use Rattle.replay.proofs.run.Statement.{statement}
 use Rattle.replay.proofs.run.Tie as tie
 
 abbrev Inv-loop : tie.InvT-loop
-Inv-loop digest a₀ b₀ payload₀ sides₀ left₀ a b payload sides left = (length a ≡ length a₀) × (length b ≡ length b₀) × (length payload ≡ length payload₀)
+Inv-loop digest a₀ b₀ c₀ payload₀ sides₀ left₀ a b c payload sides left = (length a ≡ length a₀) × (length b ≡ length b₀) × (length c ≡ length c₀) × (length payload ≡ length payload₀)
 
 abbrev μ-loop : tie.MeasureT-loop
-μ-loop digest a₀ b₀ payload₀ sides₀ left₀ a b payload sides left = left
+μ-loop digest a₀ b₀ c₀ payload₀ sides₀ left₀ a b c payload sides left = left
 
-absent-requires : tie.Need-absent-requires Inv-loop μ-loop
-absent-requires c κs = search needs
+none-requires : tie.Need-none-requires Inv-loop μ-loop
+none-requires c κs = search needs
 
 loop-holds : tie.Need-loop-holds Inv-loop μ-loop
-loop-holds c = (omega arith, omega arith, omega arith)
+loop-holds c = (omega arith, omega arith, omega arith, omega arith)
 
 next-record-requires : tie.Need-next-record-requires Inv-loop μ-loop
 next-record-requires c κs = search needs
@@ -30,6 +30,9 @@ same-length-2 c = search needs
 same-length-3 : tie.Need-same-length-3 Inv-loop μ-loop
 same-length-3 c = search needs
 
+same-length-4 : tie.Need-same-length-4 Inv-loop μ-loop
+same-length-4 c = search needs
+
 returns : tie.Need-returns Inv-loop μ-loop
 returns c = search needs
 
@@ -37,27 +40,31 @@ after-requires : tie.Need-after-requires Inv-loop μ-loop
 after-requires c κs = search needs
 
 sub-left : tie.Need-sub-left Inv-loop μ-loop
-sub-left c = omega (arith, c .before .before .before .before .before .before .before .before .before .before .before .before .before .before .before .before .loop-test .taken)
+sub-left c = omega (arith, c .before .before .before .before .before .before .before .before .before .before .before .before .before .before .before .before .before .before .before .before .loop-test .taken)
 
 loop-less : tie.Need-loop-less Inv-loop μ-loop
-loop-less c = omega (arith, c .before .before .before .before .before .before .before .before .before .before .before .before .before .before .before .before .loop-test .taken)
+loop-less c = omega (arith, c .before .before .before .before .before .before .before .before .before .before .before .before .before .before .before .before .before .before .before .before .loop-test .taken)
 
 loop-again : tie.Need-loop-again Inv-loop μ-loop
 loop-again c =
-    let l = c .before .before .before .before .before .before .before .before .before .before .before .before .before .before .before .before .before .loop in (
+    let l = c .before .before .before .before .before .before .before .before .before .before .before .before .before .before .before .before .before .before .before .before .before .loop in (
       omega (arith, l .inv .0),
       omega (arith, l .inv .1),
-      omega (arith, l .inv .2, c .before .before .before .before .before .before .before .before .before .before .before .payload .given),
+      omega (arith, l .inv .2),
+      omega (arith, l .inv .3, c .before .before .before .before .before .before .before .before .before .before .before .before .before .before .payload .given),
     )
-
-same-length-4 : tie.Need-same-length-4 Inv-loop μ-loop
-same-length-4 c = search needs
 
 same-length-5 : tie.Need-same-length-5 Inv-loop μ-loop
 same-length-5 c = search needs
 
 same-length-6 : tie.Need-same-length-6 Inv-loop μ-loop
 same-length-6 c = search needs
+
+same-length-7 : tie.Need-same-length-7 Inv-loop μ-loop
+same-length-7 c = search needs
+
+same-length-8 : tie.Need-same-length-8 Inv-loop μ-loop
+same-length-8 c = search needs
 
 returns-2 : tie.Need-returns-2 Inv-loop μ-loop
 returns-2 c = search needs
@@ -68,18 +75,20 @@ run-spec =
     (tie.spec
     Inv-loop
     μ-loop
-    absent-requires
+    none-requires
     loop-holds
     next-record-requires
     same-length
     same-length-2
     same-length-3
+    same-length-4
     returns
     after-requires
     sub-left
     loop-less
     loop-again
-    same-length-4
     same-length-5
     same-length-6
+    same-length-7
+    same-length-8
     returns-2)

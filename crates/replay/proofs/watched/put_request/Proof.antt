@@ -1,0 +1,63 @@
+-- `put_request` reads inside its list.
+use borrow.Author.Needs.{needs}
+use native.Mathlib.Omega.{arith}
+use Prim.Native.Nat.{_-_, _≤_}
+use Rattle.replay.proofs.watched.put_request.Statement.{statement}
+use Rattle.replay.proofs.watched.put_request.Tie as tie
+
+abbrev Inv-loop : tie.InvT-loop
+Inv-loop size request n to₀ i₀ to i = n ≤ 4
+
+abbrev μ-loop : tie.MeasureT-loop
+μ-loop size request n to₀ i₀ to i = n - i
+
+least-requires : tie.Need-least-requires Inv-loop μ-loop
+least-requires c κs = search needs
+
+cast-u8 : tie.Need-cast-u8 Inv-loop μ-loop
+cast-u8 c = omega arith
+
+u8-requires : tie.Need-u8-requires Inv-loop μ-loop
+u8-requires c κs = search needs
+
+loop-holds : tie.Need-loop-holds Inv-loop μ-loop
+loop-holds c = omega arith
+
+mul-input : tie.Need-mul-input Inv-loop μ-loop
+mul-input c = omega arith
+
+element-copy-out-input : tie.Need-element-copy-out-input Inv-loop μ-loop
+element-copy-out-input c = omega arith
+
+put-synced-requires : tie.Need-put-synced-requires Inv-loop μ-loop
+put-synced-requires c κs = search needs
+
+add-i : tie.Need-add-i Inv-loop μ-loop
+add-i c = omega arith
+
+loop-less : tie.Need-loop-less Inv-loop μ-loop
+loop-less c = omega arith
+
+loop-again : tie.Need-loop-again Inv-loop μ-loop
+loop-again c = omega arith
+
+returns : tie.Need-returns Inv-loop μ-loop
+returns c = search needs
+
+pub put-request-spec : {M : Type 1} → statement M
+put-request-spec =
+    tie.close
+    (tie.spec
+    Inv-loop
+    μ-loop
+    least-requires
+    cast-u8
+    u8-requires
+    loop-holds
+    mul-input
+    element-copy-out-input
+    put-synced-requires
+    add-i
+    loop-less
+    loop-again
+    returns)
