@@ -18,7 +18,8 @@ use Rattle.status.specs.declared.list.Statuses.{Statuses}
 use Rattle.status.specs.Statuses.{held as heldStatuses}
 use Rattle.pending.specs.Pending.{waiting}
 use Rattle.history.specs.History.{received, newestOf}
-use Rattle.nonces.specs.Nonces.{outstanding}
+use Rattle.nonces.specs.declared.Issued.{Issued}
+use Rattle.nonces.specs.Nonces.{outstanding, IssuedAs}
 use Rattle.timers.specs.declared.Clocks.{Clocks}
 use Rattle.timers.specs.Timers.{badClocks, passed}
 use Rattle.events.specs.declared.Entry.{Entry}
@@ -34,7 +35,7 @@ use Rattle.protocol.specs.declared.Flags.{Flags}
 use Rattle.protocol.specs.declared.Phase.{Phase}
 use Rattle.protocol.specs.declared.Phase.the-variants.{Initializing, Synchronizing, Running, Disconnected, Shutdown}
 use Rattle.protocol.proofs.Phase.{the-type}
-use Rattle.protocol.specs.Seen.{Seen, withPhase, withEvents, withQueued}
+use Rattle.protocol.specs.Seen.{Seen, withPhase}
 use Rattle.protocol.specs.Did.{Did, Effect, begin, change, queueWire, decided, done}
 use Rattle.protocol.specs.Room.{bufferFull}
 use Rattle.protocol.specs.Handshake.{Reaction, nonceIssued, request}
@@ -49,11 +50,11 @@ use Rattle.endpoint.specs.Endpoint.{seen, DidAs, DoneAs}
 use Rattle.endpoint.specs.Handshaking.{RequestedAs}
 use Rattle.endpoint.specs.Due.{dueOf, clocksBy, flagsBy, toldBy}
 use Rattle.endpoint.specs.Batch.{reports, batch, SizedWith, WrittenAs, WrittenWhere}
-use Rattle.endpoint.proofs.Ends.{remade, refused-did, done-done, queued-did}
+use Rattle.endpoint.proofs.Ends.{inPhase, remade, refused-did, done-done, queued-did, batch-did}
 use Rattle.endpoint.proofs.Settles.{did-settled}
 use Rattle.endpoint.proofs.Rooms.{full-events, room-none, full-bytes, room-bytes, reacted-full, reacted-done}
 use Rattle.endpoint.proofs.Unqueued.{unqueued}
-use Rattle.endpoint.proofs.Asks.{request-full, request-fits}
+use Rattle.endpoint.proofs.Asks.{request-full, request-fits, nonces-after}
 use Rattle.endpoint.proofs.Batches.{empty, none-sent, written-none, written-one, written-then}
 use Rattle.endpoint.proofs.Runs.{ran, running-is}
 
@@ -67,20 +68,12 @@ acts p now epoch nonce statuses s =
       effect = acted p now epoch nonce statuses (begin s);
     }
 
--- done, with several messages queued or none
-batch-did : (e n : Endpoint) (f : Effect) (d : Did) (buffer buffer′ : List ℕ) (stop : ℕ) → d ≡ done f → f .state .queued ≡ e .queued
-    → WrittenAs buffer (e .queued) (f .out) stop buffer′ → seen n ≡ withEvents (f .state .events ++ f .told) (withQueued stop (f .state))
-    → DidAs e d buffer (record { answer = Done; endpoint = n }) buffer′
-unfolding done
-batch-did e n f d buffer buffer′ stop h k w after =
-    rw h (record { answer = refl; after = after ∙ rw (w .end, k); lent = w .lent; same = λ x. absurd (x refl) })
-
 -- ---- Running
 
 -- e with other events and another end of its queue
 abbrev pub grown : Endpoint → Events → ℕ → Endpoint
 grown e events queued =
-    remade e (e .pending) (e .acked) (e .history) (e .phase) (e .sync) (e .clocks) (e .flags) (e .quality) (e .statuses) (e .checksums) events queued
+    remade e (e .pending) (e .acked) (e .history) (e .sync) (e .nonces) (e .clocks) (e .flags) (e .quality) (e .statuses) (e .checksums) events queued
 
 module _ (e : Endpoint) (buffer : List ℕ) (statuses : Statuses) (now epoch : ℕ) (d : Due) where
   abbrev Ran : Effect
@@ -191,7 +184,7 @@ module _ (e : Endpoint) (buffer : List ℕ) (statuses : Statuses) (now epoch : �
 
     module _ (s t : Endpoint) (buffer′ : List ℕ) (c : Clocks) (f : Flags) (room : hasRoom (held (e .events)) (length Told) ≡ true) (packed : Packed s buffer′) (announced : Announced s t) where
       ends : c ≡ clocksBy d now (e .clocks) → f ≡ flagsBy d (e .flags)
-          → Ending Done (remade e (e .pending) (e .acked) (e .history) (e .phase) (e .sync) c f (e .quality) (e .statuses) (e .checksums) (t .events) (s .queued)) buffer′
+          → Ending Done (remade e (e .pending) (e .acked) (e .history) (e .sync) (e .nonces) c f (e .quality) (e .statuses) (e .checksums) (t .events) (s .queued)) buffer′
       unfolding acts seen termsWith
       ends ec ef =
           batch-did e _ Ran _ buffer buffer′ (s .queued)
@@ -199,7 +192,7 @@ module _ (e : Endpoint) (buffer : List ℕ) (statuses : Statuses) (now epoch : �
           refl (packed .2) (rw (ec, ef, announced .1))
 
       pub running-done : c ≡ clocksBy d now (t .clocks) → f ≡ flagsBy d (t .flags)
-          → Ending Done (remade t (t .pending) (t .acked) (t .history) (t .phase) (t .sync) c f (t .quality) (t .statuses) (t .checksums) (t .events) (t .queued)) buffer′
+          → Ending Done (remade t (t .pending) (t .acked) (t .history) (t .sync) (t .nonces) c f (t .quality) (t .statuses) (t .checksums) (t .events) (t .queued)) buffer′
       running-done ec ef =
           rw (announced .0) (ends (ec ∙ ap (λ (x : Endpoint). clocksBy d now (x .clocks)) (announced .0)) (ef ∙ ap (λ (x : Endpoint). flagsBy d (x .flags)) (announced .0)))
 
@@ -223,8 +216,8 @@ module _ (e : Endpoint) (buffer : List ℕ) (now nonce : ℕ) where
   unfolding acts acted seen
   synchronizing-idle room h = unqueued e Ask (rw h) buffer _ (quiet-done e room Ask refl refl (rw h) e (rw h) (rw h) (rw h) (rw h))
 
-  module _ (due : passed (e .clocks .«last_sync_request_time») 200 now ≡ true) (r : Requested) (buffer′ : List ℕ)
-      (er : RequestedAs (e .sync) (e .clocks) (e .setup .magic) now nonce buffer (e .queued) r buffer′) where
+  module _ (due : passed (e .clocks .«last_sync_request_time») 200 now ≡ true) (i : Issued) (ei : IssuedAs (e .nonces) nonce i) (r : Requested) (buffer′ : List ℕ)
+      (er : RequestedAs (i .ok) (e .clocks) (e .setup .magic) now nonce buffer (e .queued) r buffer′) where
     abbrev Asked : Effect
     Asked = request now nonce (begin (seen e))
 
@@ -232,15 +225,15 @@ module _ (e : Endpoint) (buffer : List ℕ) (now nonce : ℕ) where
     unfolding reacted decided acts acted request nonceIssued queueWire seen termsWith
     synchronizing-full k =
         rw (er .same k) (refused-did e Full _
-        (rw (due, request-full buffer (e .setup .magic) nonce (outstanding (e .sync .nonces)) Asked refl (r .ok) (er .ok) k)) buffer)
+        (rw (due, request-full buffer (e .setup .magic) nonce (outstanding (e .nonces)) Asked refl (r .ok) (rw (ei .ok) at (er .ok)) k)) buffer)
 
     pub synchronizing-done : hasRoom (held (e .events)) 0 ≡ true → r .ok ≡ true
-        → Asking Done (remade e (e .pending) (e .acked) (e .history) (e .phase) (r .sync) (r .clocks) (e .flags) (e .quality) (e .statuses) (e .checksums) (e .events) (r .end)) buffer′
+        → Asking Done (remade e (e .pending) (e .acked) (e .history) (e .sync) (i .nonces) (r .clocks) (e .flags) (e .quality) (e .statuses) (e .checksums) (e .events) (r .end)) buffer′
     unfolding reacted decided acts acted request nonceIssued queueWire seen termsWith
     synchronizing-done room k =
         queued-did e _ Asked _
-        (rw (due, request-fits buffer (e .setup .magic) nonce (outstanding (e .sync .nonces)) Asked refl (r .ok) (er .ok) k room))
-        _ refl buffer buffer′ _ (er .queued k) refl refl (rw (er .sync k, er .clocks k, append-nil))
+        (rw (due, request-fits buffer (e .setup .magic) nonce (outstanding (e .nonces)) Asked refl (r .ok) (rw (ei .ok) at (er .ok)) k room))
+        _ refl buffer buffer′ _ (er .queued k) refl refl (rw (nonces-after i ei er k, er .clocks k, append-nil))
 
 module _ (e : Endpoint) (now : ℕ) (room : hasRoom (held (e .events)) 0 ≡ true) where
   abbrev Wait : Reaction
@@ -256,7 +249,7 @@ module _ (e : Endpoint) (now : ℕ) (room : hasRoom (held (e .events)) 0 ≡ tru
       quiet-done e room Wait refl refl refl e (rw k) (rw k) (rw k) (rw k)
 
   pub disconnected-over : e .clocks .«shutdown_timeout» < now
-      → Waiting (remade e (e .pending) (e .acked) (e .history) Shutdown (e .sync) (e .clocks) (e .flags) (e .quality) (e .statuses) (e .checksums) (e .events) (e .queued))
+      → Waiting (remade e (e .pending) (e .acked) (e .history) (inPhase Shutdown (e .sync)) (e .nonces) (e .clocks) (e .flags) (e .quality) (e .statuses) (e .checksums) (e .events) (e .queued))
   unfolding acts acted seen
   disconnected-over h =
       let k = lt-ltb (e .clocks .«shutdown_timeout») now h in
@@ -290,19 +283,19 @@ module _ (e : Endpoint) (buffer : List ℕ) (statuses : Statuses) (now epoch non
       abbrev Then : Phase → Did
       Then p = reacted (length buffer) (seen e) (acts p now epoch nonce (heldStatuses statuses) (seen e))
 
-      reacts : (p : Phase) → e .phase ≡ p → step (Call.act (statuses .count) (heldStatuses statuses) now epoch nonce (length buffer)) (seen e) ≡ Then p
+      reacts : (p : Phase) → e .sync .phase ≡ p → step (Call.act (statuses .count) (heldStatuses statuses) now epoch nonce (length buffer)) (seen e) ≡ Then p
       unfolding step actStep reacted acts seen termsWith
       reacts p h = (rw (good, eq-eqb (statuses .count) (e .setup .«num_players») all)) ∙ ap Then h
 
-      pub act-synchronizing : e .phase ≡ Synchronizing → (r : Ended) (buffer′ : List ℕ) → DidAs e (reacted (length buffer) (seen e) (acts Synchronizing now 0 nonce [] (seen e))) buffer r buffer′ → Acts r buffer′
+      pub act-synchronizing : e .sync .phase ≡ Synchronizing → (r : Ended) (buffer′ : List ℕ) → DidAs e (reacted (length buffer) (seen e) (acts Synchronizing now 0 nonce [] (seen e))) buffer r buffer′ → Acts r buffer′
       unfolding acts acted
       act-synchronizing p r buffer′ h = rw (reacts Synchronizing p) h
 
-      pub act-running : e .phase ≡ Running → (r : Ended) (buffer′ : List ℕ) → DidAs e (reacted (length buffer) (seen e) (acts Running now epoch 0 (heldStatuses statuses) (seen e))) buffer r buffer′ → Acts r buffer′
+      pub act-running : e .sync .phase ≡ Running → (r : Ended) (buffer′ : List ℕ) → DidAs e (reacted (length buffer) (seen e) (acts Running now epoch 0 (heldStatuses statuses) (seen e))) buffer r buffer′ → Acts r buffer′
       unfolding acts acted
       act-running p r buffer′ h = rw (reacts Running p) h
 
-      pub act-disconnected : e .phase ≡ Disconnected → (r : Ended) → DoneAs e (reacted 0 (seen e) (acts Disconnected now 0 0 [] (seen e))) r → Acts r buffer
+      pub act-disconnected : e .sync .phase ≡ Disconnected → (r : Ended) → DoneAs e (reacted 0 (seen e) (acts Disconnected now 0 0 [] (seen e))) r → Acts r buffer
       unfolding acts acted
       act-disconnected p r h = rw (reacts Disconnected p) (unqueued e (acts Disconnected now 0 0 [] (seen e)) (over (ltb (seen e .clocks .«shutdown_timeout») now)) buffer r h)
         where
@@ -310,12 +303,12 @@ module _ (e : Endpoint) (buffer : List ℕ) (statuses : Statuses) (now epoch non
           over true = refl
           over false = refl
 
-      pub act-idle : hasRoom (held (e .events)) 0 ≡ true → OneOf (0 ∷ 4 ∷ []) (tagOf the-type (e .phase)) → Acts (record { answer = Done; endpoint = e }) buffer
+      pub act-idle : hasRoom (held (e .events)) 0 ≡ true → OneOf (0 ∷ 4 ∷ []) (tagOf the-type (e .sync .phase)) → Acts (record { answer = Done; endpoint = e }) buffer
       unfolding acts seen
       act-idle room h =
-          let r : Reaction = acts (e .phase) now epoch nonce (heldStatuses statuses) (seen e) in
-          let x = idle-acts (e .phase) now epoch nonce (heldStatuses statuses) (seen e) h in
-          rw (reacts (e .phase) refl) (unqueued e r (rw (x .1)) buffer _ (quiet-done e room r refl refl (x .0) e (rw (x .1)) (rw (x .1)) (rw (x .1)) (rw (x .1))))
+          let r : Reaction = acts (e .sync .phase) now epoch nonce (heldStatuses statuses) (seen e) in
+          let x = idle-acts (e .sync .phase) now epoch nonce (heldStatuses statuses) (seen e) h in
+          rw (reacts (e .sync .phase) refl) (unqueued e r (rw (x .1)) buffer _ (quiet-done e room r refl refl (x .0) e (rw (x .1)) (rw (x .1)) (rw (x .1)) (rw (x .1))))
 
   pub act-settled : (r s : Ended) (b c : List ℕ) → Acts r b → Acts s c → (r .answer ≡ s .answer) × (seen (r .endpoint) ≡ seen (s .endpoint)) × (b ≡ c)
   act-settled = did-settled e (step (Call.act (statuses .count) (heldStatuses statuses) now epoch nonce (length buffer)) (seen e)) buffer

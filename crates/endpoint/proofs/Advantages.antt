@@ -76,7 +76,7 @@ module _ (e : Endpoint) (frame : ℕ) where
           refused-done e Answer.Overflow (advantageStep frame (seen e)) (rw (← en, ne-eqb frame nullFrame known, ne-eqb newest nullFrame some, told-overflow Overflows Behind h))
 
       pub advantage-told : (m : ℕ) (y : Quality) → shownAdvantage (Frames m) ≡ Told Overflows Behind → y ≡ localSet m (e .quality)
-          → Advances (remade e (e .pending) (e .acked) (e .history) (e .phase) (e .sync) (e .clocks) (e .flags) y (e .statuses) (e .checksums) (e .events) (e .queued)) Answer.Done
+          → Advances (remade e (e .pending) (e .acked) (e .history) (e .sync) (e .nonces) (e .clocks) (e .flags) y (e .statuses) (e .checksums) (e .events) (e .queued)) Answer.Done
       unfolding step advantageStep advantageUpdated localAdvantage decided seen termsWith
       advantage-told m y h ey =
           rw (← en, ne-eqb frame nullFrame known, ne-eqb newest nullFrame some, told-frames Overflows Behind m h .0, ey, told-frames Overflows Behind m h .1)

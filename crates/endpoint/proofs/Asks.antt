@@ -16,7 +16,8 @@ use Rattle.timers.specs.Timers.{badClocks, sentAt, requestAt}
 use Rattle.quality.specs.declared.Quality.{Quality}
 use Rattle.quality.specs.Quality.{startedAt}
 use Rattle.nonces.specs.declared.Issued.{Issued}
-use Rattle.nonces.specs.Nonces.{outstanding, fits, IssuedAs}
+use Rattle.nonces.specs.declared.Nonces.{Nonces}
+use Rattle.nonces.specs.Nonces.{outstanding, fits, issued, IssuedAs}
 use Rattle.events.specs.Events.{held, hasRoom}
 use Rattle.outbox.specs.declared.Queued.{Queued}
 use Rattle.outbox.specs.Outbox.{QueuedAs}
@@ -29,10 +30,10 @@ use Rattle.protocol.specs.Call.{Call}
 use Rattle.protocol.specs.Step.{step, synchronizeStep}
 use Rattle.endpoint.specs.declared.Endpoint.{Endpoint}
 use Rattle.endpoint.specs.declared.Ended.{Ended}
-use Rattle.endpoint.specs.declared.Sync.{Sync}
 use Rattle.endpoint.specs.declared.handshake.Requested.{Requested}
 use Rattle.endpoint.specs.Endpoint.{seen, DidAs}
 use Rattle.endpoint.specs.Handshaking.{requestWire, RequestedAs}
+use Rattle.endpoint.proofs.Arrives.{both}
 use Rattle.endpoint.proofs.Ends.{remade, refused-did, queued-did}
 use Rattle.endpoint.proofs.Settles.{did-settled}
 use Rattle.endpoint.proofs.Rooms.{full-buffer, room-one}
@@ -40,31 +41,33 @@ use Rattle.endpoint.proofs.Rooms.{full-buffer, room-one}
 pub false-true : false ≡ true → ⊥
 false-true n = let z : _≡_ {A = ℕ} 0 1 = cc in absurd (omega arith)
 
-module _ (s : Sync) (c : Clocks) (magic now nonce : ℕ) (buffer : List ℕ) (at : ℕ) where
-  abbrev Asks : Requested → List ℕ → Type 0
-  Asks = RequestedAs s c magic now nonce buffer at
+module _ (c : Clocks) (magic now nonce : ℕ) (buffer : List ℕ) (at : ℕ) where
+  abbrev Asks : Bool → Requested → List ℕ → Type 0
+  Asks issued = RequestedAs issued c magic now nonce buffer at
 
   abbrev Refused : Requested
-  Refused = record { ok = false; sync = s; clocks = c; end = at }
+  Refused = record { ok = false; clocks = c; end = at }
 
-  module _ (i : Issued) (ei : IssuedAs (s .nonces) nonce i) where
-    pub ask-choked : i .ok ≡ false → Asks Refused buffer
-    ask-choked k = record { ok = rw (← ei .ok, k); sync = λ n. cc; clocks = λ n. cc; queued = λ n. absurd (false-true n); same = λ _. refl }
+  pub ask-choked : (issued : Bool) → issued ≡ false → Asks issued Refused buffer
+  ask-choked issued k = record { ok = rw k; clocks = λ n. cc; queued = λ n. absurd (false-true n); same = λ _. refl }
 
-    module _ (fit : i .ok ≡ true) (q : Queued) (buffer′ : List ℕ) (eq : QueuedAs buffer at (requestWire magic nonce) q buffer′) where
-      pub ask-full : q .ok ≡ false → Asks Refused buffer′
-      ask-full k = record { ok = rw (← ei .ok, fit, ← eq .ok, k); sync = λ n. cc; clocks = λ n. cc; queued = λ n. absurd (false-true n); same = λ _. rw k at (eq .lent) }
+  module _ (issued : Bool) (fit : issued ≡ true) (q : Queued) (buffer′ : List ℕ) (eq : QueuedAs buffer at (requestWire magic nonce) q buffer′) where
+    pub ask-full : q .ok ≡ false → Asks issued Refused buffer′
+    ask-full k = record { ok = rw (fit, ← eq .ok, k); clocks = λ n. cc; queued = λ n. absurd (false-true n); same = λ _. rw k at (eq .lent) }
 
-      pub ask-done : (d : Clocks) → q .ok ≡ true → d ≡ sentAt now (requestAt now c)
-          → Asks (record { ok = true; sync = record { remaining = s .remaining; nonces = i .nonces; «remote_magic» = s .«remote_magic» }; clocks = d; end = q .end }) buffer′
-      ask-done d k ed =
-          record {
-            ok = rw (← ei .ok, fit, ← eq .ok, k);
-            sync = λ _. rw (rw (sym (ei .ok) ∙ fit) at (ei .view));
-            clocks = λ _. ed;
-            queued = λ _. record { ok = sym k ∙ eq .ok; end = rw k at (eq .end); lent = rw k at (eq .lent); fits = λ _. eq .fits k };
-            same = λ n. cc;
-          }
+    pub ask-done : (d : Clocks) → q .ok ≡ true → d ≡ sentAt now (requestAt now c) → Asks issued (record { ok = true; clocks = d; end = q .end }) buffer′
+    ask-done d k ed =
+        record {
+          ok = rw (fit, ← eq .ok, k);
+          clocks = λ _. ed;
+          queued = λ _. record { ok = sym k ∙ eq .ok; end = rw k at (eq .end); lent = rw k at (eq .lent); fits = λ _. eq .fits k };
+          same = λ n. cc;
+        }
+
+-- the nonces after a request that is made
+pub nonces-after : {s : Nonces} {c : Clocks} {magic now nonce : ℕ} {buffer : List ℕ} {at : ℕ} {r : Requested} {buffer′ : List ℕ} (i : Issued)
+    → IssuedAs s nonce i → RequestedAs (i .ok) c magic now nonce buffer at r buffer′ → r .ok ≡ true → outstanding (i .nonces) ≡ issued nonce (outstanding s)
+nonces-after i ei er k = rw (sym (ei .ok) ∙ both (i .ok) _ (sym (er .ok) ∙ k) .0) at (ei .view)
 
 -- f: what a call does that queues a request and nothing else
 module _ (buffer : List ℕ) (magic nonce : ℕ) (l : List ℕ) (f : Effect) (o : f .out ≡ requestWire magic nonce ∷ []) (ok : Bool) where
@@ -95,24 +98,24 @@ module _ (e : Endpoint) (buffer : List ℕ) (now epoch nonce : ℕ) where
   synchronize-clocks h = refused-did e BadClock _ (rw h) buffer
 
   module _ (good : badClocks now epoch ≡ false) where
-    pub synchronize-state : isInitializing (e .phase) ≡ false → Starts e WrongState buffer
+    pub synchronize-state : isInitializing (e .sync .phase) ≡ false → Starts e WrongState buffer
     unfolding step synchronizeStep decided seen
     synchronize-state h = refused-did e WrongState _ (rw (good, h)) buffer
 
-    module _ (first : isInitializing (e .phase) ≡ true) (y : Sync) (ey : y ≡ record { remaining = 5; nonces = e .sync .nonces; «remote_magic» = e .sync .«remote_magic» }) (r : Requested) (buffer′ : List ℕ) (er : RequestedAs y (e .clocks) (e .setup .magic) now nonce buffer (e .queued) r buffer′) where
+    module _ (first : isInitializing (e .sync .phase) ≡ true) (i : Issued) (ei : IssuedAs (e .nonces) nonce i) (r : Requested) (buffer′ : List ℕ) (er : RequestedAs (i .ok) (e .clocks) (e .setup .magic) now nonce buffer (e .queued) r buffer′) where
       pub synchronize-full : r .ok ≡ false → Starts e Full buffer′
       unfolding step synchronizeStep synchronized started request nonceIssued queueWire decided seen termsWith
       synchronize-full k =
           rw (er .same k) (refused-did e Full _
-          (rw (good, first, request-full buffer (e .setup .magic) nonce (outstanding (e .sync .nonces)) Starting refl (r .ok) (rw ey at (er .ok)) k)) buffer)
+          (rw (good, first, request-full buffer (e .setup .magic) nonce (outstanding (e .nonces)) Starting refl (r .ok) (rw (ei .ok) at (er .ok)) k)) buffer)
 
       pub synchronize-done : r .ok ≡ true → hasRoom (held (e .events)) 0 ≡ true → (q : Quality) → q ≡ startedAt epoch (e .quality)
-          → Starts (remade e (e .pending) (e .acked) (e .history) Synchronizing (r .sync) (r .clocks) (e .flags) q (e .statuses) (e .checksums) (e .events) (r .end)) Done buffer′
+          → Starts (remade e (e .pending) (e .acked) (e .history) (record { phase = Synchronizing; remaining = 5; «remote_magic» = e .sync .«remote_magic» }) (i .nonces) (r .clocks) (e .flags) q (e .statuses) (e .checksums) (e .events) (r .end)) Done buffer′
       unfolding step synchronizeStep synchronized started request nonceIssued queueWire decided seen termsWith
       synchronize-done k room q eq =
           queued-did e _ Starting _
-          (rw (good, first, request-fits buffer (e .setup .magic) nonce (outstanding (e .sync .nonces)) Starting refl (r .ok) (rw ey at (er .ok)) k room))
-          _ refl buffer buffer′ _ (er .queued k) refl refl (rw (rw ey at (er .sync k), er .clocks k, eq, append-nil))
+          (rw (good, first, request-fits buffer (e .setup .magic) nonce (outstanding (e .nonces)) Starting refl (r .ok) (rw (ei .ok) at (er .ok)) k room))
+          _ refl buffer buffer′ _ (er .queued k) refl refl (rw (nonces-after i ei er k, er .clocks k, eq, append-nil))
 
   pub synchronize-settled : (r s : Ended) (b c : List ℕ) → DidAs e (step (Call.synchronize now epoch nonce (length buffer)) (seen e)) buffer r b
       → DidAs e (step (Call.synchronize now epoch nonce (length buffer)) (seen e)) buffer s c

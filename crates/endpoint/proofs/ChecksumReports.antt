@@ -66,7 +66,7 @@ module _ (e : Endpoint) (checksum : Wide) (frame now i : ℕ) (ei : i ≡ interv
           refused-done e Full _ (reacted-full 0 (seen e) _ refl (rw (← ei) (sym (er .overflow) ∙ within)) (full-events [] (Summing f t) (sym (h .ok) ∙ k)))) ex
 
       abbrev Stored : Endpoint
-      Stored = remade e (e .pending) (e .acked) (e .history) (e .phase) (e .sync) (x .clocks) (x .flags) (e .quality) (e .statuses) (r .checksums) (x .events) (e .queued)
+      Stored = remade e (e .pending) (e .acked) (e .history) (e .sync) (e .nonces) (x .clocks) (x .flags) (e .quality) (e .statuses) (r .checksums) (x .events) (e .queued)
 
       pub checksum-done : r .full ≡ false → x .ok ≡ true → Summed Stored Done (heard now (seen e))
       unfolding onChecksumReport seen termsWith
@@ -98,7 +98,7 @@ module _ (e : Endpoint) (buffer : List ℕ) (frame : ℕ) (checksum : Wide) (now
         (refused-did e Full (checksumStep frame checksum now (length buffer) (seen e)) (rw (good, full-buffer buffer Sending _ (omega arith) refl (not-false _ (sym (eq .ok) ∙ k)))) buffer)
 
     pub send-done : (c : Clocks) → hasRoom (held (e .events)) 0 ≡ true → q .ok ≡ true → c ≡ sentAt now (e .clocks)
-        → Sends (remade e (e .pending) (e .acked) (e .history) (e .phase) (e .sync) c (e .flags) (e .quality) (e .statuses) (e .checksums) (e .events) (q .end)) Done b′
+        → Sends (remade e (e .pending) (e .acked) (e .history) (e .sync) (e .nonces) c (e .flags) (e .quality) (e .statuses) (e .checksums) (e .events) (q .end)) Done b′
     unfolding step checksumStep decided checksumSent queueWire seen termsWith
     send-done c room ok ec =
         queued-did e _ Sending (checksumStep frame checksum now (length buffer) (seen e))

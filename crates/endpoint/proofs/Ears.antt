@@ -22,7 +22,7 @@ use Rattle.endpoint.proofs.Hears.{Ears, HeardAs, hears}
 use Rattle.endpoint.proofs.Crowds.{crowded, roomy}
 
 -- r: whether an interruption ends, n: how many events there are, f: whether it cannot be told
-module _ (e : Endpoint) (now : ℕ) (r : Bool) (er : r ≡ (isRunning (e .phase) && e .flags .«disconnect_notify_sent»)) (n : ℕ) (en : n ≡ length (held (e .events)))
+module _ (e : Endpoint) (now : ℕ) (r : Bool) (er : r ≡ (isRunning (e .sync .phase) && e .flags .«disconnect_notify_sent»)) (n : ℕ) (en : n ≡ length (held (e .events)))
     (f : Bool) (ef : f ≡ (r && leb 640 n)) where
   abbrev pub heardWith : Bool → Events → Ears
   heardWith ok events = record { ok = ok; clocks = heardAt now (e .clocks); flags = resumedFlags r (e .flags); events = events }
@@ -31,7 +31,7 @@ module _ (e : Endpoint) (now : ℕ) (r : Bool) (er : r ≡ (isRunning (e .phase)
   Told p = PushedAs (e .events) (hasRoom (held (e .events)) (length (pick r (plain NetworkResumed ∷ []) []))) (pick r (plain NetworkResumed ∷ []) []) p
 
   heard-with : (p : Pushed) → Told p → HeardAs e (heard now (seen e)) (heardWith (p .ok) (p .events))
-  heard-with p ep = rw er (hears e now (heardBy (e .phase) (e .clocks) (e .flags) now) (plain NetworkResumed) p refl refl (rw er at ep))
+  heard-with p ep = rw er (hears e now (heardBy (e .sync .phase) (e .clocks) (e .flags) now) (plain NetworkResumed) p refl refl (rw er at ep))
 
   pub ears-full : f ≡ true → HeardAs e (heard now (seen e)) (heardWith false (e .events))
   ears-full h = heard-with (record { ok = false; events = e .events }) (crowded (e .events) (plain NetworkResumed) n en r (sym ef ∙ h))

@@ -11,13 +11,14 @@ use Rattle.answer.specs.declared.Answer.the-variants.{Done}
 use Rattle.packing.specs.declared.input_bytes.InputBytes.{InputBytes}
 use Rattle.pending.specs.declared.Pending.{Pending}
 use Rattle.history.specs.declared.History.{History}
+use Rattle.nonces.specs.declared.Nonces.{Nonces}
 use Rattle.status.specs.declared.list.Statuses.{Statuses}
 use Rattle.checksums.specs.declared.Checksums.{Checksums}
 use Rattle.events.specs.declared.Events.{Events}
 use Rattle.timers.specs.declared.Clocks.{Clocks}
 use Rattle.quality.specs.declared.Quality.{Quality}
-use Rattle.protocol.specs.declared.Phase.{Phase}
 use Rattle.protocol.specs.declared.Flags.{Flags}
+use Rattle.protocol.specs.declared.Phase.{Phase}
 use Rattle.endpoint.specs.declared.Sync.{Sync}
 use Rattle.codec.specs.Message.{Wire}
 use Rattle.outbox.specs.declared.Queued.{Queued}
@@ -26,17 +27,22 @@ use Rattle.protocol.specs.Seen.{withEvents, withQueued}
 use Rattle.protocol.specs.Did.{Did, Effect, refused, done}
 use Rattle.endpoint.specs.declared.Endpoint.{Endpoint}
 use Rattle.endpoint.specs.Endpoint.{seen, DidAs, DoneAs}
+use Rattle.endpoint.specs.Batch.{WrittenAs}
+
+-- the same in another phase
+abbrev pub inPhase : Phase → Sync → Sync
+inPhase p s = record { phase = p; remaining = s .remaining; «remote_magic» = s .«remote_magic» }
 
 -- an endpoint with the setup of another: how a call that is done leaves it
-abbrev pub remade : Endpoint → Pending → InputBytes → History → Phase → Sync → Clocks → Flags → Quality → Statuses → Checksums → Events → (queued : ℕ) → Endpoint
-remade e pending acked history phase sync clocks flags quality statuses checksums events queued =
+abbrev pub remade : Endpoint → Pending → InputBytes → History → Sync → Nonces → Clocks → Flags → Quality → Statuses → Checksums → Events → (queued : ℕ) → Endpoint
+remade e pending acked history sync nonces clocks flags quality statuses checksums events queued =
     record {
       setup = e .setup;
       pending = pending;
       acked = acked;
       history = history;
-      phase = phase;
       sync = sync;
+      nonces = nonces;
       clocks = clocks;
       flags = flags;
       quality = quality;
@@ -75,3 +81,11 @@ module _ (e : Endpoint) (n : Endpoint) (f : Effect) (d : Did) (h : d ≡ done f)
           lent = rw o ((rw ok at (eq .lent)) ∙ rw append-nil);
           same = λ x. absurd (x refl);
         })
+
+-- done, with several messages queued or none
+pub batch-did : (e n : Endpoint) (f : Effect) (d : Did) (buffer buffer′ : List ℕ) (stop : ℕ) → d ≡ done f → f .state .queued ≡ e .queued
+    → WrittenAs buffer (e .queued) (f .out) stop buffer′ → seen n ≡ withEvents (f .state .events ++ f .told) (withQueued stop (f .state))
+    → DidAs e d buffer (record { answer = Done; endpoint = n }) buffer′
+unfolding done
+batch-did e n f d buffer buffer′ stop h k w after =
+    rw h (record { answer = refl; after = after ∙ rw (w .end, k); lent = w .lent; same = λ x. absurd (x refl) })

@@ -38,7 +38,7 @@ abbrev pub ears : Heard → Pushed → Ears
 ears h p = record { ok = p .ok; clocks = h .clocks; flags = h .flags; events = p .events }
 
 module _ (e : Endpoint) where
-  pub not-resumes : isRunning (e .phase) ≡ false → resumes (seen e) ≡ false
+  pub not-resumes : isRunning (e .sync .phase) ≡ false → resumes (seen e) ≡ false
   unfolding seen
   not-resumes h = rw h
 
@@ -49,11 +49,11 @@ module _ (e : Endpoint) where
     heard-is true h = rw (heard-resumes now (seen e) (sym h))
     heard-is false h = rw (heard-quiet now (seen e) (sym h))
 
-    pub heard-by : heard now (seen e) ≡ hearing now (seen e) (heardBy (e .phase) (e .clocks) (e .flags) now .flags) (pick (heardBy (e .phase) (e .clocks) (e .flags) now .resumes) (plain NetworkResumed ∷ []) [])
+    pub heard-by : heard now (seen e) ≡ hearing now (seen e) (heardBy (e .sync .phase) (e .clocks) (e .flags) now .flags) (pick (heardBy (e .sync .phase) (e .clocks) (e .flags) now .resumes) (plain NetworkResumed ∷ []) [])
     unfolding seen
     heard-by = heard-is (resumes (seen e)) refl
 
-    pub hears : (h : Heard) (x : Entry) (p : Pushed) → h ≡ heardBy (e .phase) (e .clocks) (e .flags) now → x ≡ plain NetworkResumed
+    pub hears : (h : Heard) (x : Entry) (p : Pushed) → h ≡ heardBy (e .sync .phase) (e .clocks) (e .flags) now → x ≡ plain NetworkResumed
         → PushedAs (e .events) (hasRoom (held (e .events)) (length (pick (h .resumes) (x ∷ []) []))) (pick (h .resumes) (x ∷ []) []) p
         → HeardAs e (heard now (seen e)) (ears h p)
     unfolding seen

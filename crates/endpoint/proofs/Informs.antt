@@ -115,7 +115,7 @@ pub record Brought (h : Effect) (x : Informed) : Type 0 where
 
 module _ (e : Endpoint) (now : ℕ) where
   module _ (ack : ℕ) (d : Bool) (reports : List StatusReport) where
-    pub informs : (x : Informed) → InformedAs (e .phase) (e .clocks) (e .flags) (heldStatuses (e .statuses)) d reports now x
+    pub informs : (x : Informed) → InformedAs (e .sync .phase) (e .clocks) (e .flags) (heldStatuses (e .statuses)) d reports now x
         → Brought (informed d reports (change (acknowledged ack) (heard now (seen e)))) x
     unfolding seen ahead both
     informs x i =

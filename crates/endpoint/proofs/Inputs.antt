@@ -73,7 +73,7 @@ none-ahead false false h = refl
 
 -- d: whether a disconnect is requested, o: the packet as it was opened, w: the width
 module _ (e : Endpoint) (from : ℕ) (m : Message) (p : List ℕ) (now epoch nonce : ℕ) (buffer : List ℕ) (good : badClock now || badClock epoch ≡ false)
-    (heeded : ignoredBy (e .phase) (e .setup .«peer_addr») (e .sync .«remote_magic») from (m .magic) ≡ false) (d : Bool) (start ack : ℕ) (body : m .body ≡ Input d start ack) (o : Opened)
+    (heeded : ignoredBy (e .sync .phase) (e .setup .«peer_addr») (e .sync .«remote_magic») from (m .magic) ≡ false) (d : Bool) (start ack : ℕ) (body : m .body ≡ Input d start ack) (o : Opened)
     (opened : OpenedAs (e .history) (e .setup) d start (m .reports .count) (length p) o) (kept : o .discarded ≡ false) where
   abbrev Width : ℕ
   Width = receivingWidth (termsOf (e .setup))
@@ -99,7 +99,7 @@ module _ (e : Endpoint) (from : ℕ) (m : Message) (p : List ℕ) (now epoch non
 
     -- x: what it informs of
     module _ (fits : (o .readable && o .overflows) ≡ false) (x : Informed)
-        (ix : InformedAs (e .phase) (e .clocks) (e .flags) (heldStatuses (e .statuses)) d Reports now x) where
+        (ix : InformedAs (e .sync .phase) (e .clocks) (e .flags) (heldStatuses (e .statuses)) d Reports now x) where
       brought : Brought (informed d Reports (change (acknowledged ack) (heard now (seen e)))) x
       brought = informs e now ack d Reports x ix
 
@@ -113,7 +113,7 @@ module _ (e : Endpoint) (from : ℕ) (m : Message) (p : List ℕ) (now epoch non
       -- s: e after what is told; it ends with these
       abbrev after : Endpoint → Pending → InputBytes → History → Clocks → ℕ → Ended
       after s pending acked h c queued =
-          record { endpoint = remade s pending acked h (s .phase) (s .sync) c (x .flags) (s .quality) (x .statuses) (s .checksums) (s .events) queued; answer = Done }
+          record { endpoint = remade s pending acked h (s .sync) (s .nonces) c (x .flags) (s .quality) (x .statuses) (s .checksums) (s .events) queued; answer = Done }
 
       -- inputs that cannot be read
       module _ (no : o .readable ≡ false) where

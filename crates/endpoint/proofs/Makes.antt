@@ -65,8 +65,8 @@ module _ (g : Setup) (now : ℕ) where
         pending = p;
         acked = record { frame = nullFrame; bytes = replicate 64 0 };
         history = h;
-        phase = Initializing;
-        sync = record { remaining = 5; nonces = n; «remote_magic» = 0 };
+        sync = record { phase = Initializing; remaining = 5; «remote_magic» = 0 };
+        nonces = n;
         clocks = c;
         flags = record { «disconnect_notify_sent» = false; «disconnect_event_sent» = false };
         quality = q;

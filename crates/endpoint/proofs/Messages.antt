@@ -44,16 +44,16 @@ module _ (e : Endpoint) (from : ℕ) (m : Message) (p : List ℕ) (now epoch non
   message-late h = refused-did e BadClock Does (message-clocks from (m .reports .count) (meant m p) now epoch nonce (length buffer) (seen e) h) buffer
 
   module _ (good : badClock now || badClock epoch ≡ false) where
-    filters : ignored from (meant m p .magic) (seen e) ≡ ignoredBy (e .phase) (e .setup .«peer_addr») (e .sync .«remote_magic») from (m .magic)
+    filters : ignored from (meant m p .magic) (seen e) ≡ ignoredBy (e .sync .phase) (e .setup .«peer_addr») (e .sync .«remote_magic») from (m .magic)
     unfolding ignored filtered seen termsWith
     filters = rw (meant-magic m p)
 
-    pub message-ignored : ignoredBy (e .phase) (e .setup .«peer_addr») (e .sync .«remote_magic») from (m .magic) ≡ true
+    pub message-ignored : ignoredBy (e .sync .phase) (e .setup .«peer_addr») (e .sync .«remote_magic») from (m .magic) ≡ true
         → DidAs e Does buffer (record { answer = Done; endpoint = e }) buffer
     unfolding step
     message-ignored h = refused-did e Done Does (message-silent from (m .reports .count) (meant m p) now epoch nonce (length buffer) (seen e) good (filters ∙ h)) buffer
 
-    module _ (heeded : ignoredBy (e .phase) (e .setup .«peer_addr») (e .sync .«remote_magic») from (m .magic) ≡ false) (x : Ended) where
+    module _ (heeded : ignoredBy (e .sync .phase) (e .setup .«peer_addr») (e .sync .«remote_magic») from (m .magic) ≡ false) (x : Ended) where
       reacts : (b : MessageBody) (b′ : List ℕ) → m .body ≡ b → Reacts (onBody b (m .reports .count) (meant m p) now epoch nonce Hears) x b′ → DidAs e Does buffer x b′
       unfolding step
       reacts b b′ h d =

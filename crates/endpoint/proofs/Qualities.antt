@@ -41,7 +41,7 @@ module _ (e : Endpoint) (now : ℕ) where
   module _ (x : Ears) (ex : HeardAs e (heard now (seen e)) x) where
     -- how both leave it when they are done
     abbrev Noted : Clocks → Quality → (queued : ℕ) → Endpoint
-    Noted c y queued = remade e (e .pending) (e .acked) (e .history) (e .phase) (e .sync) c (x .flags) y (e .statuses) (e .checksums) (x .events) queued
+    Noted c y queued = remade e (e .pending) (e .acked) (e .history) (e .sync) (e .nonces) c (x .flags) y (e .statuses) (e .checksums) (x .events) queued
 
     module _ (buffer : List ℕ) (advantage : ℕ) (ping : Wide) where
       pub report-untold : x .ok ≡ false → Reported buffer advantage ping e Full buffer

@@ -20,6 +20,6 @@ module _ (e : Endpoint) (now : ℕ) (x : Ears) where
   only-full k = changes-full e now x (λ s. s) (λ s. refl) k
 
   pub only-heard : x .ok ≡ true
-      → Only (remade e (e .pending) (e .acked) (e .history) (e .phase) (e .sync) (x .clocks) (x .flags) (e .quality) (e .statuses) (e .checksums) (x .events) (e .queued)) Done
+      → Only (remade e (e .pending) (e .acked) (e .history) (e .sync) (e .nonces) (x .clocks) (x .flags) (e .quality) (e .statuses) (e .checksums) (x .events) (e .queued)) Done
   unfolding seen
   only-heard k = changes-done e now x (λ s. s) (λ s. refl) _ k (λ f t h. rw (h .clocks, h .flags, h .events, k))

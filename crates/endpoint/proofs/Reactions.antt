@@ -47,8 +47,8 @@ ratedBy y q =
 
 -- r: whether an interruption ends, n: how many events there are, f: whether that cannot be told
 module _ (e : Endpoint) (from : ℕ) (m : Message) (p : List ℕ) (now epoch nonce : ℕ) (buffer : List ℕ) (good : badClock now || badClock epoch ≡ false)
-    (heeded : ignoredBy (e .phase) (e .setup .«peer_addr») (e .sync .«remote_magic») from (m .magic) ≡ false)
-    (r : Bool) (er : r ≡ (isRunning (e .phase) && e .flags .«disconnect_notify_sent»)) (n : ℕ) (en : n ≡ length (held (e .events)))
+    (heeded : ignoredBy (e .sync .phase) (e .setup .«peer_addr») (e .sync .«remote_magic») from (m .magic) ≡ false)
+    (r : Bool) (er : r ≡ (isRunning (e .sync .phase) && e .flags .«disconnect_notify_sent»)) (n : ℕ) (en : n ≡ length (held (e .events)))
     (f : Bool) (ef : f ≡ (r && leb 640 n)) (y : Reacted) (b′ : List ℕ) where
   abbrev Reacting : MessageBody → Type 0
   Reacting b = ReactedAs b f (e .quality) (e .clocks .«last_send_time») now epoch (e .setup .magic) buffer (e .queued) y b′
@@ -107,7 +107,7 @@ module _ (e : Endpoint) (from : ℕ) (m : Message) (p : List ℕ) (now epoch non
     Clocked = sentAt (y .«last_send_time») (heardAt now (e .clocks))
 
     abbrev Reacts : Endpoint
-    Reacts = remade e (e .pending) (e .acked) (e .history) (e .phase) (e .sync) Clocked (resumedFlags r (e .flags)) (ratedBy y (e .quality)) (e .statuses) (e .checksums) told (y .end)
+    Reacts = remade e (e .pending) (e .acked) (e .history) (e .sync) (e .nonces) Clocked (resumedFlags r (e .flags)) (ratedBy y (e .quality)) (e .statuses) (e .checksums) told (y .end)
 
     abbrev Heard : Ears
     Heard = heardWith e now r er n en f ef true told

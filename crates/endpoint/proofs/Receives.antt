@@ -77,9 +77,9 @@ module _ (e : Endpoint) (now ack : ℕ) (d : Bool) (reports : List StatusReport)
 
     pub unreadable-done : (events : Events) → hasRoom (held (e .events)) (length Ahead) ≡ true → held events ≡ held (e .events) ++ Ahead → (c′ : Clocks) (pending : Pending) (acked : InputBytes)
         → c′ ≡ pick b (inputAt now (x .clocks)) (x .clocks) → sent pending acked ≡ Told .state .carried .sender
-        → Unreadable (remade e pending acked (e .history) (e .phase) (e .sync) c′ (x .flags) (e .quality) (x .statuses) (e .checksums) events (e .queued)) Done Told
+        → Unreadable (remade e pending acked (e .history) (e .sync) (e .nonces) c′ (x .flags) (e .quality) (x .statuses) (e .checksums) events (e .queued)) Done Told
     unfolding seen
-    unreadable-done events room view c′ pending acked ec = by-informing now ack d reports (seen e) (λ h. sent pending acked ≡ h .state .carried .sender → Unreadable (remade e pending acked (e .history) (e .phase) (e .sync) c′ (x .flags) (e .quality) (x .statuses) (e .checksums) events (e .queued)) Done h) (λ sd c f st t es i.
+    unreadable-done events room view c′ pending acked ec = by-informing now ack d reports (seen e) (λ h. sent pending acked ≡ h .state .carried .sender → Unreadable (remade e pending acked (e .history) (e .sync) (e .nonces) c′ (x .flags) (e .quality) (x .statuses) (e .checksums) events (e .queued)) Done h) (λ sd c f st t es i.
         let y : Effect = informing (seen e) sd (pick b (inputAt now c) c) f st t in
         let told : held events ≡ held (e .events) ++ t = rw (i .told) view in
         rw (inputless now b (seen e) sd c f st t)
@@ -152,10 +152,10 @@ module _ (e : Endpoint) (buffer : List ℕ) (now ack start : ℕ) (d : Bool) (re
 
     pub readable-done : (c′ : Clocks) (pending : Pending) (last : InputBytes) → c′ ≡ sentAt now (inputAt now (x .clocks))
         → sent pending last ≡ informed d reports (change (acknowledged ack) (heard now (seen e))) .state .carried .sender
-        → Ending (remade e pending last h′ (e .phase) (e .sync) c′ (x .flags) (e .quality) (x .statuses) (e .checksums) events (q .end)) Done b′
+        → Ending (remade e pending last h′ (e .sync) (e .nonces) c′ (x .flags) (e .quality) (x .statuses) (e .checksums) events (q .end)) Done b′
     unfolding gotten taken queueWire seen termsWith
     readable-done c′ pending last ec es =
-        rw taking (by-informing now ack d reports (seen e) (λ h. sent pending last ≡ h .state .carried .sender → Readably (remade e pending last h′ (e .phase) (e .sync) c′ (x .flags) (e .quality) (x .statuses) (e .checksums) events (q .end)) Done b′ h) (λ sd c f st t es i.
+        rw taking (by-informing now ack d reports (seen e) (λ h. sent pending last ≡ h .state .carried .sender → Readably (remade e pending last h′ (e .sync) (e .nonces) c′ (x .flags) (e .quality) (x .statuses) (e .checksums) events (q .end)) Done b′ h) (λ sd c f st t es i.
         let y : Effect = Taking (informing (seen e) sd c f st t) in
         let told : held events ≡ held (e .events) ++ (t ++ News) = rw (i .told) view in
         queued-did e _ y _

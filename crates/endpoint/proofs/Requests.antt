@@ -39,7 +39,7 @@ module _ (e : Endpoint) (buffer : List ℕ) (now asked : ℕ) where
 
     pub request-done : (q : Queued) (b′ : List ℕ) → QueuedAs buffer (e .queued) (plain (e .setup .magic) (SyncReply asked)) q b′ → (c : Clocks) → x .ok ≡ true → q .ok ≡ true
         → c ≡ sentAt now (x .clocks)
-        → Asked (remade e (e .pending) (e .acked) (e .history) (e .phase) (e .sync) c (x .flags) (e .quality) (e .statuses) (e .checksums) (x .events) (q .end)) Done b′
+        → Asked (remade e (e .pending) (e .acked) (e .history) (e .sync) (e .nonces) c (x .flags) (e .quality) (e .statuses) (e .checksums) (x .events) (q .end)) Done b′
     unfolding onSyncRequest seen
     request-done q b′ eq c k ok ec =
         reply-done e buffer now (SyncReply asked) (λ s. s) aside x q b′ eq (omega arith) _ k ok (λ f t h. rw (ec, h .clocks, h .flags, h .events, k)) ex

@@ -11,7 +11,7 @@ use Rattle.endpoint.specs.declared.Endpoint.{Endpoint}
 use Rattle.endpoint.proofs.Ends.{remade}
 
 abbrev pub retold : Endpoint → Events → Endpoint
-retold e events = remade e (e .pending) (e .acked) (e .history) (e .phase) (e .sync) (e .clocks) (e .flags) (e .quality) (e .statuses) (e .checksums) events (e .queued)
+retold e events = remade e (e .pending) (e .acked) (e .history) (e .sync) (e .nonces) (e .clocks) (e .flags) (e .quality) (e .statuses) (e .checksums) events (e .queued)
 
 pub record ToldAs (e : Endpoint) (more : List Entry) (s : Endpoint) : Type 0 where
   pub events : Events

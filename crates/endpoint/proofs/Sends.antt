@@ -1,10 +1,10 @@
 -- The ways out of `send_input`.
-use borrow.Author.Tests.{not-true, not-false, eqb-true}
+use borrow.Author.Tests.{not-false, eqb-true}
 use mathlib.Core.Bool.{Bool, true, false, not, _||_, _&&_}
 use mathlib.Core.List.{List, [], _∷_, _++_}
 use mathlib.Core.Path.{_≡_, refl, sym, _∙_}
-use native.Mathlib.Omega.{arith}
-use Prim.Native.Nat.{ℕ, _<_}
+use native.Mathlib.Nat.{add-zero}
+use Prim.Native.Nat.{ℕ}
 use lib.Dec.{leb, eqb}
 use lib.ListN.{length, take, drop, replicate}
 use lib.Seq.{take-length}
@@ -30,12 +30,11 @@ use Rattle.events.proofs.Laws.{pushed-if}
 use Rattle.setup.specs.Setup.{termsOf, termsWith, sendingWidth}
 use Rattle.timers.specs.Timers as Timers
 use Rattle.timers.specs.Timers.{badClock}
-use Rattle.codec.specs.Message.{tableSize}
 use Rattle.outbox.specs.declared.Queued.{Queued}
-use Rattle.outbox.specs.Outbox.{pendingInput, QueuedAs}
+use Rattle.outbox.specs.Outbox.{sizes, pendingInput, QueuedAs, InputSizedAs}
 use Rattle.protocol.specs.Seen.{Seen, isRunning, sentAt}
 use Rattle.protocol.specs.Did.{Did, Effect, decided, begin, change, queueWire, tell, keep, done}
-use Rattle.protocol.specs.Room.{isFull}
+use Rattle.protocol.specs.Room.{isFull, bufferFull}
 use Rattle.protocol.specs.Sending.{badStatuses, badBytes, badFrame, accepted, tooMany, inputSent, pendingIn, pendingQueued, queuePending}
 use Rattle.protocol.specs.Call.{Call}
 use Rattle.protocol.specs.Step.{step, sendStep}
@@ -44,10 +43,11 @@ use Rattle.endpoint.specs.declared.Ended.{Ended}
 use Rattle.endpoint.specs.Endpoint.{seen, DidAs}
 use Rattle.endpoint.specs.Frames.{badAfter}
 use Rattle.endpoint.proofs.Crowds.{crowded, roomy}
-use Rattle.endpoint.proofs.Ends.{remade, refused-did, queued-did}
+use Rattle.endpoint.proofs.Ends.{remade, refused-did, batch-did}
+use Rattle.endpoint.proofs.Batches.{written-one}
 use Rattle.endpoint.proofs.Retells.{retold, ToldAs, told-all, told-nothing}
 use Rattle.endpoint.proofs.Settles.{did-settled}
-use Rattle.endpoint.proofs.Rooms.{full-events, full-buffer, room-one}
+use Rattle.endpoint.proofs.Rooms.{full-events, full-bytes, room-bytes}
 
 neither : (x y : Bool) → x || y ≡ false → y ≡ false
 neither true y h = cc
@@ -136,11 +136,11 @@ module _ (e : Endpoint) (frame : ℕ) (bytes : List ℕ) (st : Statuses) (now : 
       wide : length bytes ≡ w
       wide = eqb-true (length bytes) w (not-false (eqb (length bytes) w) (neither (not (eqb (st .count) (e .setup .«num_players»))) _ right))
 
-      pub send-silent : isRunning (e .phase) ≡ false → Sends e Done buffer
+      pub send-silent : isRunning (e .sync .phase) ≡ false → Sends e Done buffer
       unfolding step sendStep decided seen
       send-silent h = refused-did e Done _ (rw (good, tested ∙ right, h)) buffer
 
-      module _ (running : isRunning (e .phase) ≡ true) where
+      module _ (running : isRunning (e .sync .phase) ≡ true) where
         pub send-frame : badAfter (lastFrame (e .acked .frame) before) frame ≡ true → Sends e BadFrame buffer
         unfolding step sendStep decided seen badFrame
         send-frame h = refused-did e BadFrame _ (rw (good, tested ∙ right, running, h)) buffer
@@ -172,34 +172,28 @@ module _ (e : Endpoint) (frame : ℕ) (bytes : List ℕ) (st : Statuses) (now : 
               unfolding seen accepted
               send-untold m em k = send-full (sym (ep .ok) ∙ ok) (full-events buffer Sending (rw (← telling) (sym (crowded (e .events) disconnection m em (leb 129 n) k .ok))))
 
-              module _ (a : ℕ) (ea : a ≡ newestOf (received (e .history)))
-                  (q : Queued) (b′ : List ℕ)
-                  (eq : QueuedAs buffer (e .queued) (pendingInput (e .setup .magic) a (heldStatuses st) (waiting (p .pending)) w (e .acked)) q b′) where
-                wire : pendingInput (e .setup .magic) a (heldStatuses st) (waiting (p .pending)) w (e .acked) ≡ pendingIn (heldStatuses st) (accepted taken (seen e))
+              -- size: the bytes that the Input takes, f: whether they have no room
+              module _ (size : ℕ) (sized : InputSizedAs (heldStatuses st) (waiting (p .pending)) w size) (long : length (e .acked .bytes) ≡ 64) (f : Bool)
+                  (ef : f ≡ bufferFull (length buffer) (e .queued) size) where
+                whole : sizes (Sending .out) ≡ size
+                unfolding seen accepted termsWith sizes
+                whole = rw (← ew, ← pends, add-zero, sized .sized (e .setup .magic) (newestOf (received (e .history))) (e .acked) long)
+
+                pub send-choked : f ≡ true → Sends e Full buffer
+                unfolding seen accepted
+                send-choked k = send-full (sym (ep .ok) ∙ ok) (full-bytes buffer Sending (rw (whole, ← ef, k)))
+
+                -- s: e after what is told
+                pub send-done : f ≡ false → (s : Endpoint) → Telling e n s → (a : ℕ) → a ≡ newestOf (received (s .history)) → (q : Queued) (b′ : List ℕ)
+                    → QueuedAs buffer (s .queued) (pendingInput (s .setup .magic) a (heldStatuses st) (waiting (p .pending)) w (e .acked)) q b′
+                    → Sends (remade s (p .pending) (s .acked) (s .history) (s .sync) (s .nonces) (Timers.sentAt now (s .clocks)) (s .flags) (s .quality) (s .statuses) (s .checksums) (s .events) (q .end)) Done b′
                 unfolding seen accepted termsWith
-                wire = rw (ea, ew, pends)
-
-                some : 0 < tableSize (pendingIn (heldStatuses st) (accepted taken (seen e)))
-                unfolding pendingInput
-                some = omega arith
-
-                queued : QueuedAs buffer (e .queued) (pendingIn (heldStatuses st) (accepted taken (seen e))) q b′
-                queued = rw (← wire) eq
-
-                pub send-choked : q .ok ≡ false → Sends e Full b′
-                unfolding seen accepted
-                send-choked k =
-                    rw (rw k at (queued .lent))
-                    (send-full (sym (ep .ok) ∙ ok) (full-buffer buffer Sending _ some refl (not-false _ (sym (queued .ok) ∙ k))))
-
-                pub send-done : q .ok ≡ true → (s : Endpoint) → Telling e n s
-                    → Sends (remade s (p .pending) (s .acked) (s .history) (s .phase) (s .sync) (Timers.sentAt now (s .clocks)) (s .flags) (s .quality) (s .statuses) (s .checksums) (s .events) (q .end)) Done b′
-                unfolding seen accepted
                 send-done k s es =
-                    rw (es .rest)
-                    (queued-did e _ Sending Does
-                    (send-fits (sym (ep .ok) ∙ ok) (room-one buffer Sending _ some refl (rw (← telling) (es .room)) (not-true _ (sym (queued .ok) ∙ k))))
-                    _ refl buffer b′ q queued k refl (rw (pends, es .view, telling)))
+                    let fit : bufferFull (length buffer) (e .queued) (sizes (Sending .out)) ≡ false = rw (whole, ← ef, k) in
+                    rw (es .rest) (λ a ea q b′ eq.
+                    batch-did e _ Sending Does buffer b′ (q .end)
+                    (send-fits (sym (ep .ok) ∙ ok) (room-bytes buffer Sending (rw (← telling) (es .room)) fit))
+                    refl (written-one buffer (e .queued) _ q b′ (rw (ea, ew, pends) at eq) fit) (rw (pends, es .view, telling)))
 
   pub send-input-settled : (r s : Ended) (b c : List ℕ) → DidAs e Does buffer r b → DidAs e Does buffer s c
       → (r .answer ≡ s .answer) × (seen (r .endpoint) ≡ seen (s .endpoint)) × (b ≡ c)

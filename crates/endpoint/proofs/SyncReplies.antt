@@ -1,37 +1,40 @@
 -- The ways out of a SyncReply: ignored, one of the first that count, the last.
 use borrow.Author.Tests.{lt-ltb, le-ltb}
-use mathlib.Core.Bool.{Bool, true, false, _&&_}
+use mathlib.Core.Bool.{Bool, true, false, not, _&&_}
 use mathlib.Core.List.{List, [], _∷_}
-use mathlib.Core.Path.{_≡_, refl, ap}
+use mathlib.Core.Path.{_≡_, refl, _∙_, ap}
 use Prim.Native.Nat.{ℕ, _-_, _<_, _≤_}
 use lib.Dec.{ltb}
-use lib.ListN.{length, replicate}
+use lib.ListN.{length}
+use Rattle.base.specs.Lay.{noRoom}
 use Rattle.answer.specs.declared.Answer.{Answer}
 use Rattle.answer.specs.declared.Answer.the-variants.{Done, Full}
+use Rattle.codec.specs.Message.{tableSize}
 use Rattle.setup.specs.Setup.{termsWith}
 use Rattle.timers.specs.declared.Clocks.{Clocks}
 use Rattle.timers.specs.Timers.{heardAt}
-use Rattle.nonces.specs.Nonces.{outstanding, isOutstanding, spent}
+use Rattle.nonces.specs.declared.Nonces.{Nonces}
+use Rattle.nonces.specs.declared.Issued.{Issued}
+use Rattle.nonces.specs.Nonces.{outstanding, isOutstanding, spent, fits, IssuedAs}
 use Rattle.events.specs.declared.Pushed.{Pushed}
 use Rattle.events.specs.declared.Event.the-variants as Event
-use Rattle.events.specs.Events.{held, hasRoom, PushedAs}
+use Rattle.events.specs.Events.{held, hasRoom, plain, PushedAs}
 use Rattle.protocol.specs.declared.Phase.the-variants.{Synchronizing, Running}
-use Rattle.protocol.specs.Seen.{Sync as SeenSync, isSynchronizing, isRunning, heardAt as heardSeen}
+use Rattle.protocol.specs.Seen.{isSynchronizing, isRunning, heardAt as heardSeen}
 use Rattle.protocol.specs.Did.{decided, begin, queueWire}
 use Rattle.protocol.specs.Handshake.{Reaction, plainly, nonceIssued, request, counted, running, replied, onSyncReply}
 use Rattle.protocol.specs.Step.{heard, reacted}
 use Rattle.protocol.proofs.Laws.{heard-quiet, by-hearing}
 use Rattle.endpoint.specs.declared.Endpoint.{Endpoint}
 use Rattle.endpoint.specs.declared.Ended.{Ended}
-use Rattle.endpoint.specs.declared.Sync.{Sync}
 use Rattle.endpoint.specs.declared.handshake.Requested.{Requested}
 use Rattle.endpoint.specs.Endpoint.{seen, DidAs, DoneAs}
-use Rattle.endpoint.specs.Handshaking.{syncOf, countedSync, RequestedAs}
+use Rattle.endpoint.specs.Handshaking.{requestWire, RequestedAs}
 use Rattle.endpoint.proofs.Ends.{remade, refused-did, refused-done, queued-did, done-done}
 use Rattle.endpoint.proofs.Rooms.{full-events, room-none, reacted-full, reacted-done}
 use Rattle.endpoint.proofs.Hears.{not-resumes}
 use Rattle.endpoint.proofs.Unqueued.{unqueued}
-use Rattle.endpoint.proofs.Asks.{request-full, request-fits}
+use Rattle.endpoint.proofs.Asks.{request-full, request-fits, nonces-after}
 
 module _ (e : Endpoint) (now nonce magic reply : ℕ) where
   -- by whether more are to come
@@ -48,49 +51,43 @@ module _ (e : Endpoint) (now nonce magic reply : ℕ) where
     unfolding replied counted running seen
     last-untold = refused-done e Full _ (reacted-full 0 (seen e) (Counting false) refl refl (full-events [] (Counting false .effect) crowded))
 
-  -- y: the handshake with the reply counted
-  module _ (y : Sync) (ey : syncOf y ≡ countedSync reply (e .sync)) where
-    left : y .remaining ≡ e .sync .remaining - 1
-    left = ap (λ (x : SeenSync). x .remaining) ey
-
-    unspent : outstanding (y .nonces) ≡ spent reply (outstanding (e .sync .nonces))
-    unspent = ap (λ (x : SeenSync). x .nonces) ey
-
-    filter : y .«remote_magic» ≡ e .sync .«remote_magic»
-    filter = ap (λ (x : SeenSync). x .remoteMagic) ey
-
+  -- v: the nonces without the reply's
+  module _ (v : Nonces) (ev : outstanding v ≡ spent reply (outstanding (e .nonces))) (left : ℕ) (el : left ≡ e .sync .remaining - 1) where
     module _ (buffer : List ℕ) where
       abbrev Early : Endpoint → Answer → List ℕ → Type 0
       Early n a buffer′ = DidAs e (reacted (length buffer) (seen e) (Counting true)) buffer (record { answer = a; endpoint = n }) buffer′
 
-      module _ (d : Clocks) (ed : d ≡ heardAt now (e .clocks)) (r : Requested) (buffer′ : List ℕ) (er : RequestedAs y d (e .setup .magic) now nonce buffer (e .queued) r buffer′) where
+      module _ (d : Clocks) (ed : d ≡ heardAt now (e .clocks)) (i : Issued) (ei : IssuedAs v nonce i) (r : Requested) (buffer′ : List ℕ)
+          (er : RequestedAs (i .ok) d (e .setup .magic) now nonce buffer (e .queued) r buffer′) where
+        fit : r .ok ≡ fits nonce (spent reply (outstanding (e .nonces))) && not (noRoom buffer (e .queued) (tableSize (requestWire (e .setup .magic) nonce)))
+        fit = er .ok ∙ rw (ei .ok, ev)
+
         pub early-choked : r .ok ≡ false → Early e Full buffer′
         unfolding reacted decided replied request counted nonceIssued queueWire seen termsWith
         early-choked k =
             rw (er .same k) (refused-did e Full _
-            (rw (request-full buffer (e .setup .magic) nonce (spent reply (outstanding (e .sync .nonces))) (Counting true .effect) refl (r .ok) (rw unspent at (er .ok)) k)) buffer)
+            (rw (request-full buffer (e .setup .magic) nonce (spent reply (outstanding (e .nonces))) (Counting true .effect) refl (r .ok) fit k)) buffer)
 
-        -- count: what is told
-        pub early-done : (count : ℕ) (p : Pushed) → count ≡ 5 - y .remaining → hasRoom (held (e .events)) 1 ≡ true
-            → PushedAs (e .events) (hasRoom (held (e .events)) 1) (record { event = Event.Synchronizing 5 count; input = replicate 16 0 } ∷ []) p → r .ok ≡ true
-            → Early (remade e (e .pending) (e .acked) (e .history) (e .phase) (r .sync) (r .clocks) (e .flags) (e .quality) (e .statuses) (e .checksums) (p .events) (r .end)) Done buffer′
+        pub early-done : (p : Pushed) → hasRoom (held (e .events)) 1 ≡ true
+            → PushedAs (e .events) (hasRoom (held (e .events)) 1) (plain (Event.Synchronizing 5 (5 - left)) ∷ []) p → r .ok ≡ true
+            → Early (remade e (e .pending) (e .acked) (e .history) (record { phase = e .sync .phase; remaining = left; «remote_magic» = e .sync .«remote_magic» }) (i .nonces) (r .clocks) (e .flags) (e .quality) (e .statuses) (e .checksums) (p .events) (r .end)) Done buffer′
         unfolding reacted decided replied request counted nonceIssued queueWire seen termsWith
-        early-done count p ec room ep k =
+        early-done p room ep k =
             queued-did e _ (Counting true .effect) _
-            (rw (request-fits buffer (e .setup .magic) nonce (spent reply (outstanding (e .sync .nonces))) (Counting true .effect) refl (r .ok) (rw unspent at (er .ok)) k room))
+            (rw (request-fits buffer (e .setup .magic) nonce (spent reply (outstanding (e .nonces))) (Counting true .effect) refl (r .ok) fit k room))
             _ refl buffer buffer′ _ (er .queued k) refl refl
-            (rw (er .sync k, unspent, filter, er .clocks k, ed, rw room at (ep .view), ec, left))
+            (rw (nonces-after i ei er k, ev, er .clocks k, ed, rw room at (ep .view), el))
 
     abbrev Last : Endpoint → Type 0
     Last n = DoneAs e (reacted 0 (seen e) (Counting false)) (record { answer = Done; endpoint = n })
 
     pub last-done : (d : Clocks) (p : Pushed) → hasRoom (held (e .events)) 1 ≡ true → d ≡ heardAt now (e .clocks)
-        → PushedAs (e .events) (hasRoom (held (e .events)) 1) (record { event = Event.Synchronized; input = replicate 16 0 } ∷ []) p
-        → Last (remade e (e .pending) (e .acked) (e .history) Running (record { remaining = y .remaining; nonces = y .nonces; «remote_magic» = magic }) d (e .flags) (e .quality) (e .statuses) (e .checksums) (p .events) (e .queued))
+        → PushedAs (e .events) (hasRoom (held (e .events)) 1) (plain Event.Synchronized ∷ []) p
+        → Last (remade e (e .pending) (e .acked) (e .history) (record { phase = Running; remaining = left; «remote_magic» = magic }) v d (e .flags) (e .quality) (e .statuses) (e .checksums) (p .events) (e .queued))
     unfolding replied counted running seen
     last-done d p room ed ep =
         done-done e _ (Counting false .effect) _ (reacted-done 0 (seen e) (Counting false) refl refl refl (room-none [] (Counting false .effect) refl room)) refl
-        (rw (unspent, left, ed, rw room at (ep .view)))
+        (rw (ev, el, ed, rw room at (ep .view)))
 
   -- which of them it is
   module _ (buffer : List ℕ) where
@@ -98,13 +95,13 @@ module _ (e : Endpoint) (now nonce magic reply : ℕ) where
     Replies = DidAs e (reacted (length buffer) (seen e) (onSyncReply now nonce magic reply (heard now (seen e)))) buffer
 
     module _ (x : Ended) (d : DoneAs e (reacted 0 (seen e) (plainly (heard now (seen e)))) x) where
-      pub ignored : isSynchronizing (e .phase) && isOutstanding reply (outstanding (e .sync .nonces)) ≡ false → Replies x buffer
+      pub ignored : isSynchronizing (e .sync .phase) && isOutstanding reply (outstanding (e .nonces)) ≡ false → Replies x buffer
       unfolding onSyncReply replied seen
       ignored h =
           rw (by-hearing now (seen e) (λ f. onSyncReply now nonce magic reply f ≡ plainly f) (λ f t. rw h))
           (unqueued e (plainly (heard now (seen e))) (by-hearing now (seen e) (λ f. f .out ≡ []) (λ f t. refl)) buffer x d)
 
-    module _ (phase : e .phase ≡ Synchronizing) (found : isOutstanding reply (outstanding (e .sync .nonces)) ≡ true) where
+    module _ (phase : e .sync .phase ≡ Synchronizing) (found : isOutstanding reply (outstanding (e .nonces)) ≡ true) where
       counting : onSyncReply now nonce magic reply (heard now (seen e)) ≡ Counting (ltb 1 (e .sync .remaining))
       unfolding onSyncReply seen
       counting = rw (heard-quiet now (seen e) (not-resumes e (ap isRunning phase)), phase, found)

@@ -43,25 +43,25 @@ filled-part b queued n buffer h =
     sym (length-take-le n buffer fits)
 
 module _ (e : Endpoint) where
-  pub takes-events : TakenAs e (record { events = e .events; endpoint = remade e (e .pending) (e .acked) (e .history) (e .phase) (e .sync) (e .clocks) (e .flags) (e .quality) (e .statuses) (e .checksums) (record { entries = e .events .entries; used = 0 }) (e .queued) })
+  pub takes-events : TakenAs e (record { events = e .events; endpoint = remade e (e .pending) (e .acked) (e .history) (e .sync) (e .nonces) (e .clocks) (e .flags) (e .quality) (e .statuses) (e .checksums) (record { entries = e .events .entries; used = 0 }) (e .queued) })
   unfolding valueOf step seen
   takes-events = record { events = refl; after = rw (held-none (e .events)) }
 
   module _ (room : ℕ) where
-    pub take-short : not (isShutdown (e .phase)) && ltb room (e .queued) ≡ true → DoneAs e (step (Call.takeMessages room) (seen e)) (record { answer = Full; endpoint = e })
+    pub take-short : not (isShutdown (e .sync .phase)) && ltb room (e .queued) ≡ true → DoneAs e (step (Call.takeMessages room) (seen e)) (record { answer = Full; endpoint = e })
     unfolding step takeStep decided seen
     take-short h = refused-done e Full (takeStep room (seen e)) (rw h)
 
-    pub take-done : not (isShutdown (e .phase)) && ltb room (e .queued) ≡ false
-        → DoneAs e (step (Call.takeMessages room) (seen e)) (record { answer = Done; endpoint = remade e (e .pending) (e .acked) (e .history) (e .phase) (e .sync) (e .clocks) (e .flags) (e .quality) (e .statuses) (e .checksums) (e .events) 0 })
+    pub take-done : not (isShutdown (e .sync .phase)) && ltb room (e .queued) ≡ false
+        → DoneAs e (step (Call.takeMessages room) (seen e)) (record { answer = Done; endpoint = remade e (e .pending) (e .acked) (e .history) (e .sync) (e .nonces) (e .clocks) (e .flags) (e .quality) (e .statuses) (e .checksums) (e .events) 0 })
     unfolding step takeStep decided seen
     take-done h = rw h (record { answer = refl; after = refl; same = λ n. absurd (n refl) })
 
-    pub handed-is : pick (isShutdown (e .phase)) 0 (pick (ltb room (e .queued)) 0 (e .queued)) ≡ handedBack room (seen e)
+    pub handed-is : pick (isShutdown (e .sync .phase)) 0 (pick (ltb room (e .queued)) 0 (e .queued)) ≡ handedBack room (seen e)
     unfolding handedBack step takeStep decided refused filledPart seen
-    handed-is = go (isShutdown (e .phase)) refl (ltb room (e .queued)) refl
+    handed-is = go (isShutdown (e .sync .phase)) refl (ltb room (e .queued)) refl
       where
-        go : (b : Bool) → isShutdown (e .phase) ≡ b → (t : Bool) → ltb room (e .queued) ≡ t → pick (isShutdown (e .phase)) 0 (pick (ltb room (e .queued)) 0 (e .queued)) ≡ handedBack room (seen e)
+        go : (b : Bool) → isShutdown (e .sync .phase) ≡ b → (t : Bool) → ltb room (e .queued) ≡ t → pick (isShutdown (e .sync .phase)) 0 (pick (ltb room (e .queued)) 0 (e .queued)) ≡ handedBack room (seen e)
         go true eb t et = rw eb
         go false eb true et = rw (eb, et)
         go false eb false et = rw (eb, et)

@@ -37,11 +37,11 @@ module _ (e : Endpoint) where
   unfolding valueOf seen termsWith
   tells-handles = refl
 
-  pub tells-synchronized : (b : Bool) → b ≡ synchronizedIn (e .phase) → Value.flag b ≡ valueOf Call.isSynchronized (seen e)
+  pub tells-synchronized : (b : Bool) → b ≡ synchronizedIn (e .sync .phase) → Value.flag b ≡ valueOf Call.isSynchronized (seen e)
   unfolding valueOf seen
   tells-synchronized b h = rw h
 
-  pub tells-running : (b : Bool) → isRunning (e .phase) ≡ b → Value.flag b ≡ valueOf Call.isRunning (seen e)
+  pub tells-running : (b : Bool) → isRunning (e .sync .phase) ≡ b → Value.flag b ≡ valueOf Call.isRunning (seen e)
   unfolding valueOf seen
   tells-running b h = rw h
 
@@ -53,7 +53,7 @@ module _ (e : Endpoint) where
   unfolding valueOf seen
   tells-newest f h = rw h
 
-  pub tells-phase : Value.phase (e .phase) ≡ valueOf Call.state (seen e)
+  pub tells-phase : Value.phase (e .sync .phase) ≡ valueOf Call.state (seen e)
   unfolding valueOf seen
   tells-phase = refl
 
@@ -77,11 +77,11 @@ module _ (e : Endpoint) where
     stats-clock h = rw h
 
     module _ (good : badClock epoch ≡ false) where
-      pub stats-phase : not (isSynchronizing (e .phase) || isRunning (e .phase)) ≡ true → shownStats (Refused NotSynchronized) ≡ told (Call.networkStats epoch) (seen e)
+      pub stats-phase : not (isSynchronizing (e .sync .phase) || isRunning (e .sync .phase)) ≡ true → shownStats (Refused NotSynchronized) ≡ told (Call.networkStats epoch) (seen e)
       unfolding told step statsStep decided refused seen
       stats-phase h = rw (good, h)
 
-      module _ (talks : not (isSynchronizing (e .phase) || isRunning (e .phase)) ≡ false) where
+      module _ (talks : not (isSynchronizing (e .sync .phase) || isRunning (e .sync .phase)) ≡ false) where
         pub stats-early : ltb (epoch - e .quality .«stats_start_time») 1000 ≡ true → shownStats (Refused NotEnoughData) ≡ told (Call.networkStats epoch) (seen e)
         unfolding told step statsStep decided refused seen
         stats-early h = rw (good, talks, h)

@@ -2,19 +2,20 @@
 use borrow.Author.Tests.{ltb-true, ltb-false}
 use mathlib.Core.Bool.{Bool, true, false, _&&_, _||_}
 use mathlib.Core.List.{List, [], _∷_}
-use mathlib.Core.Path.{_≡_, refl, sym, _∙_, ap}
+use mathlib.Core.Path.{_≡_, refl, sym, _∙_}
 use native.Mathlib.Omega.{arith}
 use Prim.Native.Nat.{ℕ, _-_, _<_, _≤_}
 use lib.Dec.{ltb, leb}
 use lib.ListN.{length}
-use Rattle.base.specs.Pick.{pick}
 use Rattle.answer.specs.declared.Answer.{Answer}
 use Rattle.answer.specs.declared.Answer.the-variants.{Done, Full, Overflow}
 use Rattle.codec.specs.Message.{listed, kindOf}
 use Rattle.codec.specs.declared.Wide.{Wide}
 use Rattle.codec.specs.declared.Message.{Message}
 use Rattle.codec.specs.declared.MessageBody.the-variants.{SyncReply, Input, InputAck, ChecksumReport}
-use Rattle.nonces.specs.Nonces.{outstanding, isOutstanding}
+use Rattle.nonces.specs.declared.Issued.{Issued}
+use Rattle.nonces.specs.declared.Spent.{Spent}
+use Rattle.nonces.specs.Nonces.{outstanding, isOutstanding, IssuedAs, SpentAs}
 use Rattle.setup.specs.Setup.{intervalOf}
 use Rattle.timers.specs.declared.Clocks.{Clocks}
 use Rattle.timers.specs.Timers.{badClock, sentAt, heardAt}
@@ -27,21 +28,19 @@ use Rattle.events.specs.declared.Events.{Events}
 use Rattle.events.specs.declared.Pushed.{Pushed}
 use Rattle.events.specs.declared.Event.the-variants as Event
 use Rattle.events.specs.Events.{held, hasRoom, plain, PushedAs}
-use Rattle.protocol.specs.declared.Phase.{Phase}
-use Rattle.protocol.specs.declared.Phase.the-variants.{Initializing, Synchronizing, Running, Disconnected, Shutdown}
-use Rattle.protocol.specs.Seen.{Sync as SeenSync, isSynchronizing, isRunning}
+use Rattle.protocol.specs.declared.Phase.the-variants.{Synchronizing, Running}
+use Rattle.protocol.specs.Seen.{isSynchronizing, isRunning}
 use Rattle.protocol.specs.Handshake.{plainly}
 use Rattle.protocol.specs.Checksum.{checksumOf}
 use Rattle.protocol.specs.Step.{heard, reacted}
 use Rattle.endpoint.specs.declared.Endpoint.{Endpoint}
 use Rattle.endpoint.specs.declared.Ended.{Ended}
-use Rattle.endpoint.specs.declared.handshake.Counted.{Counted}
 use Rattle.endpoint.specs.declared.handshake.Requested.{Requested}
 use Rattle.endpoint.specs.declared.packet.Opened.{Opened}
 use Rattle.endpoint.specs.declared.reacting.Reacted.{Reacted}
 use Rattle.endpoint.specs.Endpoint.{seen, DidAs, DoneAs}
 use Rattle.endpoint.specs.Filter.{ignoredBy}
-use Rattle.endpoint.specs.Handshaking.{CountedAs, GoneOnAs}
+use Rattle.endpoint.specs.Handshaking.{RequestedAs}
 use Rattle.endpoint.specs.Heard.{resumedFlags}
 use Rattle.endpoint.specs.Opened.{OpenedAs}
 use Rattle.endpoint.specs.Reacted.{ReactedAs}
@@ -51,22 +50,14 @@ use Rattle.endpoint.proofs.Ears.{heardWith, ears-full, ears-quiet, ears
 use Rattle.endpoint.proofs.Ends.{remade}
 use Rattle.endpoint.proofs.Quiets.{only-full, only-heard}
 use Rattle.endpoint.proofs.Acknowledges.{ack-full, ack-done, dropped-sent}
-use Rattle.endpoint.proofs.Arrives.{both, input-discarded}
-use Rattle.endpoint.proofs.Asks.{false-true}
+use Rattle.endpoint.proofs.Arrives.{input-discarded}
 use Rattle.endpoint.proofs.ChecksumReports.{checksum-overflows, checksum-choked, checksum-untold, checksum-done}
 use Rattle.endpoint.proofs.SyncReplies.{Counting, early-untold, early-choked, early-done, last-untold, last-done, ignored, reply-early, reply-last}
 use Rattle.endpoint.proofs.Reactions.{ratedBy, react-refused, react-roomy, react-done}
 use Rattle.endpoint.proofs.Messages.{Does, sync-replied, input-came, acknowledged, checksum-reported}
 
-is-synchronizing : (p : Phase) → isSynchronizing p ≡ true → p ≡ Synchronizing
-is-synchronizing Initializing h = cc
-is-synchronizing Synchronizing h = refl
-is-synchronizing Running h = cc
-is-synchronizing Disconnected h = cc
-is-synchronizing Shutdown h = cc
-
 module _ (e : Endpoint) (from : ℕ) (m : Message) (p : List ℕ) (now epoch nonce : ℕ) (buffer : List ℕ) (good : badClock now || badClock epoch ≡ false)
-    (heeded : ignoredBy (e .phase) (e .setup .«peer_addr») (e .sync .«remote_magic») from (m .magic) ≡ false) where
+    (heeded : ignoredBy (e .sync .phase) (e .setup .«peer_addr») (e .sync .«remote_magic») from (m .magic) ≡ false) where
   abbrev Arrives : Ended → List ℕ → Type 0
   Arrives x b′ = DidAs e (Does e from m p now epoch nonce buffer) buffer x b′
 
@@ -77,75 +68,52 @@ module _ (e : Endpoint) (from : ℕ) (m : Message) (p : List ℕ) (now epoch non
   abbrev OnlyHeard : Type 0
   OnlyHeard = (x : Ended) → DoneAs e (reacted 0 (seen e) (plainly (heard now (seen e)))) x → Arrives x buffer
 
-  -- a SyncReply; y: the handshake with it, if it counts
-  module _ (reply : ℕ) (eb : m .body ≡ SyncReply reply) (y : Counted) (ey : CountedAs (e .sync) (e .phase) reply y) where
-    pub reply-passes : y .found ≡ false → OnlyHeard
-    reply-passes h x d = sync-replied e from m p now epoch nonce buffer good heeded x reply buffer eb (ignored e now nonce (m .magic) reply buffer x d (sym (ey .found) ∙ h))
+  -- a SyncReply
+  module _ (reply : ℕ) (eb : m .body ≡ SyncReply reply) where
+    -- that does not count
+    pub reply-passes : isSynchronizing (e .sync .phase) && isOutstanding reply (outstanding (e .nonces)) ≡ false → OnlyHeard
+    reply-passes h x d = sync-replied e from m p now epoch nonce buffer good heeded x reply buffer eb (ignored e now nonce (m .magic) reply buffer x d h)
 
-    module _ (counts : y .found ≡ true) where
-      why : (isSynchronizing (e .phase) ≡ true) × (isOutstanding reply (outstanding (e .sync .nonces)) ≡ true)
-      why = both (isSynchronizing (e .phase)) (isOutstanding reply (outstanding (e .sync .nonces))) (sym (ey .found) ∙ counts)
-
-      phase : e .phase ≡ Synchronizing
-      phase = is-synchronizing (e .phase) (why .0)
-
-      left : y .sync .remaining ≡ e .sync .remaining - 1
-      left = ap (λ (s : SeenSync). s .remaining) (ey .sync counts)
-
-      early : ltb 0 (y .sync .remaining) ≡ true → (x : Ended) (b′ : List ℕ)
+    -- that does; y: the nonces without its own
+    module _ (phase : e .sync .phase ≡ Synchronizing) (y : Spent) (ey : SpentAs (e .nonces) reply y) (counts : y .found ≡ true) where
+      early : 1 < e .sync .remaining → (x : Ended) (b′ : List ℕ)
           → DidAs e (reacted (length buffer) (seen e) (Counting e now nonce (m .magic) reply true)) buffer x b′ → Arrives x b′
-      early h x b′ d =
-          let more : 1 < e .sync .remaining = omega (arith, ltb-true 0 (y .sync .remaining) h, left) in
-          sync-replied e from m p now epoch nonce buffer good heeded x reply b′ eb (reply-early e now nonce (m .magic) reply buffer phase (why .1) more x b′ d)
+      early more x b′ d =
+          sync-replied e from m p now epoch nonce buffer good heeded x reply b′ eb (reply-early e now nonce (m .magic) reply buffer phase (sym (ey .found) ∙ counts) more x b′ d)
 
-      none : ltb 0 (y .sync .remaining) ≡ false → y .sync .remaining ≡ 0
-      none h = omega (arith, ltb-false 0 (y .sync .remaining) h)
+      last : e .sync .remaining ≤ 1 → (x : Ended) → DoneAs e (reacted 0 (seen e) (Counting e now nonce (m .magic) reply false)) x → Arrives x buffer
+      last one x d =
+          sync-replied e from m p now epoch nonce buffer good heeded x reply buffer eb (reply-last e now nonce (m .magic) reply buffer phase (sym (ey .found) ∙ counts) one x d)
 
-      last : ltb 0 (y .sync .remaining) ≡ false → (x : Ended) → DoneAs e (reacted 0 (seen e) (Counting e now nonce (m .magic) reply false)) x → Arrives x buffer
-      last h x d =
-          let one : e .sync .remaining ≤ 1 = omega (arith, none h, left) in
-          sync-replied e from m p now epoch nonce buffer good heeded x reply buffer eb (reply-last e now nonce (m .magic) reply buffer phase (why .1) one x d)
-
-      untold : (more : Bool) → ltb 0 (y .sync .remaining) ≡ more → hasRoom (held (e .events)) 1 ≡ false → Ends e Full buffer
-      untold true h k = early h _ buffer (early-untold e now nonce (m .magic) reply k buffer)
-      untold false h k = last h _ (last-untold e now nonce (m .magic) reply k)
+      untold : (more : Bool) → ltb 1 (e .sync .remaining) ≡ more → hasRoom (held (e .events)) 1 ≡ false → Ends e Full buffer
+      untold true h k = early (ltb-true 1 (e .sync .remaining) h) _ buffer (early-untold e now nonce (m .magic) reply k buffer)
+      untold false h k = last (ltb-false 1 (e .sync .remaining) h) _ (last-untold e now nonce (m .magic) reply k)
 
       -- n: how many events there are, f: whether no other can be told
       module _ (n : ℕ) (en : n ≡ length (held (e .events))) (f : Bool) (ef : f ≡ leb 640 n) where
         pub reply-untold : f ≡ true → Ends e Full buffer
-        reply-untold h = untold (ltb 0 (y .sync .remaining)) refl (one-crowds (e .events) n en (sym ef ∙ h))
+        reply-untold h = untold (ltb 1 (e .sync .remaining)) refl (one-crowds (e .events) n en (sym ef ∙ h))
 
-        module _ (told : f ≡ false) (c : Clocks) (ec : c ≡ heardAt now (e .clocks)) (g : Requested) (b′ : List ℕ)
-            (eg : GoneOnAs (y .sync) (m .magic) c (e .setup .magic) now nonce buffer (e .queued) g b′) where
-          choked : (more : Bool) → ltb 0 (y .sync .remaining) ≡ more → g .ok ≡ false → Ends e Full b′
-          choked true h k =
-              early h _ b′ (early-choked e now nonce (m .magic) reply (y .sync) (ey .sync counts) buffer c ec g b′ (eg .asks (ltb-true 0 (y .sync .remaining) h)) k)
-          choked false h k = absurd (false-true (sym k ∙ ap (λ (z : Requested). z .ok) (eg .ends (none h))))
+        -- l: how many replies are to come
+        module _ (told : f ≡ false) (c : Clocks) (ec : c ≡ heardAt now (e .clocks)) (l : ℕ) (el : l ≡ e .sync .remaining - 1) where
+          room : hasRoom (held (e .events)) 1 ≡ true
+          room = one-fits (e .events) n en (sym ef ∙ told)
 
-          pub reply-choked : g .ok ≡ false → Ends e Full b′
-          reply-choked = choked (ltb 0 (y .sync .remaining)) refl
+          module _ (more : 0 < l) (i : Issued) (ei : IssuedAs (y .nonces) nonce i) (g : Requested) (b′ : List ℕ)
+              (eg : RequestedAs (i .ok) c (e .setup .magic) now nonce buffer (e .queued) g b′) where
+            pub reply-choked : g .ok ≡ false → Ends e Full b′
+            reply-choked k =
+                early (omega (arith, more, el)) _ b′ (early-choked e now nonce (m .magic) reply (y .nonces) (ey .view) l el buffer c ec i ei g b′ eg k)
 
-          -- t: the phase after it, x: what is told
-          module _ (t : Phase) (et : t ≡ pick (ltb 0 (y .sync .remaining)) Synchronizing Running) (x : Entry)
-              (ex : x ≡ plain (pick (ltb 0 (y .sync .remaining)) (Event.Synchronizing 5 (5 - y .sync .remaining)) Event.Synchronized)) (q : Pushed)
-              (eq : PushedAs (e .events) (hasRoom (held (e .events)) 1) (x ∷ []) q) where
-            room : hasRoom (held (e .events)) 1 ≡ true
-            room = one-fits (e .events) n en (sym ef ∙ told)
+            pub reply-goes-on : (x : Entry) → x ≡ plain (Event.Synchronizing 5 (5 - l)) → (q : Pushed) → PushedAs (e .events) (hasRoom (held (e .events)) 1) (x ∷ []) q → g .ok ≡ true
+                → Ends (remade e (e .pending) (e .acked) (e .history) (record { phase = e .sync .phase; remaining = l; «remote_magic» = e .sync .«remote_magic» }) (i .nonces) (g .clocks) (e .flags) (e .quality) (e .statuses) (e .checksums) (q .events) (g .end)) Done b′
+            reply-goes-on x ex q eq k =
+                early (omega (arith, more, el)) _ b′ (early-done e now nonce (m .magic) reply (y .nonces) (ey .view) l el buffer c ec i ei g b′ eg q room (rw ex at eq) k)
 
-            abbrev Replied : Endpoint
-            Replied = remade e (e .pending) (e .acked) (e .history) t (g .sync) (g .clocks) (e .flags) (e .quality) (e .statuses) (e .checksums) (q .events) (g .end)
-
-            done : (more : Bool) → ltb 0 (y .sync .remaining) ≡ more → g .ok ≡ true → Ends Replied Done b′
-            done true h k =
-                let same : t ≡ e .phase = (rw h at et) ∙ sym phase in
-                rw same (early h _ b′ (early-done e now nonce (m .magic) reply (y .sync) (ey .sync counts) buffer c ec g b′ (eg .asks (ltb-true 0 (y .sync .remaining) h))
-                (5 - y .sync .remaining) q refl room (rw (ex, h) at eq) k))
-            done false h k =
-                rw (rw h at et, eg .ends (none h), eg .same (none h))
-                (last h _ (last-done e now nonce (m .magic) reply (y .sync) (ey .sync counts) c q room ec (rw (ex, h) at eq)))
-
-            pub reply-done : g .ok ≡ true → Ends Replied Done b′
-            reply-done = done (ltb 0 (y .sync .remaining)) refl
+          pub reply-over : l ≤ 0 → (x : Entry) → x ≡ plain Event.Synchronized → (q : Pushed) → PushedAs (e .events) (hasRoom (held (e .events)) 1) (x ∷ []) q
+              → Ends (remade e (e .pending) (e .acked) (e .history) (record { phase = Running; remaining = l; «remote_magic» = m .magic }) (y .nonces) c (e .flags) (e .quality) (e .statuses) (e .checksums) (q .events) (e .queued)) Done buffer
+          reply-over none x ex q eq =
+              last (omega (arith, none, el)) _ (last-done e now nonce (m .magic) reply (y .nonces) (ey .view) l el c q room ec (rw ex at eq))
 
   -- an Input that is discarded
   pub input-passes : (d : Bool) (start ack : ℕ) → m .body ≡ Input d start ack → (o : Opened) → OpenedAs (e .history) (e .setup) d start (m .reports .count) (length p) o
@@ -155,7 +123,7 @@ module _ (e : Endpoint) (from : ℕ) (m : Message) (p : List ℕ) (now epoch non
       (input-discarded e buffer now (m .reports .count) ack start d (listed (m .reports)) p (o .discarded) (eo .discarded) h x dx)
 
   -- r: whether an interruption ends, n: how many events there are, f: whether that cannot be told
-  module _ (r : Bool) (er : r ≡ (isRunning (e .phase) && e .flags .«disconnect_notify_sent»)) (n : ℕ) (en : n ≡ length (held (e .events))) (f : Bool) (ef : f ≡ (r && leb 640 n)) where
+  module _ (r : Bool) (er : r ≡ (isRunning (e .sync .phase) && e .flags .«disconnect_notify_sent»)) (n : ℕ) (en : n ≡ length (held (e .events))) (f : Bool) (ef : f ≡ (r && leb 640 n)) where
     abbrev Unheard : Ears
     Unheard = heardWith e now r er n en f ef false (e .events)
 
@@ -168,7 +136,7 @@ module _ (e : Endpoint) (from : ℕ) (m : Message) (p : List ℕ) (now epoch non
     -- as a message leaves it that falls through with s, where t is told
     abbrev pub Ending : Endpoint → Events → Endpoint
     Ending s t =
-        remade s (s .pending) (s .acked) (s .history) (s .phase) (s .sync) (heardAt now (s .clocks)) (resumedFlags r (s .flags)) (s .quality) (s .statuses) (s .checksums) t (s .queued)
+        remade s (s .pending) (s .acked) (s .history) (s .sync) (s .nonces) (heardAt now (s .clocks)) (resumedFlags r (s .flags)) (s .quality) (s .statuses) (s .checksums) t (s .queued)
 
     abbrev Hearing : Events → Type 0
     Hearing t = HeardAs e (heard now (seen e)) (heardWith e now r er n en f ef true t)
@@ -183,7 +151,7 @@ module _ (e : Endpoint) (from : ℕ) (m : Message) (p : List ℕ) (now epoch non
     only-left by h = record { room = h; events = refl; ends = λ t k. by _ (only-heard e now (heardWith e now r er n en f ef true t) refl k) }
 
     pub ack-left : (ack : ℕ) → m .body ≡ InputAck ack → f ≡ false → (d : Dropped) → DroppedAs (e .pending) ack (e .acked) d
-        → Left (remade e (d .pending) (d .last) (e .history) (e .phase) (e .sync) (e .clocks) (e .flags) (e .quality) (e .statuses) (e .checksums) (e .events) (e .queued)) buffer
+        → Left (remade e (d .pending) (d .last) (e .history) (e .sync) (e .nonces) (e .clocks) (e .flags) (e .quality) (e .statuses) (e .checksums) (e .events) (e .queued)) buffer
     ack-left ack eb h d ed =
         record {
           room = h;
@@ -209,7 +177,7 @@ module _ (e : Endpoint) (from : ℕ) (m : Message) (p : List ℕ) (now epoch non
         report-choked h = checksum-reported e from m p now epoch nonce buffer good heeded _ checksum frame eb (checksum-choked e checksum frame now i ei y ey within h)
 
         pub report-left : f ≡ false → y .full ≡ false
-            → Left (remade e (e .pending) (e .acked) (e .history) (e .phase) (e .sync) (e .clocks) (e .flags) (e .quality) (e .statuses) (y .checksums) (e .events) (e .queued)) buffer
+            → Left (remade e (e .pending) (e .acked) (e .history) (e .sync) (e .nonces) (e .clocks) (e .flags) (e .quality) (e .statuses) (y .checksums) (e .events) (e .queued)) buffer
         report-left h c =
             record {
               room = h;
@@ -228,7 +196,7 @@ module _ (e : Endpoint) (from : ℕ) (m : Message) (p : List ℕ) (now epoch non
           (λ z. others .0 (ek ∙ z), λ z. others .1 (ek ∙ z), λ z. others .2 (ek ∙ z), λ z. others .3 (ek ∙ z))
 
       pub react-left : y .ok ≡ true
-          → Left (remade e (e .pending) (e .acked) (e .history) (e .phase) (e .sync) (sentAt (y .«last_send_time») (e .clocks)) (e .flags) (ratedBy y (e .quality)) (e .statuses) (e .checksums) (e .events) (y .end)) b′
+          → Left (remade e (e .pending) (e .acked) (e .history) (e .sync) (e .nonces) (sentAt (y .«last_send_time») (e .clocks)) (e .flags) (ratedBy y (e .quality)) (e .statuses) (e .checksums) (e .events) (y .end)) b′
       react-left h =
           let room : f ≡ false = react-roomy e from m p now epoch nonce buffer good heeded r er n en f ef y b′ ey h in
           record {
@@ -242,9 +210,9 @@ module _ (e : Endpoint) (from : ℕ) (m : Message) (p : List ℕ) (now epoch non
     -- the end, by whether an interruption ends
     module _ (s : Endpoint) (b′ : List ℕ) (l : Left s b′) where
       pub ends-quiet : r ≡ false → length (e .events .entries) ≡ 640
-          → Ends (remade s (s .pending) (s .acked) (s .history) (s .phase) (s .sync) (heardAt now (s .clocks)) (s .flags) (s .quality) (s .statuses) (s .checksums) (s .events) (s .queued)) Done b′
+          → Ends (remade s (s .pending) (s .acked) (s .history) (s .sync) (s .nonces) (heardAt now (s .clocks)) (s .flags) (s .quality) (s .statuses) (s .checksums) (s .events) (s .queued)) Done b′
       ends-quiet h k = rw h at (l .ends (s .events) (rw (l .events) (ears-quiet e now r er n en f ef h k)))
 
       pub ends-told : r ≡ true → (x : Entry) → x ≡ plain Event.NetworkResumed → (q : Pushed) → PushedAs (s .events) (hasRoom (held (s .events)) 1) (x ∷ []) q
-          → Ends (remade s (s .pending) (s .acked) (s .history) (s .phase) (s .sync) (heardAt now (s .clocks)) (resumedFlags true (s .flags)) (s .quality) (s .statuses) (s .checksums) (q .events) (s .queued)) Done b′
+          → Ends (remade s (s .pending) (s .acked) (s .history) (s .sync) (s .nonces) (heardAt now (s .clocks)) (resumedFlags true (s .flags)) (s .quality) (s .statuses) (s .checksums) (q .events) (s .queued)) Done b′
       ends-told h x ex q eq = rw h at (l .ends (q .events) (ears-told e now r er n en f ef (l .room) h x ex q (rw (l .events) at eq)))

@@ -12,7 +12,7 @@ use Rattle.status.specs.Statuses.{held as heldStatuses}
 use Rattle.checksums.specs.Checksums.{stored}
 use Rattle.events.specs.Events.{held as heldEvents}
 use Rattle.setup.specs.Setup.{termsOf}
-use Rattle.protocol.specs.Seen.{Seen, Sender, Receiver, Carried, Sync}
+use Rattle.protocol.specs.Seen.{Seen}
 use Rattle.protocol.specs.Did.{Did}
 use Rattle.endpoint.specs.declared.Endpoint.{Endpoint}
 use Rattle.endpoint.specs.declared.Ended.{Ended}
@@ -26,8 +26,8 @@ seen e =
         sender = record { pending = waiting (e .pending); acked = e .acked };
         receiver = record { history = received (e .history) };
       };
-      phase = e .phase;
-      sync = record { remaining = e .sync .remaining; nonces = outstanding (e .sync .nonces); remoteMagic = e .sync .«remote_magic» };
+      phase = e .sync .phase;
+      sync = record { remaining = e .sync .remaining; nonces = outstanding (e .nonces); remoteMagic = e .sync .«remote_magic» };
       clocks = e .clocks;
       flags = e .flags;
       quality = e .quality;

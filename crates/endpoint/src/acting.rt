@@ -6,7 +6,9 @@ ghost use Rattle.protocol.specs.Step.{step};
 ghost use Rattle.endpoint.specs.Endpoint.{seen, DidAs};
 use crate::Ended;
 use crate::Endpoint;
+use crate::Sync;
 use crate::batch;
+use crate::handshake;
 use crate::plan;
 use answer::Answer;
 use protocol::Phase;
@@ -41,13 +43,16 @@ impl Endpoint {
                 answer: Answer::BadLength,
             };
         }
-        let phase = self.phase;
+        let sync = self.sync;
+        let phase = sync.phase;
         match phase {
             // Another request, where none was made for a while.
             Phase::Synchronizing => {
                 let last = self.clocks.last_sync_request_time;
                 if timers::passed(last, SYNC_RETRY_INTERVAL, now) {
-                    let requested = self.sync.request(
+                    let issued = self.nonces.issue(nonce);
+                    let requested = handshake::request(
+                        issued.ok,
                         self.clocks,
                         self.setup.magic,
                         now,
@@ -61,9 +66,9 @@ impl Endpoint {
                             answer: Answer::Full,
                         };
                     }
-                    let sync = requested.sync;
+                    let nonces = issued.nonces;
                     let clocks = requested.clocks;
-                    self.sync = sync;
+                    self.nonces = nonces;
                     self.clocks = clocks;
                     self.queued = requested.end;
                 }
@@ -140,10 +145,11 @@ impl Endpoint {
             // The wait after a disconnect comes to its end.
             Phase::Disconnected => {
                 if self.clocks.shutdown_timeout < now {
-                    self = Endpoint {
+                    let sync = Sync {
                         phase: Phase::Shutdown,
-                        ..self
+                        ..self.sync
                     };
+                    self.sync = sync;
                 }
                 return Ended {
                     endpoint: self,

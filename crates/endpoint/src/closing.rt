@@ -4,6 +4,7 @@ ghost use Rattle.protocol.specs.Step.{step};
 ghost use Rattle.endpoint.specs.Endpoint.{seen, DoneAs};
 use crate::Ended;
 use crate::Endpoint;
+use crate::Sync;
 use answer::Answer;
 use protocol::Phase;
 
@@ -21,7 +22,8 @@ impl Endpoint {
                 answer: Answer::BadClock,
             };
         }
-        let phase = self.phase;
+        let sync = self.sync;
+        let phase = sync.phase;
         if let Phase::Shutdown = phase {
             return Ended {
                 endpoint: self,
@@ -29,10 +31,11 @@ impl Endpoint {
             };
         }
         let clocks = self.clocks.shutting_down(now + UDP_SHUTDOWN_TIMER);
-        self = Endpoint {
+        let sync = Sync {
             phase: Phase::Disconnected,
-            ..self
+            ..self.sync
         };
+        self.sync = sync;
         self.clocks = clocks;
         Ended {
             endpoint: self,

@@ -8,6 +8,7 @@ ghost use Rattle.endpoint.specs.Endpoint.{seen, DidAs};
 ghost use Rattle.endpoint.specs.Filter.{ignoredBy};
 use crate::Ended;
 use crate::Endpoint;
+use crate::Sync;
 use crate::batch;
 use crate::handshake;
 use crate::hearing;
@@ -54,7 +55,8 @@ impl Endpoint {
             };
         }
         let magic = message.magic;
-        let phase = self.phase;
+        let sync = self.sync;
+        let phase = sync.phase;
         if is_ignored(
             phase,
             self.setup.peer_addr,
@@ -79,49 +81,66 @@ impl Endpoint {
                         answer: Answer::BadKind,
                     };
                 };
-                // One that counts is told, and another request goes out or the handshake is over.
-                let counted = self.sync.count_reply(phase, random_reply);
-                if counted.found {
-                    let sync = counted.sync;
-                    let remaining = sync.remaining;
-                    if telling::is_crowded(true, self.events.count()) {
+                // One that counts is told, and another request goes out or the handshake is over: from then on the filter asks for its magic.
+                if let Phase::Synchronizing = phase {
+                    let spent = self.nonces.spend(random_reply);
+                    if spent.found {
+                        if telling::is_crowded(true, self.events.count()) {
+                            return Ended {
+                                endpoint: self,
+                                answer: Answer::Full,
+                            };
+                        }
+                        let heard = self.clocks.heard(now);
+                        let remaining = handshake::less(self.sync.remaining, 1);
+                        if 0 < remaining {
+                            let issued = spent.nonces.issue(nonce);
+                            let requested = handshake::request(
+                                issued.ok,
+                                heard,
+                                self.setup.magic,
+                                now,
+                                nonce,
+                                out,
+                                self.queued,
+                            );
+                            if !requested.ok {
+                                return Ended {
+                                    endpoint: self,
+                                    answer: Answer::Full,
+                                };
+                            }
+                            let told = self.events.push(handshake::progress(remaining));
+                            let events = told.events;
+                            let nonces = issued.nonces;
+                            let clocks = requested.clocks;
+                            self.sync.remaining = remaining;
+                            self.nonces = nonces;
+                            self.clocks = clocks;
+                            self.events = events;
+                            self.queued = requested.end;
+                            return Ended {
+                                endpoint: self,
+                                answer: Answer::Done,
+                            };
+                        }
+                        let told = self.events.push(handshake::completion());
+                        let events = told.events;
+                        let nonces = spent.nonces;
+                        let sync = Sync {
+                            phase: Phase::Running,
+                            remaining,
+                            remote_magic: magic,
+                        };
+                        self.sync = sync;
+                        self.nonces = nonces;
+                        self.clocks = heard;
+                        self.events = events;
                         return Ended {
                             endpoint: self,
-                            answer: Answer::Full,
+                            answer: Answer::Done,
                         };
                     }
-                    let heard = self.clocks.heard(now);
-                    let next = sync.go_on(
-                        magic,
-                        heard,
-                        self.setup.magic,
-                        now,
-                        nonce,
-                        out,
-                        self.queued,
-                    );
-                    if !next.ok {
-                        return Ended {
-                            endpoint: self,
-                            answer: Answer::Full,
-                        };
-                    }
-                    let sync = next.sync;
-                    let clocks = next.clocks;
-                    self = Endpoint {
-                        phase: handshake::phase_after(remaining),
-                        ..self
-                    };
-                    self.sync = sync;
-                    self.clocks = clocks;
-                    self.queued = next.end;
-                    let told = self.events.push(handshake::progress(remaining));
-                    let events = told.events;
-                    self.events = events;
-                    return Ended {
-                        endpoint: self,
-                        answer: Answer::Done,
-                    };
                 }
                 if full {
                     return Ended {

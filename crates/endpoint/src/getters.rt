@@ -77,14 +77,16 @@ impl Endpoint {
     pub fn is_synchronized(self) -> bool
         ensures { λ r. ⌜ Value.flag r ≡ valueOf Call.isSynchronized (seen self) ⌝ }
     {
-        let phase = self.phase;
+        let sync = self.sync;
+        let phase = sync.phase;
         is_synchronized_in(phase)
     }
 
     pub fn is_running(self) -> bool
         ensures { λ r. ⌜ Value.flag r ≡ valueOf Call.isRunning (seen self) ⌝ }
     {
-        let phase = self.phase;
+        let sync = self.sync;
+        let phase = sync.phase;
         let Phase::Running = phase else {
             return false;
         };
@@ -108,7 +110,8 @@ impl Endpoint {
     pub fn state(self) -> Phase
         ensures { λ r. ⌜ Value.phase r ≡ valueOf Call.state (seen self) ⌝ }
     {
-        self.phase
+        let sync = self.sync;
+        sync.phase
     }
 
     // Those that the other end reported.
@@ -134,7 +137,8 @@ impl Endpoint {
         if timers::is_bad(epoch) {
             return StatsResult::Refused(Answer::BadClock);
         }
-        let phase = self.phase;
+        let sync = self.sync;
+        let phase = sync.phase;
         if has_no_stats(phase) {
             return StatsResult::Refused(Answer::NotSynchronized);
         }

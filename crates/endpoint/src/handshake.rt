@@ -1,16 +1,13 @@
 // The handshake: requests, and replies that count by their nonce.
 ghost use mathlib.Core.Path.{_≡_};
 ghost use Prim.Native.Nat.{_-_};
-ghost use lib.Dec.{ltb};
 ghost use lib.ListN.{length};
-ghost use Rattle.base.specs.Pick.{pick};
 ghost use Rattle.events.specs.Events.{plain};
 ghost use Rattle.events.specs.declared.Event.the-variants.{Synchronizing, Synchronized};
-ghost use Rattle.protocol.specs.declared.Phase.the-variants as Phase;
 ghost use Rattle.protocol.specs.Call.{Call};
 ghost use Rattle.protocol.specs.Step.{step};
 ghost use Rattle.endpoint.specs.Endpoint.{seen, DidAs};
-ghost use Rattle.endpoint.specs.Handshaking.{RequestedAs, CountedAs, GoneOnAs};
+ghost use Rattle.endpoint.specs.Handshaking.{RequestedAs};
 use crate::Ended;
 use crate::Endpoint;
 use crate::NUM_SYNC_PACKETS;
@@ -22,22 +19,15 @@ use events::Event;
 use protocol::Phase;
 use timers::Clocks;
 
-// The parts of an endpoint that a request changes; where it does not fit, as they were and told so.
+// The clocks after a request and where the queue ends; where it does not fit, as they were and told so.
 pub struct Requested {
-    pub sync: Sync,
     pub clocks: Clocks,
     pub end: usize,
     pub ok: bool,
 }
 
-// Whether a reply counts, and the handshake after it if it does.
-pub struct Counted {
-    pub sync: Sync,
-    pub found: bool,
-}
-
 // The difference, or 0 where it would be negative.
-fn less(a: u32, b: u32) -> u32
+pub(crate) fn less(a: u32, b: u32) -> u32
     ensures { λ r. ⌜ r ≡ a - b ⌝ }
 {
     if a < b {
@@ -46,133 +36,70 @@ fn less(a: u32, b: u32) -> u32
     a - b
 }
 
-impl Sync {
-    // The nonce is outstanding and the times are noted; written last, so that a refusal leaves the buffer unchanged.
-    pub(crate) fn request(
-        self,
-        clocks: Clocks,
-        magic: u16,
-        now: u64,
-        nonce: u32,
-        out: &mut [u8],
-        queued: usize,
-    ) -> Requested
-        ensures { λ r. ⌜ RequestedAs self clocks magic now nonce (out .entry .now) queued r (out .exit .now) ⌝ }
-    {
-        let issued = self.nonces.issue(nonce);
-        if !issued.ok {
-            return Requested {
-                sync: self,
-                clocks,
-                end: queued,
-                ok: false,
-            };
-        }
-        let written = outbox::plain(
-            out,
-            queued,
-            magic,
-            MessageBody::SyncRequest {
-                random_request: nonce,
-            },
-        );
-        if !written.ok {
-            return Requested {
-                sync: self,
-                clocks,
-                end: queued,
-                ok: false,
-            };
-        }
-        let nonces = issued.nonces;
-        let noted = clocks.requested(now);
-        let sent = noted.sent(now);
-        Requested {
-            sync: Sync { nonces, ..self },
-            clocks: sent,
-            end: written.end,
-            ok: true,
-        }
-    }
-
-    // The nonce is spent, and one reply fewer is to come. Outside Synchronizing, and with a nonce that is not outstanding, a reply does not count.
-    pub(crate) fn count_reply(self, phase: Phase, random_reply: u32) -> Counted
-        ensures { λ r. ⌜ CountedAs self phase «random_reply» r ⌝ }
-    {
-        let Phase::Synchronizing = phase else {
-            return Counted {
-                sync: self,
-                found: false,
-            };
-        };
-        let spent = self.nonces.spend(random_reply);
-        let nonces = spent.nonces;
-        let remaining = less(self.remaining, 1);
-        Counted {
-            sync: Sync {
-                remaining,
-                nonces,
-                ..self
-            },
-            found: spent.found,
-        }
-    }
-
-    // After a reply that counts: another request, or with none to come the handshake is over, and from now on the filter asks for this reply's magic.
-    pub(crate) fn go_on(
-        self,
-        remote_magic: u16,
-        clocks: Clocks,
-        magic: u16,
-        now: u64,
-        nonce: u32,
-        out: &mut [u8],
-        queued: usize,
-    ) -> Requested
-        ensures { λ r. ⌜ GoneOnAs self «remote_magic» clocks magic now nonce (out .entry .now) queued r (out .exit .now) ⌝ }
-    {
-        if 0 < self.remaining {
-            return self.request(clocks, magic, now, nonce, out, queued);
-        }
-        Requested {
-            sync: Sync {
-                remote_magic,
-                ..self
-            },
+// A request whose nonce was issued, or was not for want of room: written where both fit, and then the times are noted.
+pub(crate) fn request(
+    issued: bool,
+    clocks: Clocks,
+    magic: u16,
+    now: u64,
+    nonce: u32,
+    out: &mut [u8],
+    queued: usize,
+) -> Requested
+    ensures { λ r. ⌜ RequestedAs issued clocks magic now nonce (out .entry .now) queued r (out .exit .now) ⌝ }
+{
+    if !issued {
+        return Requested {
             clocks,
             end: queued,
-            ok: true,
-        }
+            ok: false,
+        };
+    }
+    let written = outbox::plain(
+        out,
+        queued,
+        magic,
+        MessageBody::SyncRequest {
+            random_request: nonce,
+        },
+    );
+    if !written.ok {
+        return Requested {
+            clocks,
+            end: queued,
+            ok: false,
+        };
+    }
+    let noted = clocks.requested(now);
+    let sent = noted.sent(now);
+    Requested {
+        clocks: sent,
+        end: written.end,
+        ok: true,
     }
 }
 
 // How far the handshake is, as it is told.
 pub(crate) fn progress(remaining: u32) -> Entry
-    ensures { λ r. ⌜ r ≡ plain (pick (ltb 0 remaining) (Synchronizing 5 (5 - remaining)) Synchronized) ⌝ }
+    ensures { λ r. ⌜ r ≡ plain (Synchronizing 5 (5 - remaining)) ⌝ }
 {
-    if 0 < remaining {
-        return Entry {
-            event: Event::Synchronizing {
-                total: NUM_SYNC_PACKETS,
-                count: less(NUM_SYNC_PACKETS, remaining),
-            },
-            input: [0u8; 16],
-        };
-    }
     Entry {
-        event: Event::Synchronized,
+        event: Event::Synchronizing {
+            total: NUM_SYNC_PACKETS,
+            count: less(NUM_SYNC_PACKETS, remaining),
+        },
         input: [0u8; 16],
     }
 }
 
-// The endpoint runs once no reply is to come.
-pub(crate) fn phase_after(remaining: u32) -> Phase
-    ensures { λ r. ⌜ r ≡ pick (ltb 0 remaining) Phase.Synchronizing Phase.Running ⌝ }
+// That it is over.
+pub(crate) fn completion() -> Entry
+    ensures { λ r. ⌜ r ≡ plain Synchronized ⌝ }
 {
-    if 0 < remaining {
-        return Phase::Synchronizing;
+    Entry {
+        event: Event::Synchronized,
+        input: [0u8; 16],
     }
-    Phase::Running
 }
 
 impl Endpoint {
@@ -186,18 +113,17 @@ impl Endpoint {
                 answer: Answer::BadClock,
             };
         }
-        let phase = self.phase;
+        let sync = self.sync;
+        let phase = sync.phase;
         let Phase::Initializing = phase else {
             return Ended {
                 endpoint: self,
                 answer: Answer::WrongState,
             };
         };
-        let started = Sync {
-            remaining: NUM_SYNC_PACKETS,
-            ..self.sync
-        };
-        let requested = started.request(
+        let issued = self.nonces.issue(nonce);
+        let requested = request(
+            issued.ok,
             self.clocks,
             self.setup.magic,
             now,
@@ -211,14 +137,16 @@ impl Endpoint {
                 answer: Answer::Full,
             };
         }
-        let sync = requested.sync;
+        let nonces = issued.nonces;
         let clocks = requested.clocks;
         let quality = self.quality.started(epoch);
-        self = Endpoint {
+        let sync = Sync {
             phase: Phase::Synchronizing,
-            ..self
+            remaining: NUM_SYNC_PACKETS,
+            ..self.sync
         };
         self.sync = sync;
+        self.nonces = nonces;
         self.clocks = clocks;
         self.quality = quality;
         self.queued = requested.end;

@@ -37,23 +37,24 @@ use timers::Clocks;
 // How many replies complete a handshake.
 const NUM_SYNC_PACKETS: u32 = 5;
 
-// The handshake: replies still to come, nonces outstanding, and the other end's magic, 0 while the filter is off.
+// The phase; of the handshake the replies still to come, and the other end's magic, 0 while the filter is off. The phase stands in a struct since a part
+// that is one can be set (`self.sync = sync`), and the endpoint is not written anew where the phase changes.
 pub struct Sync {
+    pub phase: Phase,
     pub remaining: u32,
-    pub nonces: Nonces,
     pub remote_magic: u16,
 }
 
 // The setup, its handles ascending; what carries inputs: those sent and not acknowledged, the last acknowledged one, against which they are packed,
-// and those received; what the clocks and the handshake stand at; what was told and reported; the events that wait to be taken, and how many bytes of
-// the lent buffer are queued.
+// and those received; what the handshake and the clocks stand at, with the nonces outstanding; what was told and reported; the events that wait to be
+// taken, and how many bytes of the lent buffer are queued.
 pub struct Endpoint {
     pub setup: Setup,
     pub pending: Pending,
     pub acked: InputBytes,
     pub history: History,
-    pub phase: Phase,
     pub sync: Sync,
+    pub nonces: Nonces,
     pub clocks: Clocks,
     pub flags: Flags,
     pub quality: Quality,

@@ -57,12 +57,12 @@ impl Endpoint {
                 bytes: [0u8; 64],
             },
             history,
-            phase: Phase::Initializing,
             sync: Sync {
+                phase: Phase::Initializing,
                 remaining: NUM_SYNC_PACKETS,
-                nonces,
                 remote_magic: 0,
             },
+            nonces,
             clocks,
             flags: Flags {
                 disconnect_notify_sent: false,

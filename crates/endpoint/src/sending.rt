@@ -8,6 +8,7 @@ ghost use Rattle.endpoint.specs.Endpoint.{seen, DidAs};
 ghost use Rattle.endpoint.specs.Frames.{badAfter};
 use crate::Ended;
 use crate::Endpoint;
+use crate::batch;
 use crate::telling;
 use answer::Answer;
 use events::Entry;
@@ -53,7 +54,8 @@ impl Endpoint {
                 answer: Answer::BadLength,
             };
         }
-        let phase = self.phase;
+        let sync = self.sync;
+        let phase = sync.phase;
         let Phase::Running = phase else {
             return Ended {
                 endpoint: self,
@@ -87,17 +89,8 @@ impl Endpoint {
                 answer: Answer::Full,
             };
         }
-        let queued = outbox::pending_input(
-            out,
-            self.queued,
-            self.setup.magic,
-            self.history.newest(),
-            statuses,
-            pending,
-            width,
-            acked,
-        );
-        if !queued.ok {
+        let size = outbox::input_size(statuses, pending, width);
+        if batch::is_full(out.len(), self.queued, size) {
             return Ended {
                 endpoint: self,
                 answer: Answer::Full,
@@ -112,6 +105,16 @@ impl Endpoint {
             self.events = events;
         }
         self.pending = pending;
+        let queued = outbox::pending_input(
+            out,
+            self.queued,
+            self.setup.magic,
+            self.history.newest(),
+            statuses,
+            self.pending,
+            width,
+            acked,
+        );
         self.clocks.last_send_time = now;
         self.queued = queued.end;
         Ended {

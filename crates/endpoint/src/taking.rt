@@ -60,7 +60,8 @@ impl Endpoint {
     pub fn take_messages(mut self, out: &[u8]) -> Ended
         ensures { λ r. ⌜ DoneAs self (step (Call.takeMessages (length (now (out .entry)))) (seen self)) r ⌝ }
     {
-        let phase = self.phase;
+        let sync = self.sync;
+        let phase = sync.phase;
         if is_short(phase, self.queued, out.len()) {
             return Ended {
                 endpoint: self,
@@ -78,7 +79,8 @@ impl Endpoint {
     pub fn messages(self, out: &[u8]) -> &[u8]
         ensures { λ r. ⌜ now r ≡ take (handedBack (length (now (out .entry))) (seen self)) (now (out .entry)) ⌝ }
     {
-        let phase = self.phase;
+        let sync = self.sync;
+        let phase = sync.phase;
         let end = filled(phase, self.queued, out.len());
         &out[..end]
     }

@@ -2,9 +2,9 @@
 use mathlib.Core.Bool.{Bool, false}
 use mathlib.Core.List.{List, [], _∷_, _++_}
 use mathlib.Core.Path.{_≡_, refl}
-use Prim.Native.Nat.{ℕ}
+use Prim.Native.Nat.{ℕ, _≤_}
 use lib.Dec.{ltb}
-use lib.ListN.{length, take}
+use lib.ListN.{length, take, drop}
 use Rattle.base.specs.Pick.{pick}
 use Rattle.base.specs.Keyed.{kept, has, without}
 use Rattle.nonces.specs.declared.Nonces.{Nonces}
@@ -30,6 +30,13 @@ issued nonce l = spent nonce l ++ nonce ∷ []
 -- there is room for a nonce: fewer than 256 others are outstanding
 unfoldable pub fits : ℕ → List ℕ → Bool
 fits nonce l = ltb (length (spent nonce l)) 256
+
+-- the first n of l without the nonce, m of them, stand at the front of r, and what stands past the n is as before
+pub record KeptAs (l : List ℕ) (n nonce m : ℕ) (r : List ℕ) : Type 0 where
+  pub long : length r ≡ length l
+  pub fewer : m ≤ n
+  pub front : take m r ≡ spent nonce (take n l)
+  pub past : drop n r ≡ drop n l
 
 pub record IssuedAs (s : Nonces) (nonce : ℕ) (r : Issued) : Type 0 where
   pub ok : r .ok ≡ fits nonce (outstanding s)

@@ -1,8 +1,9 @@
 // The nonces of the sync requests that are outstanding, in the order of issue: one issued again counts once, from its latest issue.
 ghost use mathlib.Core.Path.{_≡_};
 ghost use mathlib.Core.List.{[]};
+ghost use Prim.Native.Nat.{_≤_};
 ghost use lib.ListN.{length};
-ghost use Rattle.nonces.specs.Nonces.{outstanding, spent, IssuedAs, SpentAs};
+ghost use Rattle.nonces.specs.Nonces.{outstanding, KeptAs, IssuedAs, SpentAs};
 
 pub struct Nonces {
     pub list: [u32; 256],
@@ -18,6 +19,25 @@ pub struct Issued {
 pub struct Spent {
     pub nonces: Nonces,
     pub found: bool,
+}
+
+// All of the first n but the nonce, in their order, and how many they are: each that stays is written behind those that stayed before it.
+// The array is lent, so no copy of it is made. Of what is lent the proof does not know the length, so the caller says it.
+fn keep_others(list: &mut [u32; 256], n: usize, nonce: u32) -> usize
+    requires { ⌜ (n ≤ 256) × (length (now list) ≡ 256) ⌝ }
+    ensures { λ r. ⌜ KeptAs (now (list .entry)) n nonce r (now (list .exit)) ⌝ }
+{
+    let mut kept = 0;
+    let mut i = 0;
+    while i < n {
+        let x = list[i];
+        if nonce != x {
+            list[kept] = x;
+            kept += 1;
+        }
+        i += 1;
+    }
+    kept
 }
 
 impl Nonces {
@@ -37,61 +57,33 @@ impl Nonces {
         if used < 256 { used } else { 256 }
     }
 
-    // All but the nonce, in their order: each that stays is written behind those that stayed before it.
-    fn others(mut self, nonce: u32) -> Nonces
-        ensures { λ r. ⌜ outstanding r ≡ spent nonce (outstanding self) ⌝ }
-    {
-        let n = self.count();
-        let mut kept = 0;
-        let mut i = 0;
-        while i < n {
-            let x = self.list[i];
-            if nonce != x {
-                self.list[kept] = x;
-                kept += 1;
-            }
-            i += 1;
-        }
-        self.used = kept;
-        self
-    }
-
     // The nonce at the end, and nowhere else; where 256 others are outstanding, unchanged.
-    pub fn issue(self, nonce: u32) -> Issued
+    pub fn issue(mut self, nonce: u32) -> Issued
         ensures { λ r. ⌜ IssuedAs self nonce r ⌝ }
     {
-        let mut next = self.others(nonce);
-        let n = next.count();
-        if n < 256 {
-            next.list[n] = nonce;
-            next.used = n + 1;
-            return Issued {
-                nonces: next,
-                ok: true,
-            };
+        let n = self.count();
+        let at = keep_others(&mut self.list, n, nonce);
+        let ok = at < 256;
+        if ok {
+            self.list[at] = nonce;
+            self.used = at + 1;
         }
-        Issued {
-            nonces: self,
-            ok: false,
-        }
+        Issued { nonces: self, ok }
     }
 
     // The nonce is found where it is outstanding, and is so no longer: fewer are left.
-    pub fn spend(self, nonce: u32) -> Spent
+    pub fn spend(mut self, nonce: u32) -> Spent
         ensures { λ r. ⌜ SpentAs self nonce r ⌝ }
     {
-        let before = self.count();
-        let next = self.others(nonce);
-        let after = next.count();
-        if after < before {
-            return Spent {
-                nonces: next,
-                found: true,
-            };
+        let n = self.count();
+        let kept = keep_others(&mut self.list, n, nonce);
+        let found = kept < n;
+        if found {
+            self.used = kept;
         }
         Spent {
             nonces: self,
-            found: false,
+            found,
         }
     }
 }

@@ -30,10 +30,11 @@ pub fn put_endpoint(out: Out, endpoint: Endpoint, queue: &[u8]) -> Out {
 
 // What the setup fixed, and where the endpoint stands.
 fn put_standing(out: Out, endpoint: Endpoint) -> Out {
-    let phase = endpoint.phase;
+    let sync = endpoint.sync;
+    let phase = sync.phase;
     let out = out.u8(phase_number(phase));
     let out = put_setup(out, endpoint.setup);
-    let out = put_handshake(out, endpoint.sync, endpoint.flags);
+    let out = put_handshake(out, endpoint.sync, endpoint.nonces, endpoint.flags);
     let out = put_clocks(out, endpoint.clocks);
     let out = put_quality(out, endpoint.quality);
     put_statuses(out, endpoint.statuses)
@@ -108,8 +109,8 @@ fn put_nonces(out: Out, nonces: Nonces) -> Out {
     put_list(out, &list, nonces.count())
 }
 
-fn put_handshake(out: Out, sync: Sync, flags: Flags) -> Out {
-    put_nonces(out.u32(sync.remaining), sync.nonces)
+fn put_handshake(out: Out, sync: Sync, nonces: Nonces, flags: Flags) -> Out {
+    put_nonces(out.u32(sync.remaining), nonces)
         .u16(sync.remote_magic)
         .flag(flags.disconnect_notify_sent)
         .flag(flags.disconnect_event_sent)

@@ -40,12 +40,10 @@ pub fn two_players(magic: u16, peer: u32, player: u32) -> Setup
 pub fn synchronized(endpoint: Endpoint, magic: u16) -> Endpoint
     ensures { λ r. ⌜ seen r ≡ synchronized magic (seen endpoint) ⌝ }
 {
-    let nonces = endpoint.sync.nonces;
     Endpoint {
-        phase: Phase::Running,
         sync: Sync {
+            phase: Phase::Running,
             remaining: 0,
-            nonces,
             remote_magic: magic,
         },
         ..endpoint

@@ -49,6 +49,9 @@ enum-told c = search needs
 passed-requires : tie.Need-passed-requires
 passed-requires c κs = search needs
 
+issue-requires : tie.Need-issue-requires
+issue-requires c κs = search needs
+
 request-requires : tie.Need-request-requires
 request-requires c κs = search needs
 
@@ -57,27 +60,29 @@ same-length c = search needs
 
 returns-3 : tie.Need-returns-3
 returns-3 c =
-    let a = c .before .before .before .before .before .before .before .before .before .before .before .before .before .before .before .before .before .before .args in
+    let a = c .before .before .before .before .before .before .before .before .before .before .before .before .before .before .before .before .before .before .before .before .args in
     let asked = c .before .before .before .before .request in
-    act-synchronizing (a .self) (a .out .now) (a .statuses) (a .now) (a .epoch) (a .nonce) (good-clocks (c .before .before .before .before .before .before .before .before .before .before .before .before .before)) (c .before .before .before .before .before .before .before .before .before .before .if3 .left) (c .before .before .before .before .before .before .before .before .enum-told .given .1) _ _
-    (synchronizing-full (a .self) (a .out .now) (a .now) (a .nonce) (sym (c .before .before .before .before .before .before .before .passed .ensures) ∙ c .before .before .before .before .before .before .if4 .taken) (asked .result) _ (asked .ensures) (not-true _ (c .if5 .taken)))
+    let issued = c .before .before .before .before .before .before .issue in
+    act-synchronizing (a .self) (a .out .now) (a .statuses) (a .now) (a .epoch) (a .nonce) (good-clocks (c .before .before .before .before .before .before .before .before .before .before .before .before .before .before .before)) (c .before .before .before .before .before .before .before .before .before .before .before .before .if3 .left) (c .before .before .before .before .before .before .before .before .before .enum-told .given .1) _ _
+    (synchronizing-full (a .self) (a .out .now) (a .now) (a .nonce) (sym (c .before .before .before .before .before .before .before .before .passed .ensures) ∙ c .before .before .before .before .before .before .before .if4 .taken) (issued .result) (issued .ensures) (asked .result) _ (asked .ensures) (not-true _ (c .if5 .taken)))
 
 same-length-2 : tie.Need-same-length-2
 same-length-2 c = search needs
 
 returns-4 : tie.Need-returns-4
 returns-4 c =
-    let s = c .before .before .before .before .before .before .before .before .before .before .before .before .before .before .before .before .before .before .before .before in
+    let s = c .before .before .before .before .before .before .before .before .before .before .before .before .before .before .before .before .before .before .before .before .before .before in
     let a = s .args in
     let asked = c .before .before .before .before .before .before .request in
-    act-synchronizing (a .self) (a .out .now) (a .statuses) (a .now) (a .epoch) (a .nonce) (good-clocks (c .before .before .before .before .before .before .before .before .before .before .before .before .before .before .before)) (c .before .before .before .before .before .before .before .before .before .before .before .before .if3 .left) (c .before .before .before .before .before .before .before .before .before .before .enum-told .given .1) _ _
-    (synchronizing-done (a .self) (a .out .now) (a .now) (a .nonce) (sym (c .before .before .before .before .before .before .before .before .before .passed .ensures) ∙ c .before .before .before .before .before .before .before .before .if4 .taken) (asked .result) _ (asked .ensures) (untold-room (a .self) _ (s .good .0)) (not-false _ (c .before .before .if5 .left)))
+    let issued = c .before .before .before .before .before .before .before .before .issue in
+    act-synchronizing (a .self) (a .out .now) (a .statuses) (a .now) (a .epoch) (a .nonce) (good-clocks (c .before .before .before .before .before .before .before .before .before .before .before .before .before .before .before .before .before)) (c .before .before .before .before .before .before .before .before .before .before .before .before .before .before .if3 .left) (c .before .before .before .before .before .before .before .before .before .before .before .enum-told .given .1) _ _
+    (synchronizing-done (a .self) (a .out .now) (a .now) (a .nonce) (sym (c .before .before .before .before .before .before .before .before .before .before .passed .ensures) ∙ c .before .before .before .before .before .before .before .before .before .if4 .taken) (issued .result) (issued .ensures) (asked .result) _ (asked .ensures) (untold-room (a .self) _ (s .good .0)) (not-false _ (c .before .before .if5 .left)))
 
 returns-5 : tie.Need-returns-5
 returns-5 c =
-    let s = c .before .before .before .before .before .before .before .before .before .before .before .before in
+    let s = c .before .before .before .before .before .before .before .before .before .before .before .before .before in
     let a = s .args in
-    act-synchronizing (a .self) (a .out .now) (a .statuses) (a .now) (a .epoch) (a .nonce) (good-clocks (c .before .before .before .before .before .before .before)) (c .before .before .before .before .if3 .left) (c .before .before .enum-told .given .1) _ _
+    act-synchronizing (a .self) (a .out .now) (a .statuses) (a .now) (a .epoch) (a .nonce) (good-clocks (c .before .before .before .before .before .before .before .before)) (c .before .before .before .before .before .if3 .left) (c .before .before .enum-told .given .1) _ _
     (synchronizing-idle (a .self) (a .out .now) (a .now) (a .nonce) (untold-room (a .self) _ (s .good .0)) (sym (c .before .passed .ensures) ∙ c .if4 .left))
 
 -- ---- Running
@@ -100,7 +105,7 @@ count-requires-2 c κs = search needs
 few : (c : tie.After-count2) → c .count2 .result ≤ 640
 unfolding held
 few c =
-    let s = c .before .before .before .before .before .before .before .before .before .before .before .before .before .before in
+    let s = c .before .before .before .before .before .before .before .before .before .before .before .before .before .before .before in
     omega (arith, c .count2 .ensures, entries-long (s .args .self) _ (s .good .0), view-le (s .args .self .events .used) (s .args .self .events .entries))
 
 add-if6 : tie.Need-add-if6
@@ -110,10 +115,10 @@ add-if6 c =
 
 returns-6 : tie.Need-returns-6
 returns-6 c =
-    let a = c .before .before .before .before .before .before .before .before .before .before .before .before .before .before .before .args in
+    let a = c .before .before .before .before .before .before .before .before .before .before .before .before .before .before .before .before .args in
     let count = c .before .before .before .before .count in
     let due = c .before .before .before .due-at in
-    act-running (a .self) (a .out .now) (a .statuses) (a .now) (a .epoch) (a .nonce) (good-clocks (c .before .before .before .before .before .before .before .before .before .before)) (c .before .before .before .before .before .before .before .if3 .left) (c .before .before .before .before .before .enum-told2 .given .1) _ _
+    act-running (a .self) (a .out .now) (a .statuses) (a .now) (a .epoch) (a .nonce) (good-clocks (c .before .before .before .before .before .before .before .before .before .before .before)) (c .before .before .before .before .before .before .before .before .if3 .left) (c .before .before .before .before .before .enum-told2 .given .1) _ _
     (running-untold (a .self) (a .out .now) (a .statuses) (a .now) (a .epoch) (due .result) (count .result) (count .ensures) (due .ensures)
     (told-full (a .self) (a .out .now) (a .statuses) (a .now) (a .epoch) (due .result) (c .before .count2 .result) (c .before .before .told .result) (c .before .count2 .ensures) (c .before .before .told .ensures) (c .if6 .taken)))
 
@@ -131,15 +136,15 @@ is-full-requires c κs = search needs
 
 returns-7 : tie.Need-returns-7
 returns-7 c =
-    let a = c .before .before .before .before .before .before .before .before .before .before .before .before .before .before .before .before .before .before .before .before .before .args in
+    let a = c .before .before .before .before .before .before .before .before .before .before .before .before .before .before .before .before .before .before .before .before .before .before .args in
     let count = c .before .before .before .before .before .before .before .before .before .before .count in
     let due = c .before .before .before .before .before .before .before .before .before .due-at in
     let full = c .before .is-full in
     let size = c .before .before .size in
     let wide = c .before .before .before .sending-width in
-    act-running (a .self) (a .out .now) (a .statuses) (a .now) (a .epoch) (a .nonce) (good-clocks (c .before .before .before .before .before .before .before .before .before .before .before .before .before .before .before .before)) (c .before .before .before .before .before .before .before .before .before .before .before .before .before .if3 .left) (c .before .before .before .before .before .before .before .before .before .before .before .enum-told2 .given .1) _ _
+    act-running (a .self) (a .out .now) (a .statuses) (a .now) (a .epoch) (a .nonce) (good-clocks (c .before .before .before .before .before .before .before .before .before .before .before .before .before .before .before .before .before)) (c .before .before .before .before .before .before .before .before .before .before .before .before .before .before .if3 .left) (c .before .before .before .before .before .before .before .before .before .before .before .enum-told2 .given .1) _ _
     (running-full (a .self) (a .out .now) (a .statuses) (a .now) (a .epoch) (due .result) (count .result) (count .ensures) (due .ensures)
-    (size-is (a .self) (a .out .now) (a .statuses) (a .now) (a .epoch) (due .result) (wide .result) (size .result) (full .result) (wide .ensures) (acked-long (a .self) _ (c .before .before .before .before .before .before .before .before .before .before .before .before .before .before .before .before .before .before .before .before .before .good .0)) (size .ensures) (full .ensures) ∙ c .if8 .taken))
+    (size-is (a .self) (a .out .now) (a .statuses) (a .now) (a .epoch) (due .result) (wide .result) (size .result) (full .result) (wide .ensures) (acked-long (a .self) _ (c .before .before .before .before .before .before .before .before .before .before .before .before .before .before .before .before .before .before .before .before .before .before .good .0)) (size .ensures) (full .ensures) ∙ c .if8 .taken))
 
 newest-requires : tie.Need-newest-requires
 newest-requires c κs = search needs
@@ -148,9 +153,9 @@ pending-input-requires : tie.Need-pending-input-requires
 pending-input-requires c κs = search needs
 
 -- the pending inputs are queued, where they are due
-resent : (c : tie.Joined9) → Resent (c .before .before .before .before .before .before .before .before .before .before .before .before .before .before .before .before .before .before .before .before .before .before .args .self) (c .before .before .before .before .before .before .before .before .before .before .before .before .before .before .before .before .before .before .before .before .before .before .args .out .now) (c .before .before .before .before .before .before .before .before .before .before .before .before .before .before .before .before .before .before .before .before .before .before .args .statuses) (c .before .before .before .before .before .before .before .before .before .before .before .before .before .before .before .before .before .before .before .before .before .before .args .now) (c .before .before .before .before .before .before .before .before .before .before .before .before .before .before .before .before .before .before .before .before .before .before .args .epoch) (c .before .before .before .before .before .before .before .before .before .before .due-at .result) (c .before .before .before .before .sending-width .result) (c .if9 .self) (c .if9 .out)
+resent : (c : tie.Joined9) → Resent (c .before .before .before .before .before .before .before .before .before .before .before .before .before .before .before .before .before .before .before .before .before .before .before .args .self) (c .before .before .before .before .before .before .before .before .before .before .before .before .before .before .before .before .before .before .before .before .before .before .before .args .out .now) (c .before .before .before .before .before .before .before .before .before .before .before .before .before .before .before .before .before .before .before .before .before .before .before .args .statuses) (c .before .before .before .before .before .before .before .before .before .before .before .before .before .before .before .before .before .before .before .before .before .before .before .args .now) (c .before .before .before .before .before .before .before .before .before .before .before .before .before .before .before .before .before .before .before .before .before .before .before .args .epoch) (c .before .before .before .before .before .before .before .before .before .before .due-at .result) (c .before .before .before .before .sending-width .result) (c .if9 .self) (c .if9 .out)
 resent c =
-    let a = c .before .before .before .before .before .before .before .before .before .before .before .before .before .before .before .before .before .before .before .before .before .before .args in
+    let a = c .before .before .before .before .before .before .before .before .before .before .before .before .before .before .before .before .before .before .before .before .before .before .before .args in
     let d = c .before .before .before .before .before .before .before .before .before .before .due-at .result in
     let width = c .before .before .before .before .sending-width .result in
     ⊎-elim {0, 0, 0}
@@ -158,16 +163,16 @@ resent c =
     (λ w. rw (w .1, w .2) (resent-none (a .self) (a .out .now) (a .statuses) (a .now) (a .epoch) d width (w .0 .left)))
     (c .if9 .came)
 
-long-resent : (c : tie.Joined9) → length (c .if9 .out) ≡ length (c .before .before .before .before .before .before .before .before .before .before .before .before .before .before .before .before .before .before .before .before .before .before .args .out .now)
+long-resent : (c : tie.Joined9) → length (c .if9 .out) ≡ length (c .before .before .before .before .before .before .before .before .before .before .before .before .before .before .before .before .before .before .before .before .before .before .before .args .out .now)
 long-resent c = ⊎-elim {0, 0, 0} (λ w. rw (w .7) (w .3 .kept .0)) (λ w. rw (w .2)) (c .if9 .came)
 
 write-reports-requires : tie.Need-write-reports-requires
 write-reports-requires c κs = search needs
 
 -- what is due is queued
-packed : (c : tie.Joined7) → Packed (c .before .before .before .before .before .before .before .before .before .before .before .before .before .before .before .before .before .args .self) (c .before .before .before .before .before .before .before .before .before .before .before .before .before .before .before .before .before .args .out .now) (c .before .before .before .before .before .before .before .before .before .before .before .before .before .before .before .before .before .args .statuses) (c .before .before .before .before .before .before .before .before .before .before .before .before .before .before .before .before .before .args .now) (c .before .before .before .before .before .before .before .before .before .before .before .before .before .before .before .before .before .args .epoch) (c .before .before .before .before .before .due-at .result) (c .if7 .self) (c .if7 .out)
+packed : (c : tie.Joined7) → Packed (c .before .before .before .before .before .before .before .before .before .before .before .before .before .before .before .before .before .before .args .self) (c .before .before .before .before .before .before .before .before .before .before .before .before .before .before .before .before .before .before .args .out .now) (c .before .before .before .before .before .before .before .before .before .before .before .before .before .before .before .before .before .before .args .statuses) (c .before .before .before .before .before .before .before .before .before .before .before .before .before .before .before .before .before .before .args .now) (c .before .before .before .before .before .before .before .before .before .before .before .before .before .before .before .before .before .before .args .epoch) (c .before .before .before .before .before .due-at .result) (c .if7 .self) (c .if7 .out)
 packed c =
-    let s = c .before .before .before .before .before .before .before .before .before .before .before .before .before .before .before .before .before in
+    let s = c .before .before .before .before .before .before .before .before .before .before .before .before .before .before .before .before .before .before in
     let a = s .args in
     let d = c .before .before .before .before .before .due-at .result in
     ⊎-elim {0, 0, 0}
@@ -175,16 +180,16 @@ packed c =
     (λ w. rw (w .1, w .2) (packed-none (a .self) (a .out .now) (a .statuses) (a .now) (a .epoch) d (sym (c .before .sends .ensures) ∙ w .0 .left)))
     (c .if7 .came)
 
-long : (c : tie.Joined7) → length (c .if7 .out) ≡ length (c .before .before .before .before .before .before .before .before .before .before .before .before .before .before .before .before .before .args .out .now)
+long : (c : tie.Joined7) → length (c .if7 .out) ≡ length (c .before .before .before .before .before .before .before .before .before .before .before .before .before .before .before .before .before .before .args .out .now)
 long c = ⊎-elim {0, 0, 0} (λ w. rw (w .11) (w .7 .kept .1 .0 ∙ long-resent (record { before = record { before = record { before = record { before = record { before = record { before = c .before; if7 = w .0 }; sending-width = w .1 }; size = w .2 }; is-full = w .3 }; if8 = w .4 }; if9 = w .5 }))) (λ w. rw (w .2)) (c .if7 .came)
 
 tell-requires : tie.Need-tell-requires
 tell-requires c κs = search needs
 
 -- and told
-announced : (c : tie.Joined10) → Announced (c .before .before .before .before .before .before .before .before .before .before .before .before .before .before .before .before .before .before .args .self) (c .before .before .before .before .before .before .before .before .before .before .before .before .before .before .before .before .before .before .args .out .now) (c .before .before .before .before .before .before .before .before .before .before .before .before .before .before .before .before .before .before .args .statuses) (c .before .before .before .before .before .before .before .before .before .before .before .before .before .before .before .before .before .before .args .now) (c .before .before .before .before .before .before .before .before .before .before .before .before .before .before .before .before .before .before .args .epoch) (c .before .before .before .before .before .before .due-at .result) (c .before .if7 .self) (c .if10 .self)
+announced : (c : tie.Joined10) → Announced (c .before .before .before .before .before .before .before .before .before .before .before .before .before .before .before .before .before .before .before .args .self) (c .before .before .before .before .before .before .before .before .before .before .before .before .before .before .before .before .before .before .before .args .out .now) (c .before .before .before .before .before .before .before .before .before .before .before .before .before .before .before .before .before .before .before .args .statuses) (c .before .before .before .before .before .before .before .before .before .before .before .before .before .before .before .before .before .before .before .args .now) (c .before .before .before .before .before .before .before .before .before .before .before .before .before .before .before .before .before .before .before .args .epoch) (c .before .before .before .before .before .before .due-at .result) (c .before .if7 .self) (c .if10 .self)
 announced c =
-    let a = c .before .before .before .before .before .before .before .before .before .before .before .before .before .before .before .before .before .before .args in
+    let a = c .before .before .before .before .before .before .before .before .before .before .before .before .before .before .before .before .before .before .before .args in
     let d = c .before .before .before .before .before .before .due-at .result in
     let n = c .before .before .before .before .count2 in
     let m = c .before .before .before .before .before .told in
@@ -204,12 +209,12 @@ same-length-3 c = long (c .before .before .before)
 
 returns-8 : tie.Need-returns-8
 returns-8 c =
-    let a = c .before .before .before .before .before .before .before .before .before .before .before .before .before .before .before .before .before .before .before .before .args in
+    let a = c .before .before .before .before .before .before .before .before .before .before .before .before .before .before .before .before .before .before .before .before .before .args in
     let count = c .before .before .before .before .before .before .before .before .before .count in
     let due = c .before .before .before .before .before .before .before .before .due-at in
     let n = c .before .before .before .before .before .before .count2 in
     let m = c .before .before .before .before .before .before .before .told in
-    act-running (a .self) (a .out .now) (a .statuses) (a .now) (a .epoch) (a .nonce) (good-clocks (c .before .before .before .before .before .before .before .before .before .before .before .before .before .before .before)) (c .before .before .before .before .before .before .before .before .before .before .before .before .if3 .left) (c .before .before .before .before .before .before .before .before .before .before .enum-told2 .given .1) _ _
+    act-running (a .self) (a .out .now) (a .statuses) (a .now) (a .epoch) (a .nonce) (good-clocks (c .before .before .before .before .before .before .before .before .before .before .before .before .before .before .before .before)) (c .before .before .before .before .before .before .before .before .before .before .before .before .before .if3 .left) (c .before .before .before .before .before .before .before .before .before .before .enum-told2 .given .1) _ _
     (running-done (a .self) (a .out .now) (a .statuses) (a .now) (a .epoch) (due .result) (count .result) (count .ensures) (due .ensures)
     (c .before .before .before .if7 .self) (c .before .before .if10 .self) (c .before .before .before .if7 .out) (c .before .clocks-after .result) (c .flags-after .result)
     (told-fits (a .self) (a .out .now) (a .statuses) (a .now) (a .epoch) (due .result) (n .result) (m .result) (n .ensures) (m .ensures) (c .before .before .before .before .before .if6 .left))
@@ -222,23 +227,23 @@ enum-told-3 c = search needs
 
 returns-9 : tie.Need-returns-9
 returns-9 c =
-    let s = c .before .before .before .before .before .before .before .before .before .before .before .before .before .before .before .before .before .before .before .before .before .before .before in
+    let s = c .before .before .before .before .before .before .before .before .before .before .before .before .before in
     let a = s .args in
-    act-disconnected (a .self) (a .out .now) (a .statuses) (a .now) (a .epoch) (a .nonce) (good-clocks (c .before .before .before .before .before .before .before .before .before .before .before .before .before .before .before .before .before .before)) (c .before .before .before .before .before .before .before .before .before .before .before .before .before .before .before .if3 .left) (c .before .before .before .before .before .before .before .before .before .before .before .before .before .enum-told3 .given .1) _
-    (disconnected-over (a .self) (a .now) (untold-room (a .self) _ (s .good .0)) (c .before .before .before .before .before .before .before .before .before .before .before .if11 .taken))
+    act-disconnected (a .self) (a .out .now) (a .statuses) (a .now) (a .epoch) (a .nonce) (good-clocks (c .before .before .before .before .before .before .before .before)) (c .before .before .before .before .before .if3 .left) (c .before .before .enum-told3 .given .1) _
+    (disconnected-over (a .self) (a .now) (untold-room (a .self) _ (s .good .0)) (c .if11 .taken))
 
 returns-10 : tie.Need-returns-10
 returns-10 c =
-    let s = c .before .before .before .before .before .before .before .before .before .before .before .before in
+    let s = c .before .before .before .before .before .before .before .before .before .before .before .before .before in
     let a = s .args in
-    act-disconnected (a .self) (a .out .now) (a .statuses) (a .now) (a .epoch) (a .nonce) (good-clocks (c .before .before .before .before .before .before .before)) (c .before .before .before .before .if3 .left) (c .before .before .enum-told3 .given .1) _
+    act-disconnected (a .self) (a .out .now) (a .statuses) (a .now) (a .epoch) (a .nonce) (good-clocks (c .before .before .before .before .before .before .before .before)) (c .before .before .before .before .before .if3 .left) (c .before .before .enum-told3 .given .1) _
     (disconnected-idle (a .self) (a .now) (untold-room (a .self) _ (s .good .0)) (c .if11 .left))
 
 returns-11 : tie.Need-returns-11
 returns-11 c =
-    let s = c .before .before .before .before .before .before .before .before .before in
+    let s = c .before .before .before .before .before .before .before .before .before .before in
     let a = s .args in
-    act-idle (a .self) (a .out .now) (a .statuses) (a .now) (a .epoch) (a .nonce) (good-clocks (c .before .before .before .before)) (c .before .if3 .left) (untold-room (a .self) _ (s .good .0)) (c .match .keys4)
+    act-idle (a .self) (a .out .now) (a .statuses) (a .now) (a .epoch) (a .nonce) (good-clocks (c .before .before .before .before .before)) (c .before .before .if3 .left) (untold-room (a .self) _ (s .good .0)) (c .match .keys4)
 
 pub act-spec : {M : Type 1} → statement M
 act-spec =
@@ -251,6 +256,7 @@ act-spec =
     returns-2
     enum-told
     passed-requires
+    issue-requires
     request-requires
     same-length
     returns-3

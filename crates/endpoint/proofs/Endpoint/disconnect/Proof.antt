@@ -1,6 +1,5 @@
-use mathlib.Core.Path.{refl, sym, _∙_, ap}
+use mathlib.Core.Path.{sym, _∙_, ap}
 use native.Mathlib.Omega.{arith}
-use Rattle.protocol.specs.declared.Phase.the-variants.{Disconnected}
 use Rattle.protocol.specs.Seen.{isShutdown}
 use Rattle.endpoint.proofs.Phases.{not-shutdown}
 use Rattle.endpoint.proofs.Disconnects.{disconnect-clock, disconnect-silent, disconnect-done, low}
@@ -19,19 +18,18 @@ enum-told c = search needs
 
 returns-2 : tie.Need-returns-2
 returns-2 c =
-    disconnect-silent (c .before .before .before .before .args .self) (c .before .before .before .before .args .now) (sym (c .before .before .before .is-bad .ensures) ∙ c .before .before .if1 .left) (ap isShutdown (c .enum-told .given .1))
+    disconnect-silent (c .before .before .before .before .before .args .self) (c .before .before .before .before .before .args .now) (sym (c .before .before .before .before .is-bad .ensures) ∙ c .before .before .before .if1 .left) (ap isShutdown (c .enum-told .given .1))
 
 add-shutting-down : tie.Need-add-shutting-down
-add-shutting-down c = record { fits = omega (arith, low (c .before .before .before .args .now) (sym (c .before .before .is-bad .ensures) ∙ c .before .if1 .left)) }
+add-shutting-down c = record { fits = omega (arith, low (c .before .before .before .before .args .now) (sym (c .before .before .before .is-bad .ensures) ∙ c .before .before .if1 .left)) }
 
 shutting-down-requires : tie.Need-shutting-down-requires
 shutting-down-requires c κs = search needs
 
 returns-3 : tie.Need-returns-3
 returns-3 c =
-    let s = c .before .before .before .before .before .before .before .before .before .before .before .before .before .before .before .args in
-    disconnect-done (s .self) (s .now) (sym (c .before .before .before .before .before .before .before .before .before .before .before .before .before .before .is-bad .ensures) ∙ c .before .before .before .before .before .before .before .before .before .before .before .before .before .if1 .left) Disconnected (c .before .before .before .before .before .before .before .before .before .before .before .shutting-down .result)
-    (not-shutdown (s .self .phase) (c .before .before .before .before .before .before .before .before .before .before .before .before .match .keys2)) refl (c .before .before .before .before .before .before .before .before .before .before .before .shutting-down .ensures)
+    let a = c .before .before .before .before .before .args in
+    disconnect-done (a .self) (a .now) (sym (c .before .before .before .before .is-bad .ensures) ∙ c .before .before .before .if1 .left) (c .shutting-down .result) (not-shutdown (a .self .sync .phase) (c .before .match .keys2)) (c .shutting-down .ensures)
 
 pub disconnect-spec : {M : Type 1} → statement M
 disconnect-spec =

@@ -9,10 +9,10 @@ filled-requires : tie.Need-filled-requires
 filled-requires c κs = search needs
 
 slice-aggregate-result : tie.Need-slice-aggregate-result
-slice-aggregate-result c = filled-part (isShutdown (c .before .before .before .args .self .phase)) (c .before .before .before .args .self .queued) (c .before .filled .result) (c .before .before .before .args .out .now) (c .before .filled .ensures)
+slice-aggregate-result c = filled-part (isShutdown (c .before .before .before .before .args .self .sync .phase)) (c .before .before .before .before .args .self .queued) (c .before .filled .result) (c .before .before .before .before .args .out .now) (c .before .filled .ensures)
 
 returns : tie.Need-returns
-returns c = rw (c .before .filled .ensures, handed-is (c .before .before .before .args .self) (length (c .before .before .before .args .out .now)))
+returns c = rw (c .before .filled .ensures, handed-is (c .before .before .before .before .args .self) (length (c .before .before .before .before .args .out .now)))
 
 pub messages-spec : {M : Type 1} → statement M
 messages-spec = tie.close (tie.spec filled-requires slice-aggregate-result returns)

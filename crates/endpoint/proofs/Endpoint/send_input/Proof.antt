@@ -2,7 +2,7 @@ use borrow.Author.Tests.{not-true, not-false}
 use mathlib.Core.Logic.{⊎-elim}
 use mathlib.Core.Path.{sym, _∙_, ap}
 use Rattle.protocol.specs.Seen.{isRunning}
-use Rattle.endpoint.proofs.Lengths.{untold-room}
+use Rattle.endpoint.proofs.Lengths.{untold-room, acked-long}
 use Rattle.endpoint.proofs.Phases.{not-running}
 use Rattle.endpoint.proofs.Sends.{Telling, tells-one, tells-none, send-clock, send-length, send-silent, send-frame, send-crowded, send-untold, send-choked, send-done}
 use borrow.Author.Needs.{needs}
@@ -28,7 +28,7 @@ enum-told : tie.Need-enum-told
 enum-told c = search needs
 
 returns-3 : tie.Need-returns-3
-returns-3 c = send-silent (c .before .before .before .before .before .before .before .before .before .args .self) (c .before .before .before .before .before .before .before .before .before .args .frame) (c .before .before .before .before .before .before .before .before .before .args .bytes .now) (c .before .before .before .before .before .before .before .before .before .args .statuses) (c .before .before .before .before .before .before .before .before .before .args .now) (c .before .before .before .before .before .before .before .before .before .args .out .now) (sym (c .before .before .before .before .before .before .is-bad .ensures) ∙ c .before .before .before .before .before .if1 .left) (c .before .before .before .before .sending-width .result) (c .before .before .before .before .sending-width .ensures) (c .before .if2 .left) (not-running (c .before .before .before .before .before .before .before .before .before .args .self .phase) (c .match .keys2))
+returns-3 c = send-silent (c .before .before .before .before .before .before .before .before .before .before .args .self) (c .before .before .before .before .before .before .before .before .before .before .args .frame) (c .before .before .before .before .before .before .before .before .before .before .args .bytes .now) (c .before .before .before .before .before .before .before .before .before .before .args .statuses) (c .before .before .before .before .before .before .before .before .before .before .args .now) (c .before .before .before .before .before .before .before .before .before .before .args .out .now) (sym (c .before .before .before .before .before .before .before .is-bad .ensures) ∙ c .before .before .before .before .before .before .if1 .left) (c .before .before .before .before .before .sending-width .result) (c .before .before .before .before .before .sending-width .ensures) (c .before .before .if2 .left) (not-running (c .before .before .before .before .before .before .before .before .before .before .args .self .sync .phase) (c .match .keys2))
 
 last-frame-requires : tie.Need-last-frame-requires
 last-frame-requires c κs = search needs
@@ -37,7 +37,7 @@ is-bad-frame-requires : tie.Need-is-bad-frame-requires
 is-bad-frame-requires c κs = search needs
 
 returns-4 : tie.Need-returns-4
-returns-4 c = send-frame (c .before .before .before .before .before .before .before .before .before .before .before .before .before .before .args .self) (c .before .before .before .before .before .before .before .before .before .before .before .before .before .before .args .frame) (c .before .before .before .before .before .before .before .before .before .before .before .before .before .before .args .bytes .now) (c .before .before .before .before .before .before .before .before .before .before .before .before .before .before .args .statuses) (c .before .before .before .before .before .before .before .before .before .before .before .before .before .before .args .now) (c .before .before .before .before .before .before .before .before .before .before .before .before .before .before .args .out .now) (sym (c .before .before .before .before .before .before .before .before .before .before .before .is-bad .ensures) ∙ c .before .before .before .before .before .before .before .before .before .before .if1 .left) (c .before .before .before .before .before .before .before .before .before .sending-width .result) (c .before .before .before .before .before .before .before .before .before .sending-width .ensures) (c .before .before .before .before .before .before .if2 .left) (ap isRunning (c .before .before .before .before .enum-told .given .1)) (rw (← c .before .before .last-frame .ensures) (sym (c .before .is-bad-frame .ensures) ∙ c .if3 .taken))
+returns-4 c = send-frame (c .before .before .before .before .before .before .before .before .before .before .before .before .before .before .before .args .self) (c .before .before .before .before .before .before .before .before .before .before .before .before .before .before .before .args .frame) (c .before .before .before .before .before .before .before .before .before .before .before .before .before .before .before .args .bytes .now) (c .before .before .before .before .before .before .before .before .before .before .before .before .before .before .before .args .statuses) (c .before .before .before .before .before .before .before .before .before .before .before .before .before .before .before .args .now) (c .before .before .before .before .before .before .before .before .before .before .before .before .before .before .before .args .out .now) (sym (c .before .before .before .before .before .before .before .before .before .before .before .before .is-bad .ensures) ∙ c .before .before .before .before .before .before .before .before .before .before .before .if1 .left) (c .before .before .before .before .before .before .before .before .before .before .sending-width .result) (c .before .before .before .before .before .before .before .before .before .before .sending-width .ensures) (c .before .before .before .before .before .before .before .if2 .left) (ap isRunning (c .before .before .before .before .enum-told .given .1)) (rw (← c .before .before .last-frame .ensures) (sym (c .before .is-bad-frame .ensures) ∙ c .if3 .taken))
 
 frame-at-requires : tie.Need-frame-at-requires
 frame-at-requires c κs = search needs
@@ -46,7 +46,7 @@ push-requires : tie.Need-push-requires
 push-requires c κs = search needs
 
 returns-5 : tie.Need-returns-5
-returns-5 c = send-crowded (c .before .before .before .before .before .before .before .before .before .before .before .before .before .before .before .before .before .before .args .self) (c .before .before .before .before .before .before .before .before .before .before .before .before .before .before .before .before .before .before .args .frame) (c .before .before .before .before .before .before .before .before .before .before .before .before .before .before .before .before .before .before .args .bytes .now) (c .before .before .before .before .before .before .before .before .before .before .before .before .before .before .before .before .before .before .args .statuses) (c .before .before .before .before .before .before .before .before .before .before .before .before .before .before .before .before .before .before .args .now) (c .before .before .before .before .before .before .before .before .before .before .before .before .before .before .before .before .before .before .args .out .now) (sym (c .before .before .before .before .before .before .before .before .before .before .before .before .before .before .before .is-bad .ensures) ∙ c .before .before .before .before .before .before .before .before .before .before .before .before .before .before .if1 .left) (c .before .before .before .before .before .before .before .before .before .before .before .before .before .sending-width .result) (c .before .before .before .before .before .before .before .before .before .before .before .before .before .sending-width .ensures) (c .before .before .before .before .before .before .before .before .before .before .if2 .left) (ap isRunning (c .before .before .before .before .before .before .before .before .enum-told .given .1)) (rw (← c .before .before .before .before .before .before .last-frame .ensures) (sym (c .before .before .before .before .before .is-bad-frame .ensures) ∙ c .before .before .before .before .if3 .left)) (c .before .before .before .frame-at .result) (c .before .before .before .frame-at .ensures) (c .before .before .push .result) (c .before .before .push .ensures) (not-true _ (c .if4 .taken))
+returns-5 c = send-crowded (c .before .before .before .before .before .before .before .before .before .before .before .before .before .before .before .before .before .before .before .args .self) (c .before .before .before .before .before .before .before .before .before .before .before .before .before .before .before .before .before .before .before .args .frame) (c .before .before .before .before .before .before .before .before .before .before .before .before .before .before .before .before .before .before .before .args .bytes .now) (c .before .before .before .before .before .before .before .before .before .before .before .before .before .before .before .before .before .before .before .args .statuses) (c .before .before .before .before .before .before .before .before .before .before .before .before .before .before .before .before .before .before .before .args .now) (c .before .before .before .before .before .before .before .before .before .before .before .before .before .before .before .before .before .before .before .args .out .now) (sym (c .before .before .before .before .before .before .before .before .before .before .before .before .before .before .before .before .is-bad .ensures) ∙ c .before .before .before .before .before .before .before .before .before .before .before .before .before .before .before .if1 .left) (c .before .before .before .before .before .before .before .before .before .before .before .before .before .before .sending-width .result) (c .before .before .before .before .before .before .before .before .before .before .before .before .before .before .sending-width .ensures) (c .before .before .before .before .before .before .before .before .before .before .before .if2 .left) (ap isRunning (c .before .before .before .before .before .before .before .before .enum-told .given .1)) (rw (← c .before .before .before .before .before .before .last-frame .ensures) (sym (c .before .before .before .before .before .is-bad-frame .ensures) ∙ c .before .before .before .before .if3 .left)) (c .before .before .before .frame-at .result) (c .before .before .before .frame-at .ensures) (c .before .before .push .result) (c .before .before .push .ensures) (not-true _ (c .if4 .taken))
 
 count-requires : tie.Need-count-requires
 count-requires c κs = search needs
@@ -58,7 +58,31 @@ is-crowded-requires : tie.Need-is-crowded-requires
 is-crowded-requires c κs = search needs
 
 returns-6 : tie.Need-returns-6
-returns-6 c = send-untold (c .before .before .before .before .before .before .before .before .before .before .before .before .before .before .before .before .before .before .before .before .before .before .before .args .self) (c .before .before .before .before .before .before .before .before .before .before .before .before .before .before .before .before .before .before .before .before .before .before .before .args .frame) (c .before .before .before .before .before .before .before .before .before .before .before .before .before .before .before .before .before .before .before .before .before .before .before .args .bytes .now) (c .before .before .before .before .before .before .before .before .before .before .before .before .before .before .before .before .before .before .before .before .before .before .before .args .statuses) (c .before .before .before .before .before .before .before .before .before .before .before .before .before .before .before .before .before .before .before .before .before .before .before .args .now) (c .before .before .before .before .before .before .before .before .before .before .before .before .before .before .before .before .before .before .before .before .before .before .before .args .out .now) (sym (c .before .before .before .before .before .before .before .before .before .before .before .before .before .before .before .before .before .before .before .before .is-bad .ensures) ∙ c .before .before .before .before .before .before .before .before .before .before .before .before .before .before .before .before .before .before .before .if1 .left) (c .before .before .before .before .before .before .before .before .before .before .before .before .before .before .before .before .before .before .sending-width .result) (c .before .before .before .before .before .before .before .before .before .before .before .before .before .before .before .before .before .before .sending-width .ensures) (c .before .before .before .before .before .before .before .before .before .before .before .before .before .before .before .if2 .left) (ap isRunning (c .before .before .before .before .before .before .before .before .before .before .before .before .before .enum-told .given .1)) (rw (← c .before .before .before .before .before .before .before .before .before .before .before .last-frame .ensures) (sym (c .before .before .before .before .before .before .before .before .before .before .is-bad-frame .ensures) ∙ c .before .before .before .before .before .before .before .before .before .if3 .left)) (c .before .before .before .before .before .before .before .before .frame-at .result) (c .before .before .before .before .before .before .before .before .frame-at .ensures) (c .before .before .before .before .before .before .before .push .result) (c .before .before .before .before .before .before .before .push .ensures) (not-false _ (c .before .before .before .before .before .if4 .left)) (c .before .before .before .count .result) (c .before .before .before .count .ensures) (c .before .before .count2 .result) (c .before .before .count2 .ensures) (sym (c .before .is-crowded .ensures) ∙ c .if5 .taken)
+returns-6 c =
+    let k = c .before .before .before in
+    let a = k .before .before .before .before .before .before .before .before .before .before .before .before .before .before .before .before .before .before .before .before .before .args in
+    send-untold (a .self) (a .frame) (a .bytes .now) (a .statuses) (a .now) (a .out .now) (sym (k .before .before .before .before .before .before .before .before .before .before .before .before .before .before .before .before .before .before .is-bad .ensures) ∙ k .before .before .before .before .before .before .before .before .before .before .before .before .before .before .before .before .before .if1 .left) (k .before .before .before .before .before .before .before .before .before .before .before .before .before .before .before .before .sending-width .result) (k .before .before .before .before .before .before .before .before .before .before .before .before .before .before .before .before .sending-width .ensures)
+    (k .before .before .before .before .before .before .before .before .before .before .before .before .before .if2 .left) (ap isRunning (k .before .before .before .before .before .before .before .before .before .before .enum-told .given .1)) (rw (← k .before .before .before .before .before .before .before .before .last-frame .ensures) (sym (k .before .before .before .before .before .before .before .is-bad-frame .ensures) ∙ k .before .before .before .before .before .before .if3 .left))
+    (k .before .before .before .before .before .frame-at .result) (k .before .before .before .before .before .frame-at .ensures) (k .before .before .before .before .push .result) (k .before .before .before .before .push .ensures) (not-false _ (k .before .before .if4 .left)) (k .count .result) (k .count .ensures)
+    (c .before .before .count2 .result) (c .before .before .count2 .ensures) (sym (c .before .is-crowded .ensures) ∙ c .if5 .taken)
+
+input-size-requires : tie.Need-input-size-requires
+input-size-requires c κs = search needs
+
+is-full-requires : tie.Need-is-full-requires
+is-full-requires c κs = search needs
+
+returns-7 : tie.Need-returns-7
+returns-7 c =
+    let k = c .before .before .before .before .before .before in
+    let a = k .before .before .before .before .before .before .before .before .before .before .before .before .before .before .before .before .before .before .before .before .before .args in
+    send-choked (a .self) (a .frame) (a .bytes .now) (a .statuses) (a .now) (a .out .now) (sym (k .before .before .before .before .before .before .before .before .before .before .before .before .before .before .before .before .before .before .is-bad .ensures) ∙ k .before .before .before .before .before .before .before .before .before .before .before .before .before .before .before .before .before .if1 .left) (k .before .before .before .before .before .before .before .before .before .before .before .before .before .before .before .before .sending-width .result) (k .before .before .before .before .before .before .before .before .before .before .before .before .before .before .before .before .sending-width .ensures)
+    (k .before .before .before .before .before .before .before .before .before .before .before .before .before .if2 .left) (ap isRunning (k .before .before .before .before .before .before .before .before .before .before .enum-told .given .1)) (rw (← k .before .before .before .before .before .before .before .before .last-frame .ensures) (sym (k .before .before .before .before .before .before .before .is-bad-frame .ensures) ∙ k .before .before .before .before .before .before .if3 .left))
+    (k .before .before .before .before .before .frame-at .result) (k .before .before .before .before .before .frame-at .ensures) (k .before .before .before .before .push .result) (k .before .before .before .before .push .ensures) (not-false _ (k .before .before .if4 .left)) (k .count .result) (k .count .ensures)
+    (c .before .before .input-size .result) (c .before .before .input-size .ensures) (acked-long (a .self) _ (k .before .before .before .before .before .before .before .before .before .before .before .before .before .before .before .before .before .before .before .before .before .good .0)) (c .before .is-full .result) (c .before .is-full .ensures) (c .if6 .taken)
+
+push-requires-2 : tie.Need-push-requires-2
+push-requires-2 c κs = search needs
 
 newest-requires : tie.Need-newest-requires
 newest-requires c κs = search needs
@@ -69,27 +93,26 @@ pending-input-requires c κs = search needs
 same-length : tie.Need-same-length
 same-length c = search needs
 
-returns-7 : tie.Need-returns-7
-returns-7 c = send-choked (c .before .before .before .before .before .before .before .before .before .before .before .before .before .before .before .before .before .before .before .before .before .before .before .before .before .before .before .before .before .before .args .self) (c .before .before .before .before .before .before .before .before .before .before .before .before .before .before .before .before .before .before .before .before .before .before .before .before .before .before .before .before .before .before .args .frame) (c .before .before .before .before .before .before .before .before .before .before .before .before .before .before .before .before .before .before .before .before .before .before .before .before .before .before .before .before .before .before .args .bytes .now) (c .before .before .before .before .before .before .before .before .before .before .before .before .before .before .before .before .before .before .before .before .before .before .before .before .before .before .before .before .before .before .args .statuses) (c .before .before .before .before .before .before .before .before .before .before .before .before .before .before .before .before .before .before .before .before .before .before .before .before .before .before .before .before .before .before .args .now) (c .before .before .before .before .before .before .before .before .before .before .before .before .before .before .before .before .before .before .before .before .before .before .before .before .before .before .before .before .before .before .args .out .now) (sym (c .before .before .before .before .before .before .before .before .before .before .before .before .before .before .before .before .before .before .before .before .before .before .before .before .before .before .before .is-bad .ensures) ∙ c .before .before .before .before .before .before .before .before .before .before .before .before .before .before .before .before .before .before .before .before .before .before .before .before .before .before .if1 .left) (c .before .before .before .before .before .before .before .before .before .before .before .before .before .before .before .before .before .before .before .before .before .before .before .before .before .sending-width .result) (c .before .before .before .before .before .before .before .before .before .before .before .before .before .before .before .before .before .before .before .before .before .before .before .before .before .sending-width .ensures) (c .before .before .before .before .before .before .before .before .before .before .before .before .before .before .before .before .before .before .before .before .before .before .if2 .left) (ap isRunning (c .before .before .before .before .before .before .before .before .before .before .before .before .before .before .before .before .before .before .before .before .enum-told .given .1)) (rw (← c .before .before .before .before .before .before .before .before .before .before .before .before .before .before .before .before .before .before .last-frame .ensures) (sym (c .before .before .before .before .before .before .before .before .before .before .before .before .before .before .before .before .before .is-bad-frame .ensures) ∙ c .before .before .before .before .before .before .before .before .before .before .before .before .before .before .before .before .if3 .left)) (c .before .before .before .before .before .before .before .before .before .before .before .before .before .before .before .frame-at .result) (c .before .before .before .before .before .before .before .before .before .before .before .before .before .before .before .frame-at .ensures) (c .before .before .before .before .before .before .before .before .before .before .before .before .before .before .push .result) (c .before .before .before .before .before .before .before .before .before .before .before .before .before .before .push .ensures) (not-false _ (c .before .before .before .before .before .before .before .before .before .before .before .before .if4 .left)) (c .before .before .before .before .before .before .before .before .before .before .count .result) (c .before .before .before .before .before .before .before .before .before .before .count .ensures) (c .before .before .before .before .before .newest .result) (c .before .before .before .before .before .newest .ensures) (c .before .before .before .before .pending-input .result) (c .before .before .before .before .pending-input .last .0) (c .before .before .before .before .pending-input .ensures) (not-true _ (c .if6 .taken))
-
-push-requires-2 : tie.Need-push-requires-2
-push-requires-2 c κs = search needs
-
-same-length-2 : tie.Need-same-length-2
-same-length-2 c = search needs
-
 -- the endpoint after what is told
-after-telling : (c : tie.Joined7) → Telling (c .before .before .before .before .before .before .before .before .before .before .before .before .before .before .before .before .before .before .before .before .before .before .before .before .before .before .before .before .before .before .before .args .self) (c .before .before .before .before .before .before .before .before .before .before .before .count .result) (c .if7 .self)
+after-telling : (c : tie.Joined7) → Telling (c .before .before .before .before .before .before .before .before .before .before .before .before .before .before .before .before .before .before .before .before .before .before .before .before .before .before .before .before .args .self) (c .before .before .before .before .before .before .before .count .result) (c .if7 .self)
 after-telling c =
-    let s = c .before .before .before .before .before .before .before .before .before .before .before .before .before .before .before .before .before .before .before .before .before .before .before .before .before .before .before .before .before .before .before in
-    let n = c .before .before .before .before .before .before .before .before .before .before .before .count .result in
+    let s = c .before .before .before .before .before .before .before .before .before .before .before .before .before .before .before .before .before .before .before .before .before .before .before .before .before .before .before .before in
+    let n = c .before .before .before .before .before .before .before .count .result in
     ⊎-elim {0, 0, 0}
-    (λ w. tells-one (s .args .self) n (c .before .before .before .before .before .before .before .before .before .before .count2 .result) (c .before .before .before .before .before .before .before .before .before .before .count2 .ensures) (w .1 .result) (sym (c .before .before .before .before .before .before .before .before .before .is-crowded .ensures) ∙ c .before .before .before .before .before .before .before .before .if5 .left) (w .0 .taken) (w .1 .ensures) (c .if7 .self) (w .3))
+    (λ w. tells-one (s .args .self) n (c .before .before .before .before .before .before .count2 .result) (c .before .before .before .before .before .before .count2 .ensures) (w .1 .result) (sym (c .before .before .before .before .before .is-crowded .ensures) ∙ c .before .before .before .before .if5 .left) (w .0 .taken) (w .1 .ensures) (c .if7 .self) (w .3))
     (λ w. tells-none (s .args .self) n (w .0 .left) (untold-room (s .args .self) _ (s .good .0)) (c .if7 .self) (w .1))
     (c .if7 .came)
 
 returns-8 : tie.Need-returns-8
-returns-8 c = send-done (c .before .before .before .before .before .before .before .before .before .before .before .before .before .before .before .before .before .before .before .before .before .before .before .before .before .before .before .before .before .before .before .before .args .self) (c .before .before .before .before .before .before .before .before .before .before .before .before .before .before .before .before .before .before .before .before .before .before .before .before .before .before .before .before .before .before .before .before .args .frame) (c .before .before .before .before .before .before .before .before .before .before .before .before .before .before .before .before .before .before .before .before .before .before .before .before .before .before .before .before .before .before .before .before .args .bytes .now) (c .before .before .before .before .before .before .before .before .before .before .before .before .before .before .before .before .before .before .before .before .before .before .before .before .before .before .before .before .before .before .before .before .args .statuses) (c .before .before .before .before .before .before .before .before .before .before .before .before .before .before .before .before .before .before .before .before .before .before .before .before .before .before .before .before .before .before .before .before .args .now) (c .before .before .before .before .before .before .before .before .before .before .before .before .before .before .before .before .before .before .before .before .before .before .before .before .before .before .before .before .before .before .before .before .args .out .now) (sym (c .before .before .before .before .before .before .before .before .before .before .before .before .before .before .before .before .before .before .before .before .before .before .before .before .before .before .before .before .before .is-bad .ensures) ∙ c .before .before .before .before .before .before .before .before .before .before .before .before .before .before .before .before .before .before .before .before .before .before .before .before .before .before .before .before .if1 .left) (c .before .before .before .before .before .before .before .before .before .before .before .before .before .before .before .before .before .before .before .before .before .before .before .before .before .before .before .sending-width .result) (c .before .before .before .before .before .before .before .before .before .before .before .before .before .before .before .before .before .before .before .before .before .before .before .before .before .before .before .sending-width .ensures) (c .before .before .before .before .before .before .before .before .before .before .before .before .before .before .before .before .before .before .before .before .before .before .before .before .if2 .left) (ap isRunning (c .before .before .before .before .before .before .before .before .before .before .before .before .before .before .before .before .before .before .before .before .before .before .enum-told .given .1)) (rw (← c .before .before .before .before .before .before .before .before .before .before .before .before .before .before .before .before .before .before .before .before .last-frame .ensures) (sym (c .before .before .before .before .before .before .before .before .before .before .before .before .before .before .before .before .before .before .before .is-bad-frame .ensures) ∙ c .before .before .before .before .before .before .before .before .before .before .before .before .before .before .before .before .before .before .if3 .left)) (c .before .before .before .before .before .before .before .before .before .before .before .before .before .before .before .before .before .frame-at .result) (c .before .before .before .before .before .before .before .before .before .before .before .before .before .before .before .before .before .frame-at .ensures) (c .before .before .before .before .before .before .before .before .before .before .before .before .before .before .before .before .push .result) (c .before .before .before .before .before .before .before .before .before .before .before .before .before .before .before .before .push .ensures) (not-false _ (c .before .before .before .before .before .before .before .before .before .before .before .before .before .before .if4 .left)) (c .before .before .before .before .before .before .before .before .before .before .before .before .count .result) (c .before .before .before .before .before .before .before .before .before .before .before .before .count .ensures) (c .before .before .before .before .before .before .before .newest .result) (c .before .before .before .before .before .before .before .newest .ensures) (c .before .before .before .before .before .before .pending-input .result) (c .before .before .before .before .before .before .pending-input .last .0) (c .before .before .before .before .before .before .pending-input .ensures) (not-false _ (c .before .before .if6 .left)) (c .before .if7 .self) (after-telling (c .before))
+returns-8 c =
+    let k = c .before .before .before .before .before .before .before .before .before .before .before .before .before in
+    let a = k .before .before .before .before .before .before .before .before .before .before .before .before .before .before .before .before .before .before .before .before .before .args in
+    let j = c .before .before .before .before .before .before in
+    send-done (a .self) (a .frame) (a .bytes .now) (a .statuses) (a .now) (a .out .now) (sym (k .before .before .before .before .before .before .before .before .before .before .before .before .before .before .before .before .before .before .is-bad .ensures) ∙ k .before .before .before .before .before .before .before .before .before .before .before .before .before .before .before .before .before .if1 .left) (k .before .before .before .before .before .before .before .before .before .before .before .before .before .before .before .before .sending-width .result) (k .before .before .before .before .before .before .before .before .before .before .before .before .before .before .before .before .sending-width .ensures)
+    (k .before .before .before .before .before .before .before .before .before .before .before .before .before .if2 .left) (ap isRunning (k .before .before .before .before .before .before .before .before .before .before .enum-told .given .1)) (rw (← k .before .before .before .before .before .before .before .before .last-frame .ensures) (sym (k .before .before .before .before .before .before .before .is-bad-frame .ensures) ∙ k .before .before .before .before .before .before .if3 .left))
+    (k .before .before .before .before .before .frame-at .result) (k .before .before .before .before .before .frame-at .ensures) (k .before .before .before .before .push .result) (k .before .before .before .before .push .ensures) (not-false _ (k .before .before .if4 .left)) (k .count .result) (k .count .ensures)
+    (c .before .before .before .before .before .before .before .before .before .input-size .result) (c .before .before .before .before .before .before .before .before .before .input-size .ensures) (acked-long (a .self) _ (k .before .before .before .before .before .before .before .before .before .before .before .before .before .before .before .before .before .before .before .before .before .good .0)) (c .before .before .before .before .before .before .before .before .is-full .result) (c .before .before .before .before .before .before .before .before .is-full .ensures) (c .before .before .before .before .before .before .before .if6 .left)
+    (j .if7 .self) (after-telling j) (c .before .before .before .before .newest .result) (c .before .before .before .before .newest .ensures) (c .before .before .before .pending-input .result) (c .before .before .before .pending-input .last .0) (c .before .before .before .pending-input .ensures)
 
 pub send-input-spec : {M : Type 1} → statement M
 send-input-spec =
@@ -112,10 +135,11 @@ send-input-spec =
     count-requires-2
     is-crowded-requires
     returns-6
+    input-size-requires
+    is-full-requires
+    returns-7
+    push-requires-2
     newest-requires
     pending-input-requires
     same-length
-    returns-7
-    push-requires-2
-    same-length-2
     returns-8)

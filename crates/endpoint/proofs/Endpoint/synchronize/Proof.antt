@@ -1,6 +1,6 @@
 use borrow.Author.Tests.{not-true, not-false}
 use mathlib.Core.Logic.{⊎-elim}
-use mathlib.Core.Path.{refl, ap}
+use mathlib.Core.Path.{ap}
 use Rattle.protocol.specs.Seen.{isInitializing}
 use Rattle.endpoint.proofs.Phases.{not-initializing}
 use Rattle.endpoint.proofs.Lengths.{untold-room}
@@ -25,7 +25,11 @@ enum-told c = search needs
 
 returns-2 : tie.Need-returns-2
 returns-2 c =
-    synchronize-state (c .before .before .before .before .before .before .args .self) (c .before .before .before .before .before .before .args .out .now) (c .before .before .before .before .before .before .args .now) (c .before .before .before .before .before .before .args .epoch) (c .before .before .before .before .before .before .args .nonce) (rw (← c .before .before .before .before .is-bad .ensures, c .before .before .before .if1 .left, ← c .before .before .is-bad2 .ensures, c .before .if2 .left)) (not-initializing (c .before .before .before .before .before .before .args .self .phase) (c .match .keys2))
+    let a = c .before .before .before .before .before .before .before .args in
+    synchronize-state (a .self) (a .out .now) (a .now) (a .epoch) (a .nonce) (rw (← c .before .before .before .before .before .is-bad .ensures, c .before .before .before .before .if1 .left, ← c .before .before .before .is-bad2 .ensures, c .before .before .if2 .left)) (not-initializing (a .self .sync .phase) (c .match .keys2))
+
+issue-requires : tie.Need-issue-requires
+issue-requires c κs = search needs
 
 request-requires : tie.Need-request-requires
 request-requires c κs = search needs
@@ -35,7 +39,10 @@ same-length c = search needs
 
 returns-3 : tie.Need-returns-3
 returns-3 c =
-    synchronize-full (c .before .before .before .before .before .before .before .before .before .before .before .before .before .before .args .self) (c .before .before .before .before .before .before .before .before .before .before .before .before .before .before .args .out .now) (c .before .before .before .before .before .before .before .before .before .before .before .before .before .before .args .now) (c .before .before .before .before .before .before .before .before .before .before .before .before .before .before .args .epoch) (c .before .before .before .before .before .before .before .before .before .before .before .before .before .before .args .nonce) (rw (← c .before .before .before .before .before .before .before .before .before .before .before .before .is-bad .ensures, c .before .before .before .before .before .before .before .before .before .before .before .if1 .left, ← c .before .before .before .before .before .before .before .before .before .before .is-bad2 .ensures, c .before .before .before .before .before .before .before .before .before .if2 .left)) (ap isInitializing (c .before .before .before .before .before .before .before .enum-told .given .1)) _ refl (c .before .before .before .before .request .result) (c .before .before .before .before .request .last .1 .1 .1 .1 .1 .0) (c .before .before .before .before .request .ensures) (not-true _ (c .if3 .taken))
+    let a = c .before .before .before .before .before .before .before .before .before .before .before .before .before .before .before .args in
+    let asked = c .before .before .before .before .request in
+    synchronize-full (a .self) (a .out .now) (a .now) (a .epoch) (a .nonce) (rw (← c .before .before .before .before .before .before .before .before .before .before .before .before .before .is-bad .ensures, c .before .before .before .before .before .before .before .before .before .before .before .before .if1 .left, ← c .before .before .before .before .before .before .before .before .before .before .before .is-bad2 .ensures, c .before .before .before .before .before .before .before .before .before .before .if2 .left))
+    (ap isInitializing (c .before .before .before .before .before .before .before .enum-told .given .1)) (c .before .before .before .before .before .before .issue .result) (c .before .before .before .before .before .before .issue .ensures) (asked .result) (asked .last .1 .1 .1 .1 .1 .0) (asked .ensures) (not-true _ (c .if3 .taken))
 
 started-requires : tie.Need-started-requires
 started-requires c κs = search needs
@@ -45,11 +52,12 @@ same-length-2 c = search needs
 
 returns-4 : tie.Need-returns-4
 returns-4 c =
-    let s = c .before .before .before .before .before .before .before .before .before .before .before .before .before .before .before .before .before .before .before .before .before .before .before .before .before .before .before .before .args in
-    synchronize-done (s .self) (s .out .now) (s .now) (s .epoch) (s .nonce)
-    (rw (← c .before .before .before .before .before .before .before .before .before .before .before .before .before .before .before .before .before .before .before .before .before .before .before .before .before .before .is-bad .ensures, c .before .before .before .before .before .before .before .before .before .before .before .before .before .before .before .before .before .before .before .before .before .before .before .before .before .if1 .left, ← c .before .before .before .before .before .before .before .before .before .before .before .before .before .before .before .before .before .before .before .before .before .before .before .before .is-bad2 .ensures, c .before .before .before .before .before .before .before .before .before .before .before .before .before .before .before .before .before .before .before .before .before .before .before .if2 .left)) (ap isInitializing (c .before .before .before .before .before .before .before .before .before .before .before .before .before .before .before .before .before .before .before .before .before .enum-told .given .1)) _ refl
-    (c .before .before .before .before .before .before .before .before .before .before .before .before .before .before .before .before .before .before .request .result) (c .before .before .before .before .before .before .before .before .before .before .before .before .before .before .before .before .before .before .request .last .1 .1 .1 .1 .1 .0) (c .before .before .before .before .before .before .before .before .before .before .before .before .before .before .before .before .before .before .request .ensures) (not-false _ (c .before .before .before .before .before .before .before .before .before .before .before .before .before .before .if3 .left))
-    (untold-room (s .self) _ (c .before .before .before .before .before .before .before .before .before .before .before .before .before .before .before .before .before .before .before .before .before .before .before .before .before .before .before .before .good .0)) (c .before .before .before .before .before .before .before .before .before .before .before .started .result) (c .before .before .before .before .before .before .before .before .before .before .before .started .ensures)
+    let s = c .before .before .before .before .before .before .before .before .before .before .before .before .before .before .before .before .before .before in
+    let a = s .args in
+    let asked = c .before .before .before .before .before .before .before .request in
+    synchronize-done (a .self) (a .out .now) (a .now) (a .epoch) (a .nonce) (rw (← c .before .before .before .before .before .before .before .before .before .before .before .before .before .before .before .before .is-bad .ensures, c .before .before .before .before .before .before .before .before .before .before .before .before .before .before .before .if1 .left, ← c .before .before .before .before .before .before .before .before .before .before .before .before .before .before .is-bad2 .ensures, c .before .before .before .before .before .before .before .before .before .before .before .before .before .if2 .left))
+    (ap isInitializing (c .before .before .before .before .before .before .before .before .before .before .enum-told .given .1)) (c .before .before .before .before .before .before .before .before .before .issue .result) (c .before .before .before .before .before .before .before .before .before .issue .ensures) (asked .result) (asked .last .1 .1 .1 .1 .1 .0) (asked .ensures) (not-false _ (c .before .before .before .if3 .left))
+    (untold-room (a .self) _ (s .good .0)) (c .started .result) (c .started .ensures)
 
 pub synchronize-spec : {M : Type 1} → statement M
 synchronize-spec =
@@ -60,6 +68,7 @@ synchronize-spec =
     returns
     enum-told
     returns-2
+    issue-requires
     request-requires
     same-length
     returns-3

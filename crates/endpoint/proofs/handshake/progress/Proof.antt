@@ -1,5 +1,4 @@
 use borrow.Author.Needs.{needs}
-use borrow.Author.Tests.{lt-ltb, le-ltb}
 use Rattle.endpoint.proofs.handshake.progress.Statement.{statement}
 use Rattle.endpoint.proofs.handshake.progress.Tie as tie
 
@@ -7,10 +6,7 @@ less-requires : tie.Need-less-requires
 less-requires c κs = search needs
 
 returns : tie.Need-returns
-returns c = rw (lt-ltb 0 (c .before .before .args .remaining) (c .before .if1 .taken), c .less .ensures)
-
-returns-2 : tie.Need-returns-2
-returns-2 c = rw (le-ltb 0 (c .before .args .remaining) (c .if1 .left))
+returns c = rw (c .less .ensures)
 
 pub progress-spec : {M : Type 1} → statement M
-progress-spec = tie.close (tie.spec less-requires returns returns-2)
+progress-spec = tie.close (tie.spec less-requires returns)

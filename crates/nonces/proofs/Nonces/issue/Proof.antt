@@ -1,65 +1,55 @@
 -- `issue` takes the nonce out where it was, and writes it behind the others where they leave room.
 use borrow.Author.Needs.{needs}
-use borrow.Author.Tests.{lt-ltb, le-ltb}
-use mathlib.Core.Path.{_≡_, refl, sym, _∙_}
-use Prim.Native.Nat.{_<_, _≤_}
+use borrow.Author.Tests.{ltb-true, ltb-false}
+use mathlib.Core.Path.{_≡_}
 use native.Mathlib.Omega.{arith}
 use lib.ListN.{length}
-use Rattle.base.proofs.Arrays.{store-end}
-use Rattle.nonces.specs.Nonces.{outstanding, spent, fits, issued}
+use Rattle.nonces.proofs.Kept.{count-le, issued-some, issued-none}
 use Rattle.nonces.proofs.Nonces.issue.Statement.{statement}
 use Rattle.nonces.proofs.Nonces.issue.Tie as tie
 
-others-requires : tie.Need-others-requires
-others-requires c κs = search needs
+long : (c : tie.Start) → length (c .args .t1 .list) ≡ 256
+long c = search needs
 
 count-requires : tie.Need-count-requires
 count-requires c κs = search needs
 
-mul-next : tie.Need-mul-next
-mul-next c = search needs
+keep-others-requires : tie.Need-keep-others-requires
+keep-others-requires c κs =
+    let b = c .before .before in
+    (count-le (b .args .t1) (long b) (c .before .count .result) (c .before .count .ensures), long b)
 
-element-write-next : tie.Need-element-write-next
-element-write-next c = search needs
+mul-self : tie.Need-mul-self
+mul-self c = search needs
 
-add-next : tie.Need-add-next
-add-next c = search needs
+element-write-self : tie.Need-element-write-self
+element-write-self c = omega (arith, ltb-true)
 
-long : (c : tie.After-others) → length (c .others .result .list) ≡ 256
-long c = search needs
+add-self : tie.Need-add-self
+add-self c = omega (arith, ltb-true)
 
 returns : tie.Need-returns
-unfolding outstanding fits issued
 returns c =
-    let s = c .before .before .others .result in
-    let a = c .before .before .before .args in
-    let v : outstanding s ≡ spent (a .nonce) (outstanding (a .self)) = c .before .before .others .ensures in
-    let n : c .before .count .result ≡ length (outstanding s) = c .before .count .ensures in
-    let h : length (spent (a .nonce) (outstanding (a .self))) < 256 = rw v at (rw n at (c .if1 .taken)) in
-    record {
-      ok = sym (lt-ltb _ _ h);
-      view = simp (lt-ltb _ _ h) (store-end (s .list) (s .used) _ _ n (omega (arith, long (c .before .before))) ∙ rw v);
-      same = λ e. search needs;
-    }
+    let b = c .before .before .before .before in
+    let n = c .before .before .before .count in
+    let k = c .before .keep-others in
+    issued-some (b .args .t1) (long b) (n .result) (n .ensures) (b .args .nonce) (k .result) (k .last .0) (k .ensures) (c .if1 .taken) (omega (arith, ltb-true))
 
 returns-2 : tie.Need-returns-2
-unfolding outstanding fits issued
 returns-2 c =
-    let s = c .before .before .others .result in
-    let a = c .before .before .before .args in
-    let v : outstanding s ≡ spent (a .nonce) (outstanding (a .self)) = c .before .before .others .ensures in
-    let n : c .before .count .result ≡ length (outstanding s) = c .before .count .ensures in
-    let h : 256 ≤ length (spent (a .nonce) (outstanding (a .self))) = rw v at (rw n at (c .if1 .left)) in
-    record { ok = sym (le-ltb _ _ h); view = simp (le-ltb _ _ h); same = λ _. refl }
+    let b = c .before .before .before .before in
+    let n = c .before .before .before .count in
+    let k = c .before .keep-others in
+    issued-none (b .args .t1) (long b) (n .result) (n .ensures) (b .args .nonce) (k .result) (k .last .0) (k .ensures) (c .if1 .left) (omega (arith, ltb-false))
 
 pub issue-spec : {M : Type 1} → statement M
 issue-spec =
     tie.close
     (tie.spec
-    others-requires
     count-requires
-    mul-next
-    element-write-next
-    add-next
+    keep-others-requires
+    mul-self
+    element-write-self
+    add-self
     returns
     returns-2)

@@ -1,0 +1,53 @@
+use borrow.Author.Tests.{not-true, not-false}
+use mathlib.Core.Path.{_∙_, ap}
+use Rattle.timers.specs.Timers.{sentAt}
+use Rattle.endpoint.proofs.Asks.{ask-choked, ask-full, ask-done}
+use borrow.Author.Needs.{needs}
+use Rattle.endpoint.proofs.handshake.request.Statement.{statement}
+use Rattle.endpoint.proofs.handshake.request.Tie as tie
+
+returns : tie.Need-returns
+returns c =
+    let a = c .before .before .args in
+    ask-choked (a .clocks) (a .magic) (a .now) (a .nonce) (a .out .now) (a .queued) (a .issued) (not-true _ (c .if1 .taken))
+
+plain-requires : tie.Need-plain-requires
+plain-requires c κs = search needs
+
+same-length : tie.Need-same-length
+same-length c = search needs
+
+returns-2 : tie.Need-returns-2
+returns-2 c =
+    let a = c .before .before .before .before .before .before .before .before .args in
+    let q = c .before .before .before .before .plain in
+    ask-full (a .clocks) (a .magic) (a .now) (a .nonce) (a .out .now) (a .queued) (a .issued) (not-false _ (c .before .before .before .before .before .before .if1 .left)) (q .result) (q .last .0) (q .ensures) (not-true _ (c .if2 .taken))
+
+requested-requires : tie.Need-requested-requires
+requested-requires c κs = search needs
+
+sent-requires : tie.Need-sent-requires
+sent-requires c κs = search needs
+
+same-length-2 : tie.Need-same-length-2
+same-length-2 c = search needs
+
+returns-3 : tie.Need-returns-3
+returns-3 c =
+    let a = c .before .before .before .before .before .before .before .before .before .before .args in
+    let q = c .before .before .before .before .before .before .plain in
+    ask-done (a .clocks) (a .magic) (a .now) (a .nonce) (a .out .now) (a .queued) (a .issued) (not-false _ (c .before .before .before .before .before .before .before .before .if1 .left)) (q .result) (q .last .0) (q .ensures)
+    (c .sent .result) (not-false _ (c .before .before .if2 .left)) (c .sent .ensures ∙ ap (sentAt _) (c .before .requested .ensures))
+
+pub request-spec : {M : Type 1} → statement M
+request-spec =
+    tie.close
+    (tie.spec
+    returns
+    plain-requires
+    same-length
+    returns-2
+    requested-requires
+    sent-requires
+    same-length-2
+    returns-3)
