@@ -93,10 +93,6 @@ wide-is x h =
     rw (m, d) at (le-pieces 8 8 (x .low + 2 ^ 64 * x .high))
 
 -- sizes: those of the table
-pub head-length-law : (w : Wire) (n : ℕ) → length (head w n) ≡ sizeWith (w .body) (length (w .reports)) 0
-unfolding sizeWith
-head-length-law w n = rw (head-length, add-zero)
-
 pub bytes-length : (w : Wire) → Fits w → length (bytes w) ≡ sizeOf w
 unfolding bytes sizeOf sizeWith
 bytes-length w h = simp (length-append, head-length) (go (isInput (w .body)) (h .none))
@@ -123,6 +119,11 @@ table KeepAlive n b = refl
 pub size-table : (w : Wire) → sizeOf w ≡ tableSize w
 unfolding sizeOf
 size-table w = table (w .body) (length (w .reports)) (length (w .payload))
+
+-- a head is as long as a message without a payload
+pub head-length-law : (w : Wire) (n : ℕ) → length (head w n) ≡ bodySize (w .body) (length (w .reports)) 0
+unfolding sizeWith
+head-length-law w n = let size : length (head w n) ≡ sizeWith (w .body) (length (w .reports)) 0 = rw (head-length, add-zero) in size ∙ table (w .body) (length (w .reports)) 0
 
 pub least : (w : Wire) → 6 ≤ length (bytes w)
 unfolding bytes

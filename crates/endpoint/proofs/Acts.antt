@@ -50,7 +50,7 @@ use Rattle.endpoint.specs.Endpoint.{seen, DidAs, DoneAs}
 use Rattle.endpoint.specs.Handshaking.{RequestedAs}
 use Rattle.endpoint.specs.Due.{dueOf, clocksBy, flagsBy, toldBy}
 use Rattle.endpoint.specs.Batch.{reports, batch, SizedWith, WrittenAs, WrittenWhere}
-use Rattle.endpoint.proofs.Ends.{inPhase, remade, refused-did, done-done, queued-did, batch-did}
+use Rattle.endpoint.proofs.Ends.{inPhase, remade, grown, refused-did, done-done, queued-did, batch-did}
 use Rattle.endpoint.proofs.Settles.{did-settled}
 use Rattle.endpoint.proofs.Rooms.{full-events, room-none, full-bytes, room-bytes, reacted-full, reacted-done}
 use Rattle.endpoint.proofs.Unqueued.{unqueued}
@@ -69,11 +69,6 @@ acts p now epoch nonce statuses s =
     }
 
 -- ---- Running
-
--- e with other events and another end of its queue
-abbrev pub grown : Endpoint → Events → ℕ → Endpoint
-grown e events queued =
-    remade e (e .pending) (e .acked) (e .history) (e .sync) (e .nonces) (e .clocks) (e .flags) (e .quality) (e .statuses) (e .checksums) events queued
 
 module _ (e : Endpoint) (buffer : List ℕ) (statuses : Statuses) (now epoch : ℕ) (d : Due) where
   abbrev Ran : Effect

@@ -52,6 +52,11 @@ remade e pending acked history sync nonces clocks flags quality statuses checksu
       queued = queued;
     }
 
+-- the same with other events, and another end of its queue
+abbrev pub grown : Endpoint → Events → ℕ → Endpoint
+grown e events queued =
+    remade e (e .pending) (e .acked) (e .history) (e .sync) (e .nonces) (e .clocks) (e .flags) (e .quality) (e .statuses) (e .checksums) events queued
+
 module _ (e : Endpoint) (a : Answer) (d : Did) (h : d ≡ refused (numberOf a) (seen e)) where
   pub refused-done : DoneAs e d (record { answer = a; endpoint = e })
   unfolding refused

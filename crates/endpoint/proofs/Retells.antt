@@ -8,10 +8,10 @@ use Rattle.events.specs.declared.Events.{Events}
 use Rattle.events.specs.declared.Pushed.{Pushed}
 use Rattle.events.specs.Events.{held, hasRoom, PushedAs}
 use Rattle.endpoint.specs.declared.Endpoint.{Endpoint}
-use Rattle.endpoint.proofs.Ends.{remade}
+use Rattle.endpoint.proofs.Ends.{grown}
 
 abbrev pub retold : Endpoint → Events → Endpoint
-retold e events = remade e (e .pending) (e .acked) (e .history) (e .sync) (e .nonces) (e .clocks) (e .flags) (e .quality) (e .statuses) (e .checksums) events (e .queued)
+retold e events = grown e events (e .queued)
 
 pub record ToldAs (e : Endpoint) (more : List Entry) (s : Endpoint) : Type 0 where
   pub events : Events

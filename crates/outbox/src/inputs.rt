@@ -1,6 +1,5 @@
 // All pending inputs as one Input, its payload packed straight into the queue.
 use crate::Queued;
-use answer::Answer;
 use codec::Message;
 use codec::MessageBody;
 use codec::SIZES;
@@ -10,8 +9,12 @@ use codec::StatusReports;
 use packing::InputBytes;
 use pending::Pending;
 use status::Statuses;
+ghost use mathlib.Core.Path.{_≡_};
+ghost use Prim.Native.Nat.{_+_, _*_};
+ghost use lib.ListN.{length};
 ghost use Rattle.status.specs.Statuses.{held};
 ghost use Rattle.pending.specs.Pending.{waiting};
+ghost use Rattle.codec.specs.Sizes.{fixedSize};
 ghost use Rattle.outbox.specs.Outbox.{QueuedAs, ReportsAs, InputSizedAs, pendingInput};
 
 // The statuses as they travel: never more than a message may have.
@@ -31,6 +34,13 @@ fn reports_of(statuses: Statuses) -> StatusReports
         i += 1;
     }
     reports
+}
+
+// The bytes of an Input before its payload.
+fn head_size(statuses: Statuses) -> usize
+    ensures { λ r. ⌜ r ≡ fixedSize 2 + 5 * length (held statuses) ⌝ }
+{
+    SIZES[2] + STATUS_SIZE * statuses.count()
 }
 
 // Only a running endpoint sends inputs, so none requests a disconnect.
@@ -58,16 +68,17 @@ pub fn pending_input(
         reports,
     };
     let size = pending.payload_size(width);
-    let head = codec::write_head(out, at, message, size);
-    let answer = head.answer;
-    let Answer::Done = answer else {
+    let head = head_size(statuses);
+    if out.len() < at || out.len() - at < head + size {
         return Queued { ok: false, end: at };
-    };
-    let end = head.end;
-    pending.pack_all(out, end, width, acked);
+    }
+    // The payload goes first: the compiler cannot tell that a write to the buffer leaves the pending
+    // inputs as they were, so behind the head it would copy them once more.
+    pending.pack_all(out, at + head, width, acked);
+    codec::write_head(out, at, message, size);
     Queued {
         ok: true,
-        end: end + size,
+        end: at + head + size,
     }
 }
 
@@ -76,5 +87,5 @@ pub fn pending_input(
 pub fn input_size(statuses: Statuses, pending: Pending, width: usize) -> usize
     ensures { λ r. ⌜ InputSizedAs (held statuses) (waiting pending) width r ⌝ }
 {
-    SIZES[2] + STATUS_SIZE * statuses.count() + pending.payload_size(width)
+    head_size(statuses) + pending.payload_size(width)
 }

@@ -35,11 +35,14 @@ Constant n v = (c : Call) (s : Seen) → v c s .answer ≡ n
 abbrev pub Untouched : Version → Type 0
 Untouched v = (c : Call) (s : Seen) → v c s .after ≡ s
 
--- one handling the first packet and ignoring the rest: an Input is ignored as soon as a frame was received
+-- one handling the first packet and ignoring the rest: an Input, and every datagram, is ignored as soon as a frame was received
+abbrev unlessReceived : Seen → Did → Did
+unlessReceived s d = pick (eqb (newestOf (s .carried .receiver .history)) nullFrame) d (refused 0 s)
+
 abbrev ignoresInput : MessageBody → Seen → Did → Did
 ignoresInput (SyncRequest n) s d = d
 ignoresInput (SyncReply n) s d = d
-ignoresInput (Input r start ack) s d = pick (eqb (newestOf (s .carried .receiver .history)) nullFrame) d (refused 0 s)
+ignoresInput (Input r start ack) s d = unlessReceived s d
 ignoresInput (InputAck ack) s d = d
 ignoresInput (QualityReport a p) s d = d
 ignoresInput (QualityReply p) s d = d
@@ -49,7 +52,7 @@ ignoresInput KeepAlive s d = d
 abbrev pub firstOnly : Version
 firstOnly (Call.synchronize now epoch nonce buffer) s = step (Call.synchronize now epoch nonce buffer) s
 firstOnly (Call.message from count w now epoch nonce buffer) s = ignoresInput (w .body) s (step (Call.message from count w now epoch nonce buffer) s)
-firstOnly (Call.datagram from bytes now epoch nonce buffer) s = step (Call.datagram from bytes now epoch nonce buffer) s
+firstOnly (Call.datagram from bytes now epoch nonce buffer) s = unlessReceived s (step (Call.datagram from bytes now epoch nonce buffer) s)
 firstOnly (Call.act count statuses now epoch nonce buffer) s = step (Call.act count statuses now epoch nonce buffer) s
 firstOnly (Call.sendInput frame bytes count statuses now buffer) s = step (Call.sendInput frame bytes count statuses now buffer) s
 firstOnly (Call.disconnect now) s = step (Call.disconnect now) s

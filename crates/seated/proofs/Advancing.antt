@@ -1,20 +1,24 @@
 -- Advancing goes on to no frame above the newest, and only to frames of which every player's input is there.
 use borrow.Author.Tests.{ltb-false, le-ltb, eqb-true, eqb-false, ne-eqb}
 use mathlib.Core.Bool.{Bool, true, false}
+use mathlib.Core.List.{List, [], _∷_}
 use mathlib.Core.Logic.{_⊎_, inl, inr}
-use mathlib.Core.Path.{_≡_, refl, sym, _∙_}
+use mathlib.Core.Path.{_≡_, refl, sym, ap, _∙_}
 use Prim.Native.Nat.{ℕ, zero, suc, _+_, _-_, _≤_, _<_, min}
 use native.Mathlib.Omega.{arith}
 use native.Mathlib.Nat.{add-zero, add-suc, suc-add, mod-lt}
 use native.Mathlib.Numerals.{add-one}
 use lib.Dec.{eqb, ltb}
+use lib.ListN.{length, getD}
+use lib.Seq.{getD-take, length-take-le}
 use Rattle.base.specs.Pick.{pick}
 use Rattle.base.specs.First.{firstOf}
 use Rattle.frame.specs.Bias.{bias32}
 use Rattle.sound.proofs.Choices.{passes}
-use Rattle.watching.specs.Watch.{Watch}
+use Rattle.watching.specs.declared.SyncedInput.{SyncedInput}
+use Rattle.watching.specs.Watch.{Watch, playersOf}
 use Rattle.watching.specs.Inputs.{slotOf, placeOf, inputAt}
-use Rattle.watching.specs.Advance.{behind, heldAt, frameRefusal, framesToAdvance, framesRefusal, advanceRefusals, advanceRefusal}
+use Rattle.watching.specs.Advance.{behind, heldAt, frameRefusal, framesToAdvance, framesRefusal, syncedAt, requestAt, requestsFrom, requestsOf, advanceRefusals, advanceRefusal}
 use Rattle.seated.specs.Seated.{SeatedOwn, Seated}
 use Rattle.seated.proofs.Handling.{held-most}
 
@@ -72,6 +76,55 @@ advance-there w h z i player b c =
     let held = frames-there (framesToAdvance w) (suc (w .current)) w (after-none (firstOf (advanceRefusals w)) _ z .1) i b in
     let small = mod-lt (frame - bias32) {m = w .limits .slots} (omega (arith, h .own .limits .slots .0)) in
     h .whole (slotOf (w .limits .slots) frame) player small c ∙ held
+
+-- ---- what it hands back: of each of them, every player's input
+
+from-length : (n frame : ℕ) (w : Watch) → length (requestsFrom n frame w) ≡ n
+unfolding requestsFrom
+from-length zero frame w = refl
+from-length (suc n) frame w = ap suc (from-length n (suc frame) w)
+
+from-at : (n frame : ℕ) (w : Watch) (i : ℕ) → i < n → getD (requestsFrom n frame w) i [] ≡ requestAt (frame + i) w
+unfolding requestsFrom
+from-at zero frame w i b = absurd (omega arith)
+from-at (suc n) frame w zero b = rw add-zero refl
+from-at (suc n) frame w (suc i) b = rw (add-suc, ← suc-add) (from-at n (suc frame) w i (omega arith))
+
+module _ (w : Watch) (h : Seated w) where
+  few : w .host .setup .players ≤ 4
+  few = h .host .setup .players .1
+
+  request-length : (frame : ℕ) → length (requestAt frame w) ≡ w .host .setup .players
+  unfolding requestAt
+  request-length frame =
+      length-take-le (playersOf w) (syncedAt frame 0 w ∷ syncedAt frame 1 w ∷ syncedAt frame 2 w ∷ syncedAt frame 3 w ∷ []) (omega arith) ∙ omega (arith, few)
+
+  request-gives : (frame player : ℕ) (x : SyncedInput) → player < w .host .setup .players → getD (requestAt frame w) player x ≡ syncedAt frame player w
+  unfolding requestAt
+  request-gives frame player x b =
+      getD-take (playersOf w) (syncedAt frame 0 w ∷ syncedAt frame 1 w ∷ syncedAt frame 2 w ∷ syncedAt frame 3 w ∷ []) player x (omega (arith, few)) ∙ go player (omega (arith, few))
+    where
+      go : (p : ℕ) → p < 4 → getD (syncedAt frame 0 w ∷ syncedAt frame 1 w ∷ syncedAt frame 2 w ∷ syncedAt frame 3 w ∷ []) p x ≡ syncedAt frame p w
+      go zero c = refl
+      go (suc zero) c = refl
+      go (suc (suc zero)) c = refl
+      go (suc (suc (suc zero))) c = refl
+      go (suc (suc (suc (suc p)))) c = absurd (omega arith)
+
+  -- as many frames, and as many inputs in each
+  pub advance-counts : (length (requestsOf w) ≡ framesToAdvance w)
+      × ((i : ℕ) → i < framesToAdvance w → length (getD (requestsOf w) i []) ≡ w .host .setup .players)
+  unfolding requestsOf
+  advance-counts = (
+    from-length (framesToAdvance w) (suc (w .current)) w,
+    λ i b. ap length (from-at (framesToAdvance w) (suc (w .current)) w i b) ∙ request-length (suc (w .current) + i),
+  )
+
+  pub advance-gives : (i player : ℕ) (x : SyncedInput) → i < framesToAdvance w → player < w .host .setup .players
+      → getD (getD (requestsOf w) i []) player x ≡ syncedAt (suc (w .current) + i) player w
+  unfolding requestsOf
+  advance-gives i player x b c =
+      ap (λ (l : List SyncedInput). getD l player x) (from-at (framesToAdvance w) (suc (w .current)) w i b) ∙ request-gives (suc (w .current) + i) player x c
 
 -- ---- and it is the first of them that decides
 

@@ -47,7 +47,7 @@ use Rattle.seated.proofs.Rising.{Upto, rising-inputs, news-rise}
 found-newest : (f : ℕ) (l : List InputBytes) → foundIn f l .held ≡ true → f ≤ newestOf l
 found-newest f l e = omega (arith, newest-mem l (found-mem f l e), found-frame f l e)
 
--- so a packet whose reference is held goes on from the newest without a gap
+-- so a packet whose reference is held goes on from the newest without a gap, or is the first
 gapless : (start : ℕ) (r : Receiver) → reference start r .held ≡ true → Next (newestOf (r .history)) 0 (max (suc (newestOf (r .history))) start)
 unfolding referenceFrame
 gapless start r e = go (eqb n nullFrame) refl (found-newest (referenceFrame start (r .history)) (r .history) e)

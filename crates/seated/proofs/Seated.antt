@@ -1,14 +1,14 @@
--- `new` gives what holds of every session, and every call keeps it, whatever its arguments.
-use borrow.Author.Tests.{ltb-false, eqb-true}
+-- `new` gives what holds of every session, and every call keeps it, with any arguments of the code's types.
+use borrow.Author.Tests.{ltb-false, leb-false, eqb-true}
 use mathlib.Core.Bool.{false}
 use mathlib.Core.List.{List, [], _∷_, _++_, append-nil}
 use mathlib.Core.Logic.{inl}
 use mathlib.Core.Path.{_≡_, refl, sym, _∙_}
-use Prim.Native.Nat.{ℕ, zero, suc, _+_, _-_, _*_, _≤_, min}
+use Prim.Native.Nat.{ℕ, zero, suc, _+_, _-_, _*_, _^_, _≤_, _<_, min}
 use native.Mathlib.Omega.{arith}
-use lib.Dec.{eqb}
+use lib.Dec.{eqb, leb, ltb}
 use lib.ListN.{length, take, getD, replicate, length-replicate}
-use Rattle.frame.specs.Bias.{nullFrame}
+use Rattle.frame.specs.Bias.{bias32, nullFrame}
 use Rattle.history.specs.History.{newestOf}
 use Rattle.history.proofs.Laws.{start-newest}
 use Rattle.events.specs.declared.Entry.{Entry}
@@ -37,7 +37,7 @@ use Rattle.watching.specs.Inputs.{blankInput, freshInputs}
 use Rattle.watching.specs.Watch.{Watch, madeWatch, withHost}
 use Rattle.watching.specs.Watch as Watch
 use Rattle.watching.specs.Handling.{handledAll}
-use Rattle.watching.specs.Advance.{behind, framesToAdvance, advanceRefusal, advanced}
+use Rattle.watching.specs.Advance.{behind, behindOverflows, framesToAdvance, advanceRefusal, advanced}
 use Rattle.watching.specs.Call.{Call}
 use Rattle.watching.specs.Step.{Did, fresh, refused, changed, decided, byHost, hostActs, hostTakes, polled, pollStep, advanceStep, framesBehindStep, step}
 use Rattle.seated.specs.Typed.{Typed, TypedSession}
@@ -283,6 +283,12 @@ reached-seated g now t z cs ts = run-seated cs ts (fresh g now .1) (fresh-seated
 -- newest less current is not negative: the number of frames behind is exact
 pub behind-exact : (w : Watch) → Seated w → w .current + behind w ≡ w .newest
 behind-exact w h = omega (arith, h .own .newest)
+
+-- and it is an i32 where 6 is not given, as it is at newest i32 max and current -1
+pub behind-fits : (w : Watch) → Seated w → behindOverflows w ≡ false → behind w < bias32
+behind-fits w h e =
+    let t = or-none (ltb (w .newest + bias32) (w .current)) (leb (2 ^ 32) (w .newest + bias32 - w .current)) e in
+    omega (arith, leb-false (2 ^ 32) (w .newest + bias32 - w .current) (t .1), h .own .newest)
 
 -- an Input that a poll handles, after those before it, is of no frame below the newest at that time
 pub handled-ascends : (w : Watch) → Seated w → (now epoch nonce buffer : ℕ) → TypedPlace now epoch nonce buffer → (l rest : List Entry) (frame player : ℕ) (input : List ℕ)

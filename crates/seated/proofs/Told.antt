@@ -1,4 +1,4 @@
--- Over every run of a session from `new`: the events handled rise from frame -1 to the newest, and what an advance hands back came with them.
+-- Over every run of a session from `new`: the events handled rise up to the newest frame, and what an advance hands back came with them.
 use borrow.Author.Tests.{eqb-true, eqb-false}
 use mathlib.Core.Bool.{Bool, true, false}
 use mathlib.Core.List.{List, [], _∷_, _++_, append-nil, append-assoc, List·Memᴰ as Mem, List·Memᴰ·head as here, Memᴰ·append-left as mem-left, Memᴰ·append-right as mem-right}
@@ -169,16 +169,17 @@ module _ (g : SessionSetup) (now : ℕ) (t : TypedSession g) (z : fresh g now .0
   kept : Kept begun [] (allHandled cs begun) reached
   kept = run-kept cs ts begun (fresh-seated g now t z) [] fresh-came
 
-  -- frame by frame without a gap, each once for each player
+  -- the first frame may be any that is not negative; after it frame by frame without a gap, each once for each player
   pub told-rises : Rising (g .«num_players») nullFrame 0 (reached .newest) (allHandled cs begun)
   unfolding fresh madeWatch made termsWith hostSetup
   told-rises = kept .rises
 
+  -- so Inputs of one frame for one player tell one input
   pub told-once : (frame player : ℕ) (input other : List ℕ) → Mem (inputEvent player (record { frame = frame; input = input })) (allHandled cs begun)
       → Mem (inputEvent player (record { frame = frame; input = other })) (allHandled cs begun) → input ≡ other
   told-once frame player input other a b = rising-once (g .«num_players») nullFrame 0 (reached .newest) (allHandled cs begun) frame player input other told-rises a b
 
-  -- what an advance hands back of a frame for a player is what was told of that frame for that player
+  -- what stands for a player at a frame of an advance, which is what it hands back (`advance-gives`), is what was told of that frame for that player
   pub advance-told : advanceRefusal reached ≡ 0 → (i player : ℕ) → i < framesToAdvance reached → player < reached .host .setup .players
       → Mem (inputEvent player (record { frame = suc (reached .current) + i; input = syncedAt (suc (reached .current) + i) player reached .input })) (allHandled cs begun)
   unfolding inputAt syncedAt

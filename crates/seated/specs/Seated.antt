@@ -29,7 +29,7 @@ abbrev pub Next : (last due frame : ℕ) → Type 0
 Next last zero frame = (last < frame) × ((last ≡ nullFrame) ⊎ (frame ≡ suc last))
 Next last (suc due) frame = frame ≡ last
 
--- of an Input also: its player is the one due, and one of the session's; its input has 16 bytes
+-- of an Input also: its player is the one due, and one of the session's; its input has length 16
 abbrev pub Follows : (players last due : ℕ) → Event → (input : List ℕ) → Type 0
 Follows players last due (Event.Synchronizing total count) input = Unit {0}
 Follows players last due Event.Synchronized input = Unit {0}
@@ -70,7 +70,7 @@ pub record SeatedLimits (l : Limits) : Type 0 where
   pub behind : l .«max_frames_behind» ≤ 65535
   pub speed : l .«catchup_speed» ≤ 65535
 
--- a stored input: of no frame below -1 and of none above the newest, with 16 bytes
+-- a stored input: of no frame below -1 and of none above the newest, of length 16
 pub record SeatedInput (newest : ℕ) (x : PlayerInput) : Type 0 where
   pub low : nullFrame ≤ x .frame
   pub high : x .frame ≤ newest

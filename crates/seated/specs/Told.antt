@@ -39,7 +39,7 @@ allHandled (c ∷ cs) w = handledBy c w ++ allHandled cs (step c w .after)
 abbrev pub inputEvent : (player : ℕ) → PlayerInput → Entry
 inputEvent player x = record { event = Event.Input (x .frame) player; input = x .input }
 
--- at every place stands a blank input, or one that came with an event of its frame and player
+-- at every place stands an input of frame -1, as a blank one is, or one that came with an event of its frame and player
 abbrev pub Came : List Entry → List PlayerInput → Type 0
 Came events l =
     (slot player : ℕ) → player < 4

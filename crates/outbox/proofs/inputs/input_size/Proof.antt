@@ -1,7 +1,6 @@
 -- `input_size` is the table's number for an Input, with at most 4 statuses and 8,256 bytes of payload.
 use borrow.Author.Needs.{needs}
 use mathlib.Core.Path.{_≡_}
-use Prim.Native.Nat.{_≤_}
 use native.Mathlib.Omega.{arith}
 use lib.ListN.{length, length-map}
 use Rattle.base.proofs.Arrays.{unmap}
@@ -11,11 +10,11 @@ use Rattle.outbox.specs.Outbox.{pendingInput}
 use Rattle.outbox.proofs.inputs.input_size.Statement.{statement}
 use Rattle.outbox.proofs.inputs.input_size.Tie as tie
 
-array-read-result : tie.Need-array-read-result
-array-read-result c = search needs
+head-size-requires : tie.Need-head-size-requires
+head-size-requires c κs = search needs
 
-count-requires : tie.Need-count-requires
-count-requires c κs = search needs
+payload-size-requires : tie.Need-payload-size-requires
+payload-size-requires c κs = search needs
 
 long-statuses : (c : tie.Start) → length (c .args .statuses .list) ≡ 4
 long-statuses c = search (unmap, needs)
@@ -23,28 +22,16 @@ long-statuses c = search (unmap, needs)
 long-pending : (c : tie.Start) → length (c .args .pending .slots) ≡ 129
 long-pending c = search (unmap, needs)
 
-few : (c : tie.After-count) → c .count .result ≤ 4
-few c = omega (arith, c .count .ensures, long-statuses (c .before), held-le (c .before .args .statuses))
-
-mul-result : tie.Need-mul-result
-mul-result c = omega (arith, few c)
-
 add-result : tie.Need-add-result
-add-result c = omega (arith, few c)
-
-payload-size-requires : tie.Need-payload-size-requires
-payload-size-requires c κs = search needs
-
-add-result-2 : tie.Need-add-result-2
-add-result-2 c =
+add-result c =
     let s = c .before .before in
     let n = payload-most (s .args .pending) (s .args .width) (c .payload-size .result) (long-pending s) (c .payload-size .ensures) in
-    omega (arith, few (c .before))
+    omega (arith, c .before .head-size .ensures, long-statuses s, held-le (s .args .statuses))
 
 returns : tie.Need-returns
 unfolding pendingInput
 returns c =
-    let n = c .before .count .ensures in
+    let n = c .before .head-size .ensures in
     let size = c .payload-size .ensures in
     record {
       counted = rw (n, size .counted);
@@ -55,10 +42,7 @@ pub input-size-spec : {M : Type 1} → statement M
 input-size-spec =
     tie.close
     (tie.spec
-    array-read-result
-    count-requires
-    mul-result
-    add-result
+    head-size-requires
     payload-size-requires
-    add-result-2
+    add-result
     returns)
