@@ -28,6 +28,22 @@ pub fn passed(last: u64, wait: u64, now: u64) -> bool
     last < now && wait < now - last
 }
 
+// The thin setter that document 01 asks for: the clocks are lent to it by `&mut` and set in place. A function over `&mut` of a struct is proved by
+// hand, so there is one for all clocks, which writes the record whole; the steps below say by value which clock changes.
+fn set(clocks: &mut Clocks, next: Clocks)
+    ensures { λ _. ⌜ now (clocks .exit) ≡ next ⌝ }
+{
+    *clocks = next;
+}
+
+// Lends a copy of the clocks to `set`. Lending a struct is proved by hand too, so nothing else here does it; the steps take and give values.
+fn set_to(mut clocks: Clocks, next: Clocks) -> Clocks
+    ensures { λ r. ⌜ r ≡ next ⌝ }
+{
+    set(&mut clocks, next);
+    clocks
+}
+
 impl Clocks {
     pub fn new(now: u64) -> Clocks
         ensures { λ r. ⌜ r ≡ madeAt now ⌝ }
@@ -45,45 +61,50 @@ impl Clocks {
     pub fn input_received(self, now: u64) -> Clocks
         ensures { λ r. ⌜ r ≡ inputAt now self ⌝ }
     {
-        Clocks {
+        let next = Clocks {
             running_last_input_recv: now,
             ..self
-        }
+        };
+        set_to(self, next)
     }
 
     pub fn sent(self, now: u64) -> Clocks
         ensures { λ r. ⌜ r ≡ sentAt now self ⌝ }
     {
-        Clocks {
+        let next = Clocks {
             last_send_time: now,
             ..self
-        }
+        };
+        set_to(self, next)
     }
 
     pub fn requested(self, now: u64) -> Clocks
         ensures { λ r. ⌜ r ≡ requestAt now self ⌝ }
     {
-        Clocks {
+        let next = Clocks {
             last_sync_request_time: now,
             ..self
-        }
+        };
+        set_to(self, next)
     }
 
     pub fn heard(self, now: u64) -> Clocks
         ensures { λ r. ⌜ r ≡ heardAt now self ⌝ }
     {
-        Clocks {
+        let next = Clocks {
             last_recv_time: now,
             ..self
-        }
+        };
+        set_to(self, next)
     }
 
     pub fn shutting_down(self, at: u64) -> Clocks
         ensures { λ r. ⌜ r ≡ shutdownAt at self ⌝ }
     {
-        Clocks {
+        let next = Clocks {
             shutdown_timeout: at,
             ..self
-        }
+        };
+        set_to(self, next)
     }
 }
