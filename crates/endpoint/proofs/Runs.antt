@@ -11,7 +11,7 @@ use Rattle.base.specs.Pick.{pick}
 use Rattle.packing.specs.declared.input_bytes.InputBytes.{InputBytes}
 use Rattle.status.specs.declared.ConnectionStatus.{ConnectionStatus}
 use Rattle.timers.specs.declared.Clocks.{Clocks}
-use Rattle.timers.specs.Timers.{passed}
+use Rattle.timers.specs.Timers.{passed, timed}
 use Rattle.codec.specs.Message.{Wire}
 use Rattle.codec.specs.Read.{plain}
 use Rattle.codec.specs.declared.MessageBody.the-variants.{QualityReport, KeepAlive}
@@ -27,7 +27,7 @@ use Rattle.protocol.specs.Sending.{newest, pendingIn, pendingQueued}
 use Rattle.protocol.specs.Reports.{pingOf, reportQueued}
 use Rattle.protocol.specs.Act.{resendDue, reportDue, keepAliveDue, interruptionDue, disconnectDue, resent, reported, keptAlive, interrupted, timedOut, acted}
 use Rattle.endpoint.specs.declared.plan.Due.{Due}
-use Rattle.endpoint.specs.Due.{dueOf, timed, clocksBy, flagged, flagsBy, toldBy}
+use Rattle.endpoint.specs.Due.{dueOf, clocksBy, flagged, flagsBy, toldBy}
 use Rattle.endpoint.specs.Batch.{batch, reports}
 
 -- a clock set by one of two

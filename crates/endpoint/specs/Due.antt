@@ -5,7 +5,7 @@ use Prim.Native.Nat.{ℕ}
 use lib.ListN.{replicate}
 use Rattle.base.specs.Pick.{pick}
 use Rattle.timers.specs.declared.Clocks.{Clocks}
-use Rattle.timers.specs.Timers.{passed}
+use Rattle.timers.specs.Timers.{passed, timed}
 use Rattle.events.specs.declared.Entry.{Entry}
 use Rattle.events.specs.declared.Event.the-variants.{NetworkInterrupted, Disconnected}
 use Rattle.protocol.specs.declared.Flags.{Flags}
@@ -23,18 +23,6 @@ dueOf now c f pending notifyStart disconnectTimeout =
       «keep_alive» = passed (pick ((resend && pending) || report) now (c .«last_send_time»)) 200 now;
       interruption = not (f .«disconnect_notify_sent») && passed (c .«last_recv_time») notifyStart now;
       disconnect = not (f .«disconnect_event_sent») && passed (c .«last_recv_time») disconnectTimeout now;
-    }
-
--- clocks restarted, each where its test holds
-abbrev pub timed : (now : ℕ) → (resend report sends : Bool) → Clocks → Clocks
-timed now resend report sends c =
-    record {
-      «running_last_quality_report» = pick report now (c .«running_last_quality_report»);
-      «running_last_input_recv» = pick resend now (c .«running_last_input_recv»);
-      «last_send_time» = pick sends now (c .«last_send_time»);
-      «last_sync_request_time» = c .«last_sync_request_time»;
-      «last_recv_time» = c .«last_recv_time»;
-      «shutdown_timeout» = c .«shutdown_timeout»;
     }
 
 unfoldable pub clocksBy : Due → (now : ℕ) → Clocks → Clocks

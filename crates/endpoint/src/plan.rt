@@ -30,16 +30,6 @@ pub struct Due {
     pub disconnect: bool,
 }
 
-// A clock after a step that sets it where it is due.
-fn time_if(due: bool, now: u64, last: u64) -> u64
-    ensures { λ r. ⌜ r ≡ pick due now last ⌝ }
-{
-    if due {
-        return now;
-    }
-    last
-}
-
 // How many of something that comes only where it is due.
 pub(crate) fn count_if(due: bool, count: usize) -> usize
     ensures { λ r. ⌜ r ≡ pick due count 0 ⌝ }
@@ -68,7 +58,7 @@ pub(crate) fn due_at(
         QUALITY_REPORT_INTERVAL,
         now,
     );
-    let sent = time_if(input | report, now, clocks.last_send_time);
+    let sent = timers::time_if(input | report, now, clocks.last_send_time);
     let keep_alive = timers::passed(sent, KEEP_ALIVE_INTERVAL, now);
     let quiet = timers::passed(clocks.last_recv_time, notify_start, now);
     let silent = timers::passed(clocks.last_recv_time, disconnect_timeout, now);
@@ -99,12 +89,7 @@ pub(crate) fn sends(due: Due) -> bool
 pub(crate) fn clocks_after(due: Due, now: u64, clocks: Clocks) -> Clocks
     ensures { λ r. ⌜ r ≡ clocksBy due now clocks ⌝ }
 {
-    Clocks {
-        running_last_quality_report: time_if(due.report, now, clocks.running_last_quality_report),
-        running_last_input_recv: time_if(due.resend, now, clocks.running_last_input_recv),
-        last_send_time: time_if(sends(due), now, clocks.last_send_time),
-        ..clocks
-    }
+    clocks.fired(due.resend, due.report, sends(due), now)
 }
 
 pub(crate) fn flags_after(due: Due, flags: Flags) -> Flags

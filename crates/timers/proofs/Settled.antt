@@ -2,9 +2,10 @@
 use mathlib.Core.Bool.{Bool}
 use mathlib.Core.Path.{_≡_}
 use Prim.Native.Nat.{ℕ}
+use Rattle.base.specs.Pick.{pick}
 use Rattle.base.proofs.Settled.{settled}
 use Rattle.timers.specs.declared.Clocks.{Clocks}
-use Rattle.timers.specs.Timers.{badClock, passed, madeAt, inputAt, sentAt, requestAt, heardAt, shutdownAt}
+use Rattle.timers.specs.Timers.{badClock, passed, madeAt, inputAt, sentAt, requestAt, heardAt, shutdownAt, timed}
 
 module _ (now : ℕ) where
   pub is-bad-settled : (r s : Bool) → r ≡ badClock now → s ≡ badClock now → r ≡ s
@@ -12,6 +13,9 @@ module _ (now : ℕ) where
 
   pub passed-settled : (last wait : ℕ) (r s : Bool) → r ≡ passed last wait now → s ≡ passed last wait now → r ≡ s
   passed-settled last wait = settled (λ r. r) (passed last wait now)
+
+  pub time-if-settled : (due : Bool) (last r s : ℕ) → r ≡ pick due now last → s ≡ pick due now last → r ≡ s
+  time-if-settled due last = settled (λ r. r) (pick due now last)
 
   pub new-settled : (r s : Clocks) → r ≡ madeAt now → s ≡ madeAt now → r ≡ s
   new-settled = settled (λ r. r) (madeAt now)
@@ -28,6 +32,9 @@ module _ (now : ℕ) where
 
     pub heard-settled : r ≡ heardAt now c → s ≡ heardAt now c → r ≡ s
     heard-settled = settled (λ r. r) (heardAt now c) r s
+
+    pub fired-settled : (resend report sends : Bool) → r ≡ timed now resend report sends c → s ≡ timed now resend report sends c → r ≡ s
+    fired-settled resend report sends = settled (λ r. r) (timed now resend report sends c) r s
 
     pub shutting-down-settled : r ≡ shutdownAt now c → s ≡ shutdownAt now c → r ≡ s
     shutting-down-settled = settled (λ r. r) (shutdownAt now c) r s

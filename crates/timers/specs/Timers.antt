@@ -3,6 +3,7 @@ use mathlib.Core.Bool.{Bool, true, false, _||_}
 use mathlib.Core.Path.{_≡_, refl}
 use Prim.Native.Nat.{ℕ, _+_, _-_, _^_}
 use lib.Dec.{ltb, leb}
+use Rattle.base.specs.Pick.{pick}
 use Rattle.timers.specs.declared.Clocks.{Clocks}
 
 -- clocks at most 2^62 - 1
@@ -94,6 +95,19 @@ shutdownAt time c =
       «last_sync_request_time» = c .«last_sync_request_time»;
       «last_recv_time» = c .«last_recv_time»;
       «shutdown_timeout» = time;
+    }
+
+-- ---- the clocks that an act restarts, each where its test holds
+
+abbrev pub timed : (now : ℕ) → (resend report sends : Bool) → Clocks → Clocks
+timed now resend report sends c =
+    record {
+      «running_last_quality_report» = pick report now (c .«running_last_quality_report»);
+      «running_last_input_recv» = pick resend now (c .«running_last_input_recv»);
+      «last_send_time» = pick sends now (c .«last_send_time»);
+      «last_sync_request_time» = c .«last_sync_request_time»;
+      «last_recv_time» = c .«last_recv_time»;
+      «shutdown_timeout» = c .«shutdown_timeout»;
     }
 
 -- worked: the last clock that is taken, and the first that is refused

@@ -1,6 +1,7 @@
 // The timer clocks of an endpoint (ggrs, protocol.rs), when a clock is refused, and when a wait is over. Each clock is set by a step of its own.
 ghost use mathlib.Core.Path.{_≡_};
-ghost use Rattle.timers.specs.Timers.{badClock, passed, madeAt, inputAt, sentAt, requestAt, heardAt, shutdownAt};
+ghost use Rattle.base.specs.Pick.{pick};
+ghost use Rattle.timers.specs.Timers.{badClock, passed, madeAt, inputAt, sentAt, requestAt, heardAt, shutdownAt, timed};
 
 // The first clock that is refused.
 pub const CLOCK_END: u64 = 0x4000_0000_0000_0000;
@@ -26,6 +27,16 @@ pub fn passed(last: u64, wait: u64, now: u64) -> bool
     ensures { λ r. ⌜ r ≡ passed last wait now ⌝ }
 {
     last < now && wait < now - last
+}
+
+// A clock after a step that sets it where it is due.
+pub fn time_if(due: bool, now: u64, last: u64) -> u64
+    ensures { λ r. ⌜ r ≡ pick due now last ⌝ }
+{
+    if due {
+        return now;
+    }
+    last
 }
 
 // The thin setter that document 01 asks for: the clocks are lent to it by `&mut` and set in place. A function over `&mut` of a struct is proved by
@@ -93,6 +104,19 @@ impl Clocks {
     {
         let next = Clocks {
             last_recv_time: now,
+            ..self
+        };
+        set_to(self, next)
+    }
+
+    // What an act restarts: the input's clock with a resend, the report's with a report, and the send time where anything goes out.
+    pub fn fired(self, resend: bool, report: bool, sends: bool, now: u64) -> Clocks
+        ensures { λ r. ⌜ r ≡ timed now resend report sends self ⌝ }
+    {
+        let next = Clocks {
+            running_last_quality_report: time_if(report, now, self.running_last_quality_report),
+            running_last_input_recv: time_if(resend, now, self.running_last_input_recv),
+            last_send_time: time_if(sends, now, self.last_send_time),
             ..self
         };
         set_to(self, next)
