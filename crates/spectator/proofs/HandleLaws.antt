@@ -19,6 +19,8 @@ use Rattle.quality.specs.declared.Quality.{Quality}
 use Rattle.quality.specs.declared.Advantage.the-variants.{Frames, Overflow}
 use Rattle.quality.specs.Quality.{localSet}
 use Rattle.quality.specs.Advantage.{advantageOf, advantageOverflows, shownAdvantage}
+use Rattle.status.specs.declared.list.Statuses.{Statuses}
+use Rattle.status.specs.Statuses.{held as heldStatuses}
 use Rattle.protocol.specs.Seen.{Seen, withQuality}
 use Rattle.protocol.specs.Did.{refused, decided}
 use Rattle.protocol.specs.Sending.{newest}
@@ -96,12 +98,13 @@ module _ (t : Terms) (p : Parts) where
   unfolding tell
   tell-changes x events h = record { each = λ w k. rw (h, k .limits, k .addr) }
 
-  pub store-changes : (frame player : ℕ) (input : List ℕ) (inputs : Inputs) (quality : Quality)
+  pub store-changes : (frame player : ℕ) (input : List ℕ) (inputs : Inputs) (quality : Quality) (statuses : Statuses)
       → inputsOf inputs ≡ inputStored (t .limits .slots) frame player input (inputsOf (p .inputs)) → quality ≡ qualityAfter (t .newest) (t .fps) frame (p .quality)
-      → ChangedAs t (inputHandled frame player input) p (record { state = p .state; inputs = inputs; statuses = t .statuses; events = p .events; «last_recv_frame» = frame; quality = quality })
+      → heldStatuses statuses ≡ heldStatuses (t .statuses)
+      → ChangedAs t (inputHandled frame player input) p (record { state = p .state; inputs = inputs; statuses = statuses; events = p .events; «last_recv_frame» = frame; quality = quality })
   unfolding inputHandled
-  store-changes frame player input inputs quality hi hq =
-      record { each = λ w k. rw (advantage-after frame (withQuality (p .quality) (w .host)), hi, hq, k .limits, k .newest, k .fps, k .statuses) }
+  store-changes frame player input inputs quality statuses hi hq hs =
+      record { each = λ w k. rw (advantage-after frame (withQuality (p .quality) (w .host)), hi, hq, hs, k .limits, k .newest, k .fps, k .statuses) }
 
 module _ (t : Terms) (p r : Parts) where
   -- an event that is handled by its kind

@@ -66,7 +66,7 @@ impl Parts {
     {
         let inputs = self.inputs.store(terms.limits.slots, frame, player, input);
         let quality = quality_after(self.quality, terms.newest, terms.fps, frame);
-        let statuses = terms.statuses;
+        let statuses = terms.statuses.lent();
         Parts {
             inputs,
             statuses,

@@ -1,4 +1,5 @@
 pub mod Merge
 pub mod MergeAll
 pub mod Held
+pub mod Fours
 pub mod Settled

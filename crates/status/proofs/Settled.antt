@@ -2,13 +2,13 @@
 use mathlib.Core.Bool.{Bool}
 use mathlib.Core.List.{List}
 use mathlib.Core.Path.{_≡_}
-use Prim.Native.Nat.{ℕ}
-use lib.ListN.{length, getD}
+use Prim.Native.Nat.{ℕ, min}
+use lib.ListN.{length, take, getD}
 use Rattle.base.proofs.Settled.{settled}
 use Rattle.status.specs.declared.ConnectionStatus.{ConnectionStatus}
 use Rattle.status.specs.declared.list.Statuses.{Statuses}
 use Rattle.status.specs.Status.{defaultStatus, reported, merged}
-use Rattle.status.specs.Statuses.{held, fresh, mergedAt, mergedAll}
+use Rattle.status.specs.Statuses.{held, CopiedAs, fresh, mergedAt, mergedAll}
 
 pub default-settled : (r s : ConnectionStatus) → r ≡ defaultStatus → s ≡ defaultStatus → r ≡ s
 default-settled = settled (λ r. r) defaultStatus
@@ -37,3 +37,9 @@ module _ (l : Statuses) where
 
   pub merge-all-settled : (m r s : Statuses) → held r ≡ mergedAll (held l) (held m) → held s ≡ mergedAll (held l) (held m) → held r ≡ held s
   merge-all-settled m = settled held (mergedAll (held l) (held m))
+
+  pub lent-settled : (r s : Statuses) → held r ≡ held l → held s ≡ held l → held r ≡ held s
+  lent-settled = settled held (held l)
+
+pub copied-settled : (l : List ConnectionStatus) (r s : Statuses) → CopiedAs l r → CopiedAs l s → (held r ≡ held s) × (r .count ≡ s .count)
+copied-settled l r s p q = (settled held (take 4 l) r s (p .0) (q .0), settled (λ (x : Statuses). x .count) (min (length l) 4) r s (p .1) (q .1))

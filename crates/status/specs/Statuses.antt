@@ -3,7 +3,7 @@ use mathlib.Core.Path.{_≡_, refl}
 use mathlib.Core.Bool.{true, false}
 use mathlib.Core.List.{List, [], _∷_}
 use Prim.Native.Nat.{ℕ, min}
-use lib.ListN.{take, replicate, getD, set}
+use lib.ListN.{length, take, replicate, getD, set}
 use Rattle.status.specs.declared.ConnectionStatus.{ConnectionStatus}
 use Rattle.status.specs.declared.list.Statuses.{Statuses}
 use Rattle.status.specs.Status.{defaultStatus, merged, reported}
@@ -11,6 +11,10 @@ use Rattle.status.specs.Status.{defaultStatus, merged, reported}
 -- the statuses held; a count beyond the array counts as the array's length
 unfoldable pub held : Statuses → List ConnectionStatus
 held s = take (s .count) (s .list)
+
+-- a list of any length copied into a store: its first four, and how many they are
+abbrev pub CopiedAs : List ConnectionStatus → Statuses → Type 0
+CopiedAs l r = (held r ≡ take 4 l) × (r .count ≡ min (length l) 4)
 
 -- the default for each player, of whom there are at most 4
 unfoldable pub fresh : ℕ → List ConnectionStatus

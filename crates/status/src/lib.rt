@@ -3,8 +3,10 @@ ghost use mathlib.Core.Path.{_≡_};
 ghost use Prim.Native.Nat.{max};
 ghost use Rattle.status.specs.Status.{defaultStatus, reported, merged};
 
+mod lent;
 mod list;
 
+pub use lent::copied;
 pub use list::Statuses;
 
 pub struct ConnectionStatus {

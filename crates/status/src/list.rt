@@ -73,7 +73,7 @@ impl Statuses {
     }
 }
 
-fn at_most_four(n: usize) -> usize
+pub(crate) fn at_most_four(n: usize) -> usize
     ensures { λ r. ⌜ r ≡ min n 4 ⌝ }
 {
     if n < 4 { n } else { 4 }

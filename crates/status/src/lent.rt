@@ -1,0 +1,67 @@
+// The lent list of status records: the copy of one, and the list that a store lends.
+ghost use mathlib.Core.Path.{_≡_};
+ghost use mathlib.Core.List.{[], _∷_};
+ghost use Prim.Native.Nat.{_≤_, min};
+ghost use lib.ListN.{take, getD};
+ghost use Rattle.status.specs.Status.{defaultStatus};
+ghost use Rattle.status.specs.Statuses.{held, CopiedAs};
+use crate::ConnectionStatus;
+use crate::Statuses;
+use crate::list::at_most_four;
+
+// The record at a place, or the default where there is none.
+fn status_or(list: &[ConnectionStatus], at: usize) -> ConnectionStatus
+    ensures { λ r. ⌜ r ≡ getD (now (list .entry)) at defaultStatus ⌝ }
+{
+    if list.len() <= at {
+        return ConnectionStatus::default();
+    }
+    list[at]
+}
+
+fn packed(
+    a: ConnectionStatus,
+    b: ConnectionStatus,
+    c: ConnectionStatus,
+    d: ConnectionStatus,
+    n: usize,
+) -> Statuses
+    ensures { λ r. ⌜ (held r ≡ take n (a ∷ b ∷ c ∷ d ∷ [])) × (r .count ≡ min n 4) ⌝ }
+{
+    let list = [a, b, c, d];
+    Statuses {
+        list,
+        count: at_most_four(n),
+    }
+}
+
+// The first four in their order; a shorter list whole.
+pub fn copied(list: &[ConnectionStatus]) -> Statuses
+    ensures { λ r. ⌜ CopiedAs (now (list .entry)) r ⌝ }
+{
+    packed(
+        status_or(list, 0),
+        status_or(list, 1),
+        status_or(list, 2),
+        status_or(list, 3),
+        list.len(),
+    )
+}
+
+// What lends an array of structs has its proof by hand: this alone does, and it is called by value.
+fn lend(list: [ConnectionStatus; 4], n: usize) -> Statuses
+    requires { ⌜ n ≤ 4 ⌝ }
+    ensures { λ r. ⌜ held r ≡ take n list ⌝ }
+{
+    copied(&list[..n])
+}
+
+impl Statuses {
+    // The copy of the list of those held, one record per player, which is lent for it.
+    pub fn lent(self) -> Statuses
+        ensures { λ r. ⌜ held r ≡ held self ⌝ }
+    {
+        let list = self.list;
+        lend(list, self.count())
+    }
+}
