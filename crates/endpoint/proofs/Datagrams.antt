@@ -1,4 +1,4 @@
--- The ways out of `datagram`: the reader's refusal, or what its message does.
+-- What was read of a datagram, with the reader's answer, does what the datagram does.
 use mathlib.Core.List.{List}
 use mathlib.Core.Path.{_≡_, refl, sym, _∙_}
 use Prim.Native.Nat.{ℕ}
@@ -21,7 +21,7 @@ use Rattle.endpoint.proofs.Ends.{refused-did}
 use Rattle.endpoint.proofs.Settles.{did-settled}
 
 -- no answer has the number that stands for a silent return
-decided-refused : (a : Answer) (s : Seen) (d : Did) → (numberOf a ≡ 0 → ⊥) → decided (numberOf a) s d ≡ refused (numberOf a) s
+pub decided-refused : (a : Answer) (s : Seen) (d : Did) → (numberOf a ≡ 0 → ⊥) → decided (numberOf a) s d ≡ refused (numberOf a) s
 unfolding decided
 decided-refused Done s d n = absurd (n refl)
 decided-refused BadSetup s d n = refl
@@ -46,18 +46,11 @@ module _ (e : Endpoint) (from : ℕ) (bytes : List ℕ) (now epoch nonce : ℕ) 
   abbrev Does : Did
   Does = step (Call.datagram from bytes now epoch nonce (length buffer)) (seen e)
 
-  module _ (r : Received) (read : ReadAs bytes r) where
-    pub datagram-refused : (numberOf (r .answer) ≡ 0 → ⊥) → DidAs e Does buffer (record { answer = r .answer; endpoint = e }) buffer
-    unfolding step datagramStep
-    datagram-refused n = refused-did e (r .answer) Does (rw (← read .answer) (decided-refused (r .answer) (seen e) _ n)) buffer
-
-    pub datagram-taken : (p : List ℕ) (x : Ended) (b′ : List ℕ) → numberOf (r .answer) ≡ 0 → PayloadAs bytes p
-        → DidAs e (step (Call.message from (r .message .reports .count) (meant (r .message) p) now epoch nonce (length buffer)) (seen e)) buffer x b′
-        → DidAs e Does buffer x b′
-    unfolding step datagramStep decided
-    datagram-taken p x b′ done payload d =
-        let none : numberIn (datagram bytes) ≡ 0 = sym (read .answer) ∙ done in
-        rw none (rw (payload .payload, read .message, read .count) at d)
+  pub datagram-read : (r : Received) → ReadAs bytes r → (p : List ℕ) → PayloadAs bytes p → (x : Ended) (b′ : List ℕ)
+      → DidAs e (decided (numberOf (r .answer)) (seen e) (step (Call.message from (r .message .reports .count) (meant (r .message) p) now epoch nonce (length buffer)) (seen e))) buffer x b′
+      → DidAs e Does buffer x b′
+  unfolding step datagramStep
+  datagram-read r read p payload x b′ d = rw (payload .payload, read .message, read .count, read .answer) at d
 
   pub datagram-settled : (r s : Ended) (b c : List ℕ) → DidAs e Does buffer r b → DidAs e Does buffer s c
       → (r .answer ≡ s .answer) × (seen (r .endpoint) ≡ seen (s .endpoint)) × (b ≡ c)

@@ -33,6 +33,7 @@ pub mod Inputs
 pub mod Reactions
 pub mod Ways
 pub mod Datagrams
+pub mod Doors
 pub mod Batches
 pub mod Runs
 pub mod Acts

@@ -1,9 +1,23 @@
--- Whether a message is ignored, by what it is tested for.
+-- Whether a message is let in, by what it is tested for.
 use mathlib.Core.Bool.{Bool, not, _&&_, _||_}
+use mathlib.Core.Path.{_≡_}
 use Prim.Native.Nat.{ℕ}
 use lib.Dec.{eqb}
+use Rattle.base.specs.Pick.{pick}
+use Rattle.answer.specs.Number.{numberOf}
+use Rattle.answer.specs.declared.Answer.{Answer}
+use Rattle.answer.specs.declared.Answer.the-variants.{Done, BadClock}
 use Rattle.protocol.specs.declared.Phase.{Phase}
 use Rattle.protocol.specs.Seen.{isShutdown}
+use Rattle.endpoint.specs.declared.admitting.Door.{Door}
 
 abbrev pub ignoredBy : Phase → (peer remoteMagic from magic : ℕ) → Bool
 ignoredBy phase peer remoteMagic from magic = isShutdown phase || not (eqb from peer) || not (eqb remoteMagic 0) && not (eqb magic remoteMagic)
+
+abbrev pub isRead : Answer → Bool
+isRead reading = eqb (numberOf reading) 0
+
+-- the reader's refusal, then the clock's; a message that is ignored is done
+pub record AdmittedAs (reading : Answer) (late ignored : Bool) (d : Door) : Type 0 where
+  pub shut : d .shut ≡ (not (isRead reading) || late || ignored)
+  pub answer : d .answer ≡ pick (isRead reading) (pick late BadClock Done) reading

@@ -1,14 +1,16 @@
 // What arrives: a message as a value, or as the bytes of a datagram.
 ghost use mathlib.Core.Path.{_≡_};
 ghost use lib.ListN.{length};
+ghost use Rattle.answer.specs.Number.{numberOf};
 ghost use Rattle.codec.specs.Message.{meant};
+ghost use Rattle.protocol.specs.Did.{decided};
 ghost use Rattle.protocol.specs.Call.{Call};
 ghost use Rattle.protocol.specs.Step.{step};
 ghost use Rattle.endpoint.specs.Endpoint.{seen, DidAs};
-ghost use Rattle.endpoint.specs.Filter.{ignoredBy};
 use crate::Ended;
 use crate::Endpoint;
 use crate::Sync;
+use crate::admitting;
 use crate::batch;
 use crate::handshake;
 use crate::hearing;
@@ -22,22 +24,14 @@ use codec::MessageBody;
 use codec::SIZES;
 use protocol::Phase;
 
-// In Shutdown, from another peer, or with a wrong magic while the filter is on.
-fn is_ignored(phase: Phase, peer: u32, remote_magic: u16, from: u32, magic: u16) -> bool
-    ensures { λ r. ⌜ r ≡ ignoredBy phase peer «remote_magic» from magic ⌝ }
-{
-    if let Phase::Shutdown = phase {
-        return true;
-    }
-    (from != peer) | ((remote_magic != 0) & (magic != remote_magic))
-}
-
 impl Endpoint {
-    // By the number of its kind; each arm's `else`, and a number above 7, cannot be reached, since a kind's number tells its body. All of it stands
-    // in this one function, since an endpoint that is passed on to another is copied: what is decided stands in functions over the plain parts, and
-    // what changes a store is that store's. A refusal comes before the first change.
-    pub fn message(
+    // A message, with what its reader answered: a reader's refusal is the call's. By the number of its kind; each arm's `else`, and a number above 7,
+    // cannot be reached, since a kind's number tells its body. All of it stands in this one function, since an endpoint that is passed on to another is
+    // copied: what is decided stands in functions over the plain parts, and what changes a store is that store's. A refusal comes before the first
+    // change.
+    fn handle_message(
         mut self,
+        reading: Answer,
         from: u32,
         message: Message,
         payload: &[u8],
@@ -46,27 +40,24 @@ impl Endpoint {
         nonce: u32,
         out: &mut [u8],
     ) -> Ended
-        ensures { λ r. ⌜ DidAs self (step (Call.message from (message .reports .count) (meant message (payload .entry .now)) now epoch nonce (length (out .entry .now))) (seen self)) (out .entry .now) r (out .exit .now) ⌝ }
+        ensures { λ r. ⌜ DidAs self (decided (numberOf reading) (seen self) (step (Call.message from (message .reports .count) (meant message (payload .entry .now)) now epoch nonce (length (out .entry .now))) (seen self))) (out .entry .now) r (out .exit .now) ⌝ }
     {
-        if timers::is_bad(now) | timers::is_bad(epoch) {
-            return Ended {
-                endpoint: self,
-                answer: Answer::BadClock,
-            };
-        }
         let magic = message.magic;
         let sync = self.sync;
         let phase = sync.phase;
-        if is_ignored(
+        let ignored = admitting::is_ignored(
             phase,
             self.setup.peer_addr,
             self.sync.remote_magic,
             from,
             magic,
-        ) {
+        );
+        let door = admitting::admit(reading, now, epoch, ignored);
+        if door.shut {
+            let answer = door.answer;
             return Ended {
                 endpoint: self,
-                answer: Answer::Done,
+                answer,
             };
         }
         let resumes = hearing::is_resuming(phase, self.flags);
@@ -400,7 +391,22 @@ impl Endpoint {
         }
     }
 
-    // The reader's refusal comes first.
+    pub fn message(
+        self,
+        from: u32,
+        message: Message,
+        payload: &[u8],
+        now: u64,
+        epoch: u64,
+        nonce: u32,
+        out: &mut [u8],
+    ) -> Ended
+        ensures { λ r. ⌜ DidAs self (step (Call.message from (message .reports .count) (meant message (payload .entry .now)) now epoch nonce (length (out .entry .now))) (seen self)) (out .entry .now) r (out .exit .now) ⌝ }
+    {
+        self.handle_message(Answer::Done, from, message, payload, now, epoch, nonce, out)
+    }
+
+    // What could not be read goes the same way, since a second way out would copy the endpoint once more.
     pub fn datagram(
         self,
         from: u32,
@@ -413,15 +419,9 @@ impl Endpoint {
         ensures { λ r. ⌜ DidAs self (step (Call.datagram from (datagram .entry .now) now epoch nonce (length (out .entry .now))) (seen self)) (out .entry .now) r (out .exit .now) ⌝ }
     {
         let received = codec::read(datagram);
-        let answer = received.answer;
-        let Answer::Done = answer else {
-            return Ended {
-                endpoint: self,
-                answer,
-            };
-        };
+        let reading = received.answer;
         let message = received.message;
         let payload = codec::payload_of(datagram);
-        self.message(from, message, payload, now, epoch, nonce, out)
+        self.handle_message(reading, from, message, payload, now, epoch, nonce, out)
     }
 }

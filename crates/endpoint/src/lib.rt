@@ -1,6 +1,7 @@
 // The peer endpoint of ggrs (protocol.rs): a state by value, clocks and nonces as arguments, the send queue in a lent buffer. Each call gives its
 // answer and the endpoint after it; on a refusal that is the very endpoint it was called on. What a call does is `step` of the crate `protocol`.
 mod acting;
+mod admitting;
 mod batch;
 mod closing;
 mod dispatch;

@@ -1,7 +1,7 @@
 use Rattle.endpoint.proofs.Phases.{not-shutdown}
 use borrow.Author.Needs.{needs}
-use Rattle.endpoint.proofs.dispatch.is_ignored.Statement.{statement}
-use Rattle.endpoint.proofs.dispatch.is_ignored.Tie as tie
+use Rattle.endpoint.proofs.admitting.is_ignored.Statement.{statement}
+use Rattle.endpoint.proofs.admitting.is_ignored.Tie as tie
 
 enum-told : tie.Need-enum-told
 enum-told c = search needs

@@ -1,0 +1,68 @@
+-- The door of a message: what is known where it is open, and the way out where it is shut.
+use borrow.Author.Tests.{eqb-true, eqb-false}
+use mathlib.Core.Bool.{Bool, true, false, not, _||_}
+use mathlib.Core.List.{List}
+use mathlib.Core.Path.{_≡_, refl, sym, _∙_}
+use Prim.Native.Nat.{ℕ}
+use lib.ListN.{length}
+use Rattle.answer.specs.Number.{numberOf}
+use Rattle.answer.specs.declared.Answer.{Answer}
+use Rattle.answer.specs.declared.Answer.the-variants.{Done, BadClock}
+use Rattle.codec.specs.declared.Message.{Message}
+use Rattle.timers.specs.Timers.{badClock}
+use Rattle.protocol.specs.Did.{Did, decided}
+use Rattle.endpoint.specs.declared.Endpoint.{Endpoint}
+use Rattle.endpoint.specs.declared.Ended.{Ended}
+use Rattle.endpoint.specs.declared.admitting.Door.{Door}
+use Rattle.endpoint.specs.Endpoint.{seen, DidAs}
+use Rattle.endpoint.specs.Filter.{ignoredBy, isRead, AdmittedAs}
+use Rattle.endpoint.proofs.Asks.{false-true}
+use Rattle.endpoint.proofs.Datagrams.{decided-refused}
+use Rattle.endpoint.proofs.Ends.{refused-did}
+use Rattle.endpoint.proofs.Messages.{Does, message-late, message-ignored}
+
+passed : (x y z : Bool) → (not x || y || z) ≡ false → (x ≡ true) × (y ≡ false) × (z ≡ false)
+passed true false z h = (refl, refl, h)
+passed true true z h = absurd (false-true (sym h))
+passed false y z h = absurd (false-true (sym h))
+
+-- an open one
+module _ (r : Answer) (late ignored : Bool) (d : Door) (ed : AdmittedAs r late ignored d) (unshut : d .shut ≡ false) where
+  pub open-read : numberOf r ≡ 0
+  open-read = eqb-true _ _ (passed (isRead r) late ignored (sym (ed .shut) ∙ unshut) .0)
+
+  pub open-timely : late ≡ false
+  open-timely = passed (isRead r) late ignored (sym (ed .shut) ∙ unshut) .1
+
+  pub open-heeded : ignored ≡ false
+  open-heeded = passed (isRead r) late ignored (sym (ed .shut) ∙ unshut) .2
+
+-- what was read does what it says
+pub entered : (e : Endpoint) (r : Answer) → numberOf r ≡ 0 → (d : Did) (b : List ℕ) (x : Ended) (b′ : List ℕ)
+    → DidAs e d b x b′ → DidAs e (decided (numberOf r) (seen e) d) b x b′
+unfolding decided
+entered e r h d b x b′ q = rw h q
+
+pub read-alike : (e : Endpoint) (d : Did) (b : List ℕ) (x : Ended) (b′ : List ℕ) → DidAs e (decided (numberOf Done) (seen e) d) b x b′ → DidAs e d b x b′
+unfolding decided
+read-alike e d b x b′ q = q
+
+-- a shut one: the reader's refusal, the clock's, or a message that nobody hears
+module _ (e : Endpoint) (r : Answer) (from : ℕ) (m : Message) (p : List ℕ) (now epoch nonce : ℕ) (buffer : List ℕ) where
+  abbrev Ignores : Bool
+  Ignores = ignoredBy (e .sync .phase) (e .setup .«peer_addr») (e .sync .«remote_magic») from (m .magic)
+
+  abbrev Late : Bool
+  Late = badClock now || badClock epoch
+
+  abbrev Shuts : Answer → Type 0
+  Shuts a = DidAs e (decided (numberOf r) (seen e) (Does e from m p now epoch nonce buffer)) buffer (record { answer = a; endpoint = e }) buffer
+
+  shuts : (x y z : Bool) → isRead r ≡ x → Late ≡ y → Ignores ≡ z → (not x || y || z) ≡ true → (d : Door) → AdmittedAs r Late Ignores d → Shuts (d .answer)
+  shuts false y z ex ey ez h d ed = rw (ed .answer, ex) (refused-did e r _ (decided-refused r (seen e) _ (eqb-false _ _ ex)) buffer)
+  shuts true true z ex ey ez h d ed = rw (ed .answer, ex, ey) (entered e r (eqb-true _ _ ex) _ buffer _ buffer (message-late e from m p now epoch nonce buffer ey))
+  shuts true false true ex ey ez h d ed = rw (ed .answer, ex, ey) (entered e r (eqb-true _ _ ex) _ buffer _ buffer (message-ignored e from m p now epoch nonce buffer ey ez))
+  shuts true false false ex ey ez h d ed = absurd (false-true h)
+
+  pub turned-away : (d : Door) → AdmittedAs r Late Ignores d → d .shut ≡ true → Shuts (d .answer)
+  turned-away d ed h = shuts (isRead r) Late Ignores refl refl refl (sym (ed .shut) ∙ h) d ed
