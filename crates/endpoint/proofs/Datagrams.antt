@@ -1,13 +1,13 @@
 -- What was read of a datagram, with the reader's answer, does what the datagram does.
 use mathlib.Core.List.{List}
-use mathlib.Core.Path.{_≡_, refl, sym, _∙_}
+use mathlib.Core.Path.{_≡_, refl}
 use Prim.Native.Nat.{ℕ}
 use lib.ListN.{length}
 use Rattle.answer.specs.Number.{numberOf}
 use Rattle.answer.specs.declared.Answer.{Answer}
 use Rattle.answer.specs.declared.Answer.the-variants.{Done, BadSetup, WrongState, BadLength, BadFrame, Full, Overflow, BadHandle, BadClock, Short, BadKind, BadBool, TooLong, Extra, NotSynchronized, NotEnoughData, PredictionThreshold, SpectatorTooFarBehind}
 use Rattle.codec.specs.Message.{meant}
-use Rattle.codec.specs.Read.{datagram, numberIn}
+use Rattle.codec.specs.Read.{datagram}
 use Rattle.codec.specs.Calls.{ReadAs, PayloadAs}
 use Rattle.codec.specs.declared.Received.{Received}
 use Rattle.protocol.specs.Seen.{Seen}
@@ -17,7 +17,6 @@ use Rattle.protocol.specs.Step.{datagramStep, step}
 use Rattle.endpoint.specs.declared.Endpoint.{Endpoint}
 use Rattle.endpoint.specs.declared.Ended.{Ended}
 use Rattle.endpoint.specs.Endpoint.{seen, DidAs}
-use Rattle.endpoint.proofs.Ends.{refused-did}
 use Rattle.endpoint.proofs.Settles.{did-settled}
 
 -- no answer has the number that stands for a silent return

@@ -4,10 +4,9 @@ use mathlib.Core.Bool.{Bool, true, false, not, _||_}
 use mathlib.Core.List.{List}
 use mathlib.Core.Path.{_≡_, refl, sym, _∙_}
 use Prim.Native.Nat.{ℕ}
-use lib.ListN.{length}
 use Rattle.answer.specs.Number.{numberOf}
 use Rattle.answer.specs.declared.Answer.{Answer}
-use Rattle.answer.specs.declared.Answer.the-variants.{Done, BadClock}
+use Rattle.answer.specs.declared.Answer.the-variants.{Done}
 use Rattle.codec.specs.declared.Message.{Message}
 use Rattle.timers.specs.Timers.{badClock}
 use Rattle.protocol.specs.Did.{Did, decided}

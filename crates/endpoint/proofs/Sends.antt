@@ -141,21 +141,24 @@ module _ (e : Endpoint) (frame : ℕ) (bytes : List ℕ) (st : Statuses) (now : 
       send-silent h = refused-did e Done _ (rw (good, tested ∙ right, h)) buffer
 
       module _ (running : isRunning (e .sync .phase) ≡ true) where
-        pub send-frame : badAfter (lastFrame (e .acked .frame) before) frame ≡ true → Sends e BadFrame buffer
-        unfolding step sendStep decided seen badFrame
-        send-frame h = refused-did e BadFrame _ (rw (good, tested ∙ right, running, h)) buffer
-
-        module _ (next : badAfter (lastFrame (e .acked .frame) before) frame ≡ false) where
-          send-full : room before ≡ true → isFull (length buffer) Sending ≡ true → Sends e Full buffer
+        -- what the code makes: the input, the store with it
+        module _ (b : List ℕ) (eb : b ≡ padded (xors (take w (drop 0 bytes)) (replicate 64 0))) (p : Pushed) (ep : PushedAs (e .pending) (record { frame = frame; bytes = b }) (e .acked .frame) p) where
+          pub send-frame : badAfter (p .last) frame ≡ true → Sends e BadFrame buffer
           unfolding step sendStep decided seen badFrame
-          send-full k h = refused-did e Full _ (rw (good, tested ∙ right, running, next, k, sends now frame bytes (heldStatuses st) (seen e), h)) buffer
+          send-frame h = refused-did e BadFrame _ (rw (good, tested ∙ right, running, ← ep .last, h)) buffer
 
-          send-fits : room before ≡ true → isFull (length buffer) Sending ≡ false → Does ≡ done Sending
-          unfolding step sendStep decided seen badFrame
-          send-fits k h = rw (good, tested ∙ right, running, next, k, sends now frame bytes (heldStatuses st) (seen e), h)
+          module _ (follows : badAfter (p .last) frame ≡ false) where
+            next : badAfter (lastFrame (e .acked .frame) before) frame ≡ false
+            next = rw (← ep .last) follows
 
-          -- what the code makes: the input, the store with it, whether that is told
-          module _ (b : List ℕ) (eb : b ≡ padded (xors (take w (drop 0 bytes)) (replicate 64 0))) (p : Pushed) (ep : PushedAs (e .pending) (record { frame = frame; bytes = b }) p) where
+            send-full : room before ≡ true → isFull (length buffer) Sending ≡ true → Sends e Full buffer
+            unfolding step sendStep decided seen badFrame
+            send-full k h = refused-did e Full _ (rw (good, tested ∙ right, running, next, k, sends now frame bytes (heldStatuses st) (seen e), h)) buffer
+
+            send-fits : room before ≡ true → isFull (length buffer) Sending ≡ false → Does ≡ done Sending
+            unfolding step sendStep decided seen badFrame
+            send-fits k h = rw (good, tested ∙ right, running, next, k, sends now frame bytes (heldStatuses st) (seen e), h)
+
             pub send-crowded : p .ok ≡ false → Sends e Full buffer
             unfolding step sendStep decided seen badFrame
             send-crowded k = refused-did e Full _ (rw (good, tested ∙ right, running, next, sym (ep .ok) ∙ k)) buffer

@@ -1,5 +1,4 @@
 // What arrives: a message as a value, or as the bytes of a datagram.
-ghost use mathlib.Core.Path.{_≡_};
 ghost use lib.ListN.{length};
 ghost use Rattle.answer.specs.Number.{numberOf};
 ghost use Rattle.codec.specs.Message.{meant};

@@ -63,18 +63,21 @@ impl Endpoint {
             };
         };
         let acked = self.acked;
-        if is_bad_frame(frame, self.pending.last_frame(acked.frame)) {
+        // XOR zeros is the input itself, with zeros after it.
+        let padded = packing::frame_at(bytes, 0, width, [0u8; 64]);
+        let pushed = self.pending.push(
+            InputBytes {
+                frame,
+                bytes: padded,
+            },
+            acked.frame,
+        );
+        if is_bad_frame(frame, pushed.last) {
             return Ended {
                 endpoint: self,
                 answer: Answer::BadFrame,
             };
         }
-        // XOR zeros is the input itself, with zeros after it.
-        let padded = packing::frame_at(bytes, 0, width, [0u8; 64]);
-        let pushed = self.pending.push(InputBytes {
-            frame,
-            bytes: padded,
-        });
         if !pushed.ok {
             return Ended {
                 endpoint: self,

@@ -11,7 +11,7 @@ use Rattle.packing.proofs.Settled.{laid-settled}
 use Rattle.pending.specs.declared.Pending.{Pending}
 use Rattle.pending.specs.declared.Pushed.{Pushed}
 use Rattle.pending.specs.declared.Dropped.{Dropped}
-use Rattle.pending.specs.Pending.{waiting, drops, firstFrame, lastFrame, payload, PushedAs, SizedAs, DroppedAs}
+use Rattle.pending.specs.Pending.{waiting, drops, firstFrame, payload, PushedAs, SizedAs, DroppedAs}
 
 pub new-settled : (r s : Pending) → waiting r ≡ [] → waiting s ≡ [] → waiting r ≡ waiting s
 new-settled = settled waiting []
@@ -20,8 +20,9 @@ module _ (p : Pending) where
   pub count-settled : (r s : ℕ) → r ≡ length (waiting p) → s ≡ length (waiting p) → r ≡ s
   count-settled = settled (λ r. r) (length (waiting p))
 
-  pub push-settled : (x : InputBytes) (r s : Pushed) → PushedAs p x r → PushedAs p x s → (r .ok ≡ s .ok) × (waiting (r .pending) ≡ waiting (s .pending))
-  push-settled x r s a b = (a .ok ∙ sym (b .ok), a .view ∙ sym (b .view))
+  pub push-settled : (x : InputBytes) (none : ℕ) (r s : Pushed) → PushedAs p x none r → PushedAs p x none s
+      → (r .ok ≡ s .ok) × (r .last ≡ s .last) × (waiting (r .pending) ≡ waiting (s .pending))
+  push-settled x none r s a b = (a .ok ∙ sym (b .ok), a .last ∙ sym (b .last), a .view ∙ sym (b .view))
 
   pub drops-settled : (ack : ℕ) (r s : Bool) → r ≡ drops ack (waiting p) → s ≡ drops ack (waiting p) → r ≡ s
   drops-settled ack = settled (λ r. r) (drops ack (waiting p))
@@ -32,9 +33,6 @@ module _ (p : Pending) where
 
   pub first-frame-settled : (none r s : ℕ) → r ≡ firstFrame none (waiting p) → s ≡ firstFrame none (waiting p) → r ≡ s
   first-frame-settled none = settled (λ r. r) (firstFrame none (waiting p))
-
-  pub last-frame-settled : (acked r s : ℕ) → r ≡ lastFrame acked (waiting p) → s ≡ lastFrame acked (waiting p) → r ≡ s
-  last-frame-settled acked = settled (λ r. r) (lastFrame acked (waiting p))
 
   pub payload-size-settled : (width r s : ℕ) → SizedAs p width r → SizedAs p width s → r ≡ s
   payload-size-settled width r s a b = a .counted ∙ sym (b .counted)

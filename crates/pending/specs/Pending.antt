@@ -56,8 +56,9 @@ frameBytes width x = take width (x .bytes)
 unfoldable pub payload : ℕ → InputBytes → List InputBytes → List ℕ
 payload width reference l = pack (reference .bytes) (map (frameBytes width) l)
 
-pub record PushedAs (p : Pending) (x : InputBytes) (r : Pushed) : Type 0 where
+pub record PushedAs (p : Pending) (x : InputBytes) (none : ℕ) (r : Pushed) : Type 0 where
   pub ok : r .ok ≡ room (waiting p)
+  pub last : r .last ≡ lastFrame none (waiting p)
   pub view : waiting (r .pending) ≡ pushed (waiting p) x
   pub same : r .ok ≡ false → r .pending ≡ p
 

@@ -3,7 +3,7 @@ ghost use mathlib.Core.Path.{_≡_};
 ghost use mathlib.Core.List.{[]};
 ghost use lib.ListN.{length};
 ghost use Rattle.packing.specs.Packing.{LaidAs};
-ghost use Rattle.pending.specs.Pending.{waiting, drops, firstFrame, lastFrame, payload, PushedAs, SizedAs, DroppedAs};
+ghost use Rattle.pending.specs.Pending.{waiting, drops, firstFrame, payload, PushedAs, SizedAs, DroppedAs};
 use packing::InputBytes;
 
 // Where the crate tells the session that the other end is too far behind.
@@ -18,6 +18,7 @@ pub struct Pending {
 pub struct Pushed {
     pub pending: Pending,
     pub ok: bool,
+    pub last: u32,
 }
 
 pub struct Dropped {
@@ -50,17 +51,27 @@ impl Pending {
         }
     }
 
-    // One more at the end; where it is full, unchanged and told so.
-    pub fn push(mut self, input: InputBytes) -> Pushed
-        ensures { λ r. ⌜ PushedAs self input r ⌝ }
+    // One more at the end; where it is full, unchanged and told so. Tells the newest frame before it too, or the one given where there was none.
+    pub fn push(mut self, input: InputBytes, none: u32) -> Pushed
+        ensures { λ r. ⌜ PushedAs self input none r ⌝ }
     {
         let n = self.count();
+        let mut last = none;
+        if 0 < n {
+            let at = n - 1;
+            let x = self.slots[at];
+            last = x.frame;
+        }
         let ok = n < MOST_PENDING;
         if ok {
             self.slots[n] = input;
             self.used = n + 1;
         }
-        Pushed { pending: self, ok }
+        Pushed {
+            pending: self,
+            ok,
+            last,
+        }
     }
 
     // Whether a drop to ack changes anything: the oldest input has a frame of at most ack.
@@ -107,19 +118,6 @@ impl Pending {
             return none;
         }
         let x = self.slots[0];
-        x.frame
-    }
-
-    // The frame of the newest input, or the one given (the last acknowledged) where there is none.
-    pub fn last_frame(self, acked: u32) -> u32
-        ensures { λ r. ⌜ r ≡ lastFrame acked (waiting self) ⌝ }
-    {
-        let n = self.count();
-        if n == 0 {
-            return acked;
-        }
-        let at = n - 1;
-        let x = self.slots[at];
         x.frame
     }
 

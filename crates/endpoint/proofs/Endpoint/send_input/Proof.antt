@@ -30,23 +30,28 @@ enum-told c = search needs
 returns-3 : tie.Need-returns-3
 returns-3 c = send-silent (c .before .before .before .before .before .before .before .before .before .before .args .self) (c .before .before .before .before .before .before .before .before .before .before .args .frame) (c .before .before .before .before .before .before .before .before .before .before .args .bytes .now) (c .before .before .before .before .before .before .before .before .before .before .args .statuses) (c .before .before .before .before .before .before .before .before .before .before .args .now) (c .before .before .before .before .before .before .before .before .before .before .args .out .now) (sym (c .before .before .before .before .before .before .before .is-bad .ensures) ∙ c .before .before .before .before .before .before .if1 .left) (c .before .before .before .before .before .sending-width .result) (c .before .before .before .before .before .sending-width .ensures) (c .before .before .if2 .left) (not-running (c .before .before .before .before .before .before .before .before .before .before .args .self .sync .phase) (c .match .keys2))
 
-last-frame-requires : tie.Need-last-frame-requires
-last-frame-requires c κs = search needs
-
-is-bad-frame-requires : tie.Need-is-bad-frame-requires
-is-bad-frame-requires c κs = search needs
-
-returns-4 : tie.Need-returns-4
-returns-4 c = send-frame (c .before .before .before .before .before .before .before .before .before .before .before .before .before .before .before .args .self) (c .before .before .before .before .before .before .before .before .before .before .before .before .before .before .before .args .frame) (c .before .before .before .before .before .before .before .before .before .before .before .before .before .before .before .args .bytes .now) (c .before .before .before .before .before .before .before .before .before .before .before .before .before .before .before .args .statuses) (c .before .before .before .before .before .before .before .before .before .before .before .before .before .before .before .args .now) (c .before .before .before .before .before .before .before .before .before .before .before .before .before .before .before .args .out .now) (sym (c .before .before .before .before .before .before .before .before .before .before .before .before .is-bad .ensures) ∙ c .before .before .before .before .before .before .before .before .before .before .before .if1 .left) (c .before .before .before .before .before .before .before .before .before .before .sending-width .result) (c .before .before .before .before .before .before .before .before .before .before .sending-width .ensures) (c .before .before .before .before .before .before .before .if2 .left) (ap isRunning (c .before .before .before .before .enum-told .given .1)) (rw (← c .before .before .last-frame .ensures) (sym (c .before .is-bad-frame .ensures) ∙ c .if3 .taken))
-
 frame-at-requires : tie.Need-frame-at-requires
 frame-at-requires c κs = search needs
 
 push-requires : tie.Need-push-requires
 push-requires c κs = search needs
 
+is-bad-frame-requires : tie.Need-is-bad-frame-requires
+is-bad-frame-requires c κs = search needs
+
+returns-4 : tie.Need-returns-4
+returns-4 c =
+    let a = c .before .before .before .before .before .before .before .before .before .before .before .before .before .before .before .before .args in
+    send-frame (a .self) (a .frame) (a .bytes .now) (a .statuses) (a .now) (a .out .now) (sym (c .before .before .before .before .before .before .before .before .before .before .before .before .before .is-bad .ensures) ∙ c .before .before .before .before .before .before .before .before .before .before .before .before .if1 .left) (c .before .before .before .before .before .before .before .before .before .before .before .sending-width .result) (c .before .before .before .before .before .before .before .before .before .before .before .sending-width .ensures)
+    (c .before .before .before .before .before .before .before .before .if2 .left) (ap isRunning (c .before .before .before .before .before .enum-told .given .1)) (c .before .before .before .frame-at .result) (c .before .before .before .frame-at .ensures) (c .before .before .push .result) (c .before .before .push .ensures)
+    (sym (c .before .is-bad-frame .ensures) ∙ c .if3 .taken)
+
 returns-5 : tie.Need-returns-5
-returns-5 c = send-crowded (c .before .before .before .before .before .before .before .before .before .before .before .before .before .before .before .before .before .before .before .args .self) (c .before .before .before .before .before .before .before .before .before .before .before .before .before .before .before .before .before .before .before .args .frame) (c .before .before .before .before .before .before .before .before .before .before .before .before .before .before .before .before .before .before .before .args .bytes .now) (c .before .before .before .before .before .before .before .before .before .before .before .before .before .before .before .before .before .before .before .args .statuses) (c .before .before .before .before .before .before .before .before .before .before .before .before .before .before .before .before .before .before .before .args .now) (c .before .before .before .before .before .before .before .before .before .before .before .before .before .before .before .before .before .before .before .args .out .now) (sym (c .before .before .before .before .before .before .before .before .before .before .before .before .before .before .before .before .is-bad .ensures) ∙ c .before .before .before .before .before .before .before .before .before .before .before .before .before .before .before .if1 .left) (c .before .before .before .before .before .before .before .before .before .before .before .before .before .before .sending-width .result) (c .before .before .before .before .before .before .before .before .before .before .before .before .before .before .sending-width .ensures) (c .before .before .before .before .before .before .before .before .before .before .before .if2 .left) (ap isRunning (c .before .before .before .before .before .before .before .before .enum-told .given .1)) (rw (← c .before .before .before .before .before .before .last-frame .ensures) (sym (c .before .before .before .before .before .is-bad-frame .ensures) ∙ c .before .before .before .before .if3 .left)) (c .before .before .before .frame-at .result) (c .before .before .before .frame-at .ensures) (c .before .before .push .result) (c .before .before .push .ensures) (not-true _ (c .if4 .taken))
+returns-5 c =
+    let a = c .before .before .before .before .before .before .before .before .before .before .before .before .before .before .before .before .before .before .args in
+    send-crowded (a .self) (a .frame) (a .bytes .now) (a .statuses) (a .now) (a .out .now) (sym (c .before .before .before .before .before .before .before .before .before .before .before .before .before .before .before .is-bad .ensures) ∙ c .before .before .before .before .before .before .before .before .before .before .before .before .before .before .if1 .left) (c .before .before .before .before .before .before .before .before .before .before .before .before .before .sending-width .result) (c .before .before .before .before .before .before .before .before .before .before .before .before .before .sending-width .ensures)
+    (c .before .before .before .before .before .before .before .before .before .before .if2 .left) (ap isRunning (c .before .before .before .before .before .before .before .enum-told .given .1)) (c .before .before .before .before .before .frame-at .result) (c .before .before .before .before .before .frame-at .ensures) (c .before .before .before .before .push .result) (c .before .before .before .before .push .ensures)
+    (sym (c .before .before .before .is-bad-frame .ensures) ∙ c .before .before .if3 .left) (not-true _ (c .if4 .taken))
 
 count-requires : tie.Need-count-requires
 count-requires c κs = search needs
@@ -60,10 +65,10 @@ is-crowded-requires c κs = search needs
 returns-6 : tie.Need-returns-6
 returns-6 c =
     let k = c .before .before .before in
-    let a = k .before .before .before .before .before .before .before .before .before .before .before .before .before .before .before .before .before .before .before .before .before .args in
-    send-untold (a .self) (a .frame) (a .bytes .now) (a .statuses) (a .now) (a .out .now) (sym (k .before .before .before .before .before .before .before .before .before .before .before .before .before .before .before .before .before .before .is-bad .ensures) ∙ k .before .before .before .before .before .before .before .before .before .before .before .before .before .before .before .before .before .if1 .left) (k .before .before .before .before .before .before .before .before .before .before .before .before .before .before .before .before .sending-width .result) (k .before .before .before .before .before .before .before .before .before .before .before .before .before .before .before .before .sending-width .ensures)
-    (k .before .before .before .before .before .before .before .before .before .before .before .before .before .if2 .left) (ap isRunning (k .before .before .before .before .before .before .before .before .before .before .enum-told .given .1)) (rw (← k .before .before .before .before .before .before .before .before .last-frame .ensures) (sym (k .before .before .before .before .before .before .before .is-bad-frame .ensures) ∙ k .before .before .before .before .before .before .if3 .left))
-    (k .before .before .before .before .before .frame-at .result) (k .before .before .before .before .before .frame-at .ensures) (k .before .before .before .before .push .result) (k .before .before .before .before .push .ensures) (not-false _ (k .before .before .if4 .left)) (k .count .result) (k .count .ensures)
+    let a = k .before .before .before .before .before .before .before .before .before .before .before .before .before .before .before .before .before .before .before .before .args in
+    send-untold (a .self) (a .frame) (a .bytes .now) (a .statuses) (a .now) (a .out .now) (sym (k .before .before .before .before .before .before .before .before .before .before .before .before .before .before .before .before .before .is-bad .ensures) ∙ k .before .before .before .before .before .before .before .before .before .before .before .before .before .before .before .before .if1 .left) (k .before .before .before .before .before .before .before .before .before .before .before .before .before .before .before .sending-width .result) (k .before .before .before .before .before .before .before .before .before .before .before .before .before .before .before .sending-width .ensures)
+    (k .before .before .before .before .before .before .before .before .before .before .before .before .if2 .left) (ap isRunning (k .before .before .before .before .before .before .before .before .before .enum-told .given .1)) (k .before .before .before .before .before .before .before .frame-at .result) (k .before .before .before .before .before .before .before .frame-at .ensures) (k .before .before .before .before .before .before .push .result) (k .before .before .before .before .before .before .push .ensures)
+    (sym (k .before .before .before .before .before .is-bad-frame .ensures) ∙ k .before .before .before .before .if3 .left) (not-false _ (k .before .before .if4 .left)) (k .count .result) (k .count .ensures)
     (c .before .before .count2 .result) (c .before .before .count2 .ensures) (sym (c .before .is-crowded .ensures) ∙ c .if5 .taken)
 
 input-size-requires : tie.Need-input-size-requires
@@ -75,11 +80,11 @@ is-full-requires c κs = search needs
 returns-7 : tie.Need-returns-7
 returns-7 c =
     let k = c .before .before .before .before .before .before in
-    let a = k .before .before .before .before .before .before .before .before .before .before .before .before .before .before .before .before .before .before .before .before .before .args in
-    send-choked (a .self) (a .frame) (a .bytes .now) (a .statuses) (a .now) (a .out .now) (sym (k .before .before .before .before .before .before .before .before .before .before .before .before .before .before .before .before .before .before .is-bad .ensures) ∙ k .before .before .before .before .before .before .before .before .before .before .before .before .before .before .before .before .before .if1 .left) (k .before .before .before .before .before .before .before .before .before .before .before .before .before .before .before .before .sending-width .result) (k .before .before .before .before .before .before .before .before .before .before .before .before .before .before .before .before .sending-width .ensures)
-    (k .before .before .before .before .before .before .before .before .before .before .before .before .before .if2 .left) (ap isRunning (k .before .before .before .before .before .before .before .before .before .before .enum-told .given .1)) (rw (← k .before .before .before .before .before .before .before .before .last-frame .ensures) (sym (k .before .before .before .before .before .before .before .is-bad-frame .ensures) ∙ k .before .before .before .before .before .before .if3 .left))
-    (k .before .before .before .before .before .frame-at .result) (k .before .before .before .before .before .frame-at .ensures) (k .before .before .before .before .push .result) (k .before .before .before .before .push .ensures) (not-false _ (k .before .before .if4 .left)) (k .count .result) (k .count .ensures)
-    (c .before .before .input-size .result) (c .before .before .input-size .ensures) (acked-long (a .self) _ (k .before .before .before .before .before .before .before .before .before .before .before .before .before .before .before .before .before .before .before .before .before .good .0)) (c .before .is-full .result) (c .before .is-full .ensures) (c .if6 .taken)
+    let a = k .before .before .before .before .before .before .before .before .before .before .before .before .before .before .before .before .before .before .before .before .args in
+    send-choked (a .self) (a .frame) (a .bytes .now) (a .statuses) (a .now) (a .out .now) (sym (k .before .before .before .before .before .before .before .before .before .before .before .before .before .before .before .before .before .is-bad .ensures) ∙ k .before .before .before .before .before .before .before .before .before .before .before .before .before .before .before .before .if1 .left) (k .before .before .before .before .before .before .before .before .before .before .before .before .before .before .before .sending-width .result) (k .before .before .before .before .before .before .before .before .before .before .before .before .before .before .before .sending-width .ensures)
+    (k .before .before .before .before .before .before .before .before .before .before .before .before .if2 .left) (ap isRunning (k .before .before .before .before .before .before .before .before .before .enum-told .given .1)) (k .before .before .before .before .before .before .before .frame-at .result) (k .before .before .before .before .before .before .before .frame-at .ensures) (k .before .before .before .before .before .before .push .result) (k .before .before .before .before .before .before .push .ensures)
+    (sym (k .before .before .before .before .before .is-bad-frame .ensures) ∙ k .before .before .before .before .if3 .left) (not-false _ (k .before .before .if4 .left)) (k .count .result) (k .count .ensures)
+    (c .before .before .input-size .result) (c .before .before .input-size .ensures) (acked-long (a .self) _ (k .before .before .before .before .before .before .before .before .before .before .before .before .before .before .before .before .before .before .before .before .good .0)) (c .before .is-full .result) (c .before .is-full .ensures) (c .if6 .taken)
 
 push-requires-2 : tie.Need-push-requires-2
 push-requires-2 c κs = search needs
@@ -94,9 +99,9 @@ same-length : tie.Need-same-length
 same-length c = search needs
 
 -- the endpoint after what is told
-after-telling : (c : tie.Joined7) → Telling (c .before .before .before .before .before .before .before .before .before .before .before .before .before .before .before .before .before .before .before .before .before .before .before .before .before .before .before .before .args .self) (c .before .before .before .before .before .before .before .count .result) (c .if7 .self)
+after-telling : (c : tie.Joined7) → Telling (c .before .before .before .before .before .before .before .before .before .before .before .before .before .before .before .before .before .before .before .before .before .before .before .before .before .before .before .args .self) (c .before .before .before .before .before .before .before .count .result) (c .if7 .self)
 after-telling c =
-    let s = c .before .before .before .before .before .before .before .before .before .before .before .before .before .before .before .before .before .before .before .before .before .before .before .before .before .before .before .before in
+    let s = c .before .before .before .before .before .before .before .before .before .before .before .before .before .before .before .before .before .before .before .before .before .before .before .before .before .before .before in
     let n = c .before .before .before .before .before .before .before .count .result in
     ⊎-elim {0, 0, 0}
     (λ w. tells-one (s .args .self) n (c .before .before .before .before .before .before .count2 .result) (c .before .before .before .before .before .before .count2 .ensures) (w .1 .result) (sym (c .before .before .before .before .before .is-crowded .ensures) ∙ c .before .before .before .before .if5 .left) (w .0 .taken) (w .1 .ensures) (c .if7 .self) (w .3))
@@ -106,12 +111,12 @@ after-telling c =
 returns-8 : tie.Need-returns-8
 returns-8 c =
     let k = c .before .before .before .before .before .before .before .before .before .before .before .before .before in
-    let a = k .before .before .before .before .before .before .before .before .before .before .before .before .before .before .before .before .before .before .before .before .before .args in
+    let a = k .before .before .before .before .before .before .before .before .before .before .before .before .before .before .before .before .before .before .before .before .args in
     let j = c .before .before .before .before .before .before in
-    send-done (a .self) (a .frame) (a .bytes .now) (a .statuses) (a .now) (a .out .now) (sym (k .before .before .before .before .before .before .before .before .before .before .before .before .before .before .before .before .before .before .is-bad .ensures) ∙ k .before .before .before .before .before .before .before .before .before .before .before .before .before .before .before .before .before .if1 .left) (k .before .before .before .before .before .before .before .before .before .before .before .before .before .before .before .before .sending-width .result) (k .before .before .before .before .before .before .before .before .before .before .before .before .before .before .before .before .sending-width .ensures)
-    (k .before .before .before .before .before .before .before .before .before .before .before .before .before .if2 .left) (ap isRunning (k .before .before .before .before .before .before .before .before .before .before .enum-told .given .1)) (rw (← k .before .before .before .before .before .before .before .before .last-frame .ensures) (sym (k .before .before .before .before .before .before .before .is-bad-frame .ensures) ∙ k .before .before .before .before .before .before .if3 .left))
-    (k .before .before .before .before .before .frame-at .result) (k .before .before .before .before .before .frame-at .ensures) (k .before .before .before .before .push .result) (k .before .before .before .before .push .ensures) (not-false _ (k .before .before .if4 .left)) (k .count .result) (k .count .ensures)
-    (c .before .before .before .before .before .before .before .before .before .input-size .result) (c .before .before .before .before .before .before .before .before .before .input-size .ensures) (acked-long (a .self) _ (k .before .before .before .before .before .before .before .before .before .before .before .before .before .before .before .before .before .before .before .before .before .good .0)) (c .before .before .before .before .before .before .before .before .is-full .result) (c .before .before .before .before .before .before .before .before .is-full .ensures) (c .before .before .before .before .before .before .before .if6 .left)
+    send-done (a .self) (a .frame) (a .bytes .now) (a .statuses) (a .now) (a .out .now) (sym (k .before .before .before .before .before .before .before .before .before .before .before .before .before .before .before .before .before .is-bad .ensures) ∙ k .before .before .before .before .before .before .before .before .before .before .before .before .before .before .before .before .if1 .left) (k .before .before .before .before .before .before .before .before .before .before .before .before .before .before .before .sending-width .result) (k .before .before .before .before .before .before .before .before .before .before .before .before .before .before .before .sending-width .ensures)
+    (k .before .before .before .before .before .before .before .before .before .before .before .before .if2 .left) (ap isRunning (k .before .before .before .before .before .before .before .before .before .enum-told .given .1)) (k .before .before .before .before .before .before .before .frame-at .result) (k .before .before .before .before .before .before .before .frame-at .ensures) (k .before .before .before .before .before .before .push .result) (k .before .before .before .before .before .before .push .ensures)
+    (sym (k .before .before .before .before .before .is-bad-frame .ensures) ∙ k .before .before .before .before .if3 .left) (not-false _ (k .before .before .if4 .left)) (k .count .result) (k .count .ensures)
+    (c .before .before .before .before .before .before .before .before .before .input-size .result) (c .before .before .before .before .before .before .before .before .before .input-size .ensures) (acked-long (a .self) _ (k .before .before .before .before .before .before .before .before .before .before .before .before .before .before .before .before .before .before .before .before .good .0)) (c .before .before .before .before .before .before .before .before .is-full .result) (c .before .before .before .before .before .before .before .before .is-full .ensures) (c .before .before .before .before .before .before .before .if6 .left)
     (j .if7 .self) (after-telling j) (c .before .before .before .before .newest .result) (c .before .before .before .before .newest .ensures) (c .before .before .before .pending-input .result) (c .before .before .before .pending-input .last .0) (c .before .before .before .pending-input .ensures)
 
 pub send-input-spec : {M : Type 1} → statement M
@@ -125,11 +130,10 @@ send-input-spec =
     returns-2
     enum-told
     returns-3
-    last-frame-requires
-    is-bad-frame-requires
-    returns-4
     frame-at-requires
     push-requires
+    is-bad-frame-requires
+    returns-4
     returns-5
     count-requires
     count-requires-2

@@ -1,6 +1,5 @@
 use borrow.Author.Tests.{ne-eqb}
-use mathlib.Core.Path.{refl, ap}
-use Rattle.answer.specs.Number.{numberOf}
+use mathlib.Core.Path.{ap}
 use Rattle.answer.proofs.Done.{not-done}
 use Rattle.endpoint.specs.Filter.{isRead}
 use borrow.Author.Needs.{needs}
