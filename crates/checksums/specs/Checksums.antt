@@ -1,5 +1,5 @@
 -- The checksums reported, and what one more report does to them (document 01, Checksums; the crate's `on_checksum_report`).
-use mathlib.Core.Bool.{Bool, true, false, not}
+use mathlib.Core.Bool.{Bool, true, false}
 use mathlib.Core.List.{List, [], _∷_}
 use mathlib.Core.Path.{_≡_, refl}
 use Prim.Native.Nat.{ℕ, _-_, _*_}
@@ -10,7 +10,6 @@ use Rattle.base.specs.Keyed.{kept, has, firstWith, put}
 use Rattle.checksums.specs.declared.Checksum.{Checksum}
 use Rattle.checksums.specs.declared.Checksums.{Checksums}
 use Rattle.checksums.specs.declared.Found.{Found}
-use Rattle.checksums.specs.declared.Put.{Put}
 use Rattle.checksums.specs.declared.Reported.{Reported}
 
 -- the checksums stored, each at the place of its frame's first report; a count beyond the array is the array's length
@@ -32,6 +31,10 @@ keptFrom oldest l = kept (λ c. leb oldest (c .frame)) l
 unfoldable pub cleaned : (frame interval : ℕ) → List Checksum → List Checksum
 cleaned frame interval l = pick (leb 32 (length l)) (keptFrom (frame - 31 * interval) l) l
 
+-- the frame from which on the clean-up keeps: with fewer than 32 stored the least, so all
+unfoldable pub keepLine : (count frame interval : ℕ) → ℕ
+keepLine count frame interval = pick (leb 32 count) (frame - 31 * interval) 0
+
 -- 6: frame - 31 x interval leaves i32 (a biased frame falls below 0), tested only with 32 or more stored
 unfoldable pub tooEarly : (count frame interval : ℕ) → Bool
 tooEarly count frame interval = pick (leb 32 count) (ltb frame (31 * interval)) false
@@ -46,11 +49,6 @@ isFull frame l = pick (has frameOf frame l) false (leb 64 (length l))
 pub record FoundAs (s : Checksums) (frame : ℕ) (r : Found) : Type 0 where
   pub found : r .found ≡ has frameOf frame (stored s)
   pub checksum : r .checksum ≡ firstWith frameOf frame blank (stored s)
-
-pub record PutAs (s : Checksums) (c : Checksum) (r : Put) : Type 0 where
-  pub ok : r .ok ≡ not (isFull (c .frame) (stored s))
-  pub view : stored (r .checksums) ≡ pick (isFull (c .frame) (stored s)) (stored s) (put frameOf c (stored s))
-  pub same : r .ok ≡ false → r .checksums ≡ s
 
 -- 6 before 5; done, the checksum is put into what the clean-up leaves
 unfoldable pub fullAfter : (frame interval : ℕ) → List Checksum → Bool

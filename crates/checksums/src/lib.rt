@@ -5,7 +5,7 @@ ghost use mathlib.Core.List.{[]};
 ghost use Prim.Native.Nat.{_-_, _*_};
 ghost use lib.ListN.{length, getD};
 ghost use Rattle.base.specs.Keyed.{place};
-ghost use Rattle.checksums.specs.Checksums.{stored, frameOf, keptFrom, cleaned, tooEarly, blank, FoundAs, PutAs, ReportedAs};
+ghost use Rattle.checksums.specs.Checksums.{stored, frameOf, keepLine, tooEarly, blank, FoundAs, ReportedAs};
 
 pub struct Checksum {
     pub frame: u32,
@@ -23,13 +23,8 @@ pub struct Found {
     pub checksum: Checksum,
 }
 
-// The store stands first in what a call gives back: a flag in front of it would make padding, and then the compiler copies the store once more.
-pub struct Put {
-    pub checksums: Checksums,
-    pub ok: bool,
-}
-
-// Done where neither flag is set.
+// Done where neither flag is set. The store stands first in what a call gives back: a flag in front of it would make padding, and then the compiler
+// copies the store once more.
 pub struct Reported {
     pub checksums: Checksums,
     pub overflow: bool,
@@ -57,6 +52,17 @@ fn too_early(count: usize, frame: u32, interval: u32) -> bool
         return false;
     }
     (frame as u64) < 31 * (interval as u64)
+}
+
+// The clean-up keeps from this frame on: with fewer than 32 stored, from the least, so all.
+fn keep_line(count: usize, frame: u32, interval: u32) -> u32
+    ensures { λ r. ⌜ r ≡ keepLine count frame interval ⌝ }
+{
+    if 32 <= count {
+        oldest(frame, interval)
+    } else {
+        0
+    }
 }
 
 impl Checksums {
@@ -123,77 +129,47 @@ impl Checksums {
         }
     }
 
-    // Those of a frame or later, in their order: each that stays is written behind those that stayed before it.
-    fn kept_from(mut self, oldest: u32) -> Checksums
-        ensures { λ r. ⌜ stored r ≡ keptFrom oldest (stored self) ⌝ }
-    {
-        let n = self.count();
-        let mut kept = 0;
-        let mut i = 0;
-        while i < n {
-            let x = self.entries[i];
-            if oldest <= x.frame {
-                self.entries[kept] = x;
-                kept += 1;
-            }
-            i += 1;
-        }
-        self.used = kept;
-        self
-    }
-
-    // The crate's clean-up at the report of a frame.
-    fn clean(self, frame: u32, interval: u32) -> Checksums
-        ensures { λ r. ⌜ stored r ≡ cleaned frame interval (stored self) ⌝ }
-    {
-        if self.count() < 32 {
-            return self;
-        }
-        self.kept_from(oldest(frame, interval))
-    }
-
-    // A checksum takes the place of its frame's, or goes to the end; where 64 others are stored, unchanged.
-    fn put(mut self, checksum: Checksum) -> Put
-        ensures { λ r. ⌜ PutAs self checksum r ⌝ }
-    {
-        let n = self.count();
-        let i = self.place(checksum.frame);
-        let ok = i < 64;
-        if ok {
-            self.entries[i] = checksum;
-            if i == n {
-                self.used = n + 1;
-            }
-        }
-        Put {
-            checksums: self,
-            ok,
-        }
-    }
-
-    // A report, as the crate takes it: the clean-up where 32 or more are stored, then the checksum put in. Refused, it gives the store back.
-    pub fn report(self, frame: u32, low: u64, high: u64, interval: u32) -> Reported
+    // A report, as the crate takes it: the clean-up where 32 or more are stored, then the checksum put at its frame's place or at the end. Refused, it
+    // gives the store back. All is done in `self`: a function that took the store to clean it up would be given a copy.
+    pub fn report(mut self, frame: u32, low: u64, high: u64, interval: u32) -> Reported
         ensures { λ r. ⌜ ReportedAs self (record { frame = frame; low = low; high = high }) interval r ⌝ }
     {
-        if too_early(self.count(), frame, interval) {
+        let n = self.count();
+        if too_early(n, frame, interval) {
             return Reported {
                 checksums: self,
                 overflow: true,
                 full: false,
             };
         }
-        let next = self.clean(frame, interval);
-        let put = next.put(Checksum { frame, low, high });
-        if !put.ok {
+        let line = keep_line(n, frame, interval);
+        // Each that stays is written behind those that stayed before it. `at` is the first place of the frame among them, or their count.
+        let mut kept = 0;
+        let mut at = 0;
+        let mut i = 0;
+        while i < n {
+            let x = self.entries[i];
+            if line <= x.frame {
+                self.entries[kept] = x;
+                if at == kept && frame != x.frame {
+                    at += 1;
+                }
+                kept += 1;
+            }
+            i += 1;
+        }
+        // Without room all 64 stayed: each was written where it stood, so the store is as it was.
+        if 64 <= at {
             return Reported {
                 checksums: self,
                 overflow: false,
                 full: true,
             };
         }
-        let checksums = put.checksums;
+        self.entries[at] = Checksum { frame, low, high };
+        self.used = if at < kept { kept } else { at + 1 };
         Reported {
-            checksums,
+            checksums: self,
             overflow: false,
             full: false,
         }
