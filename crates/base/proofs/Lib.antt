@@ -1,5 +1,6 @@
 pub mod Arrays
 pub mod Tags
+pub mod Bools
 pub mod Lay
 pub mod Little
 pub mod Bytes

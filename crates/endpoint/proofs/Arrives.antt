@@ -7,6 +7,7 @@ use Prim.Native.Nat.{ℕ, _+_, _*_, _^_, _<_}
 use native.Mathlib.Omega.{arith}
 use lib.Dec.{ltb, eqb}
 use lib.ListN.{length}
+use Rattle.base.proofs.Bools.{both, neither}
 use Rattle.frame.specs.Bias.{bias32}
 use Rattle.answer.specs.declared.Answer.the-variants.{TooLong, Overflow}
 use Rattle.packing.specs.Packing.{frameCount, decodable, decodableLength}
@@ -29,14 +30,6 @@ use Rattle.endpoint.specs.Readable.{Readable}
 use Rattle.endpoint.proofs.Ends.{refused-did}
 use Rattle.endpoint.proofs.Unqueued.{unqueued}
 use Rattle.endpoint.proofs.Receives.{inputless-out}
-
-pub both : (x y : Bool) → (x && y) ≡ true → (x ≡ true) × (y ≡ true)
-both true y h = (refl, h)
-both false y h = (cc, cc)
-
-neither : (x y : Bool) → (x || y) ≡ false → y ≡ false
-neither true y h = cc
-neither false y h = h
 
 -- without both, the packet does not matter
 no-packet : (x y : Bool) (mp : ℕ) (packet : List InputBytes) (r : Receiver) → (x && y) ≡ false → receivedIf x y mp packet r ≡ receivedIf x false 0 [] r
@@ -65,7 +58,7 @@ module _ (e : Endpoint) (buffer : List ℕ) (now count ack start : ℕ) (d : Boo
 
     module _ (kept : a ≡ false) where
       pub not-negative : 0 < start
-      not-negative = omega (arith, ltb-false start bias32 (neither (not d && not (eqb count (e .setup .«num_players»))) (ltb start bias32) (sym ea ∙ kept)))
+      not-negative = omega (arith, ltb-false start bias32 (neither (not d && not (eqb count (e .setup .«num_players»))) (ltb start bias32) (sym ea ∙ kept) .1))
 
       abbrev Reacting : Effect → Reaction
       Reacting h =

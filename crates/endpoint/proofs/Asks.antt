@@ -7,6 +7,7 @@ use native.Mathlib.Omega.{arith}
 use Prim.Native.Nat.{ℕ}
 use lib.ListN.{length}
 use Rattle.base.specs.Lay.{noRoom}
+use Rattle.base.proofs.Bools.{both}
 use Rattle.answer.specs.declared.Answer.{Answer}
 use Rattle.answer.specs.declared.Answer.the-variants.{Done, WrongState, Full, BadClock}
 use Rattle.codec.specs.Message.{tableSize}
@@ -33,7 +34,6 @@ use Rattle.endpoint.specs.declared.Ended.{Ended}
 use Rattle.endpoint.specs.declared.handshake.Requested.{Requested}
 use Rattle.endpoint.specs.Endpoint.{seen, DidAs}
 use Rattle.endpoint.specs.Handshaking.{requestWire, RequestedAs}
-use Rattle.endpoint.proofs.Arrives.{both}
 use Rattle.endpoint.proofs.Ends.{remade, refused-did, queued-did}
 use Rattle.endpoint.proofs.Settles.{did-settled}
 use Rattle.endpoint.proofs.Rooms.{full-buffer, room-one}

@@ -1,9 +1,10 @@
 -- The door of a message: what is known where it is open, and the way out where it is shut.
-use borrow.Author.Tests.{eqb-true, eqb-false}
+use borrow.Author.Tests.{eqb-true, eqb-false, not-false}
 use mathlib.Core.Bool.{Bool, true, false, not, _||_}
 use mathlib.Core.List.{List}
 use mathlib.Core.Path.{_≡_, refl, sym, _∙_}
 use Prim.Native.Nat.{ℕ}
+use Rattle.base.proofs.Bools.{neither}
 use Rattle.answer.specs.Number.{numberOf}
 use Rattle.answer.specs.declared.Answer.{Answer}
 use Rattle.answer.specs.declared.Answer.the-variants.{Done}
@@ -21,9 +22,10 @@ use Rattle.endpoint.proofs.Ends.{refused-did}
 use Rattle.endpoint.proofs.Messages.{Does, message-late, message-ignored}
 
 passed : (x y z : Bool) → (not x || y || z) ≡ false → (x ≡ true) × (y ≡ false) × (z ≡ false)
-passed true false z h = (refl, refl, h)
-passed true true z h = absurd (false-true (sym h))
-passed false y z h = absurd (false-true (sym h))
+passed x y z h =
+    let n = neither (not x || y) z h in
+    let m = neither (not x) y (n .0) in
+    (not-false x (m .0), m .1, n .1)
 
 -- an open one
 module _ (r : Answer) (late ignored : Bool) (d : Door) (ed : AdmittedAs r late ignored d) (unshut : d .shut ≡ false) where

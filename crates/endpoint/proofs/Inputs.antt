@@ -8,6 +8,7 @@ use native.Mathlib.Omega.{arith}
 use lib.Dec.{ltb}
 use lib.ListN.{length, take, drop}
 use Rattle.base.specs.Pick.{pick}
+use Rattle.base.proofs.Bools.{both as both-true, neither}
 use Rattle.answer.specs.declared.Answer.the-variants.{Done, Full, TooLong, Overflow}
 use Rattle.packing.specs.Packing.{frameCount, framesOf}
 use Rattle.history.specs.declared.History.{History}
@@ -54,16 +55,12 @@ use Rattle.endpoint.proofs.Retells.{retold, ToldAs, told-all, told-noth
 use Rattle.endpoint.proofs.Informs.{Brought, informs, informs-sender}
 use Rattle.endpoint.proofs.Packets.{announced-news, no-news}
 use Rattle.endpoint.proofs.Receives.{unreadable-full, unreadable-done, readable-unannounced, readable-full, readable-done}
-use Rattle.endpoint.proofs.Arrives.{both as both-true, not-negative, readable, input-long, input-overflows, input-unreadable, input-readable}
+use Rattle.endpoint.proofs.Arrives.{not-negative, readable, input-long, input-overflows, input-unreadable, input-readable}
 use Rattle.endpoint.proofs.Messages.{input-came}
 
 second-false : (x y : Bool) → (x && y) ≡ false → x ≡ true → y ≡ false
 second-false true y h t = h
 second-false false y h t = cc
-
-neither-true : (x y : Bool) → x || y ≡ false → (x ≡ false) × (y ≡ false)
-neither-true true y h = (cc, cc)
-neither-true false y h = (refl, h)
 
 none-ahead : (x y : Bool) → x || y ≡ false → ahead x y ≡ []
 unfolding ahead both
@@ -189,7 +186,7 @@ module _ (e : Endpoint) (from : ℕ) (m : Message) (p : List ℕ) (now epoch non
 
           pub read-quiet : (x .resumes || x .tells) || ltb 0 (r .count) ≡ false → hasRoom (held (e .events)) 0 ≡ true → (s : Endpoint) → s ≡ e → ToldAs e More s
           read-quiet k room s es =
-              let y = neither-true (x .resumes || x .tells) (ltb 0 (r .count)) k in
+              let y = neither (x .resumes || x .tells) (ltb 0 (r .count)) k in
               let none : news (e .setup) (newestOf (received (e .history))) start (o .input .bytes) p ≡ [] =
               rw (← opened .newest) (no-news (e .setup) (o .newest) start (o .input .bytes) p w ew wide (packet-numbered .1) r nr (omega (arith, ltb-false 0 (r .count) (y .1)))) in
               told-nothing e More s (rw (none-ahead (x .resumes) (x .tells) (y .0), none)) room es

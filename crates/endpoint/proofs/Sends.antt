@@ -9,6 +9,7 @@ use lib.Dec.{leb, eqb}
 use lib.ListN.{length, take, drop, replicate}
 use lib.Seq.{take-length}
 use Rattle.base.specs.Pick.{pick}
+use Rattle.base.proofs.Bools.{neither}
 use Rattle.answer.specs.declared.Answer.{Answer}
 use Rattle.answer.specs.declared.Answer.the-variants.{Done, BadLength, BadFrame, Full, BadClock}
 use Rattle.packing.specs.Packing.{xors}
@@ -48,10 +49,6 @@ use Rattle.endpoint.proofs.Batches.{written-one}
 use Rattle.endpoint.proofs.Retells.{retold, ToldAs, told-all, told-nothing}
 use Rattle.endpoint.proofs.Settles.{did-settled}
 use Rattle.endpoint.proofs.Rooms.{full-events, full-bytes, room-bytes}
-
-neither : (x y : Bool) → x || y ≡ false → y ≡ false
-neither true y h = cc
-neither false y h = h
 
 -- what sending an input does
 abbrev disconnection : Entry
@@ -134,7 +131,7 @@ module _ (e : Endpoint) (frame : ℕ) (bytes : List ℕ) (st : Statuses) (now : 
 
     module _ (right : wrong ≡ false) where
       wide : length bytes ≡ w
-      wide = eqb-true (length bytes) w (not-false (eqb (length bytes) w) (neither (not (eqb (st .count) (e .setup .«num_players»))) _ right))
+      wide = eqb-true (length bytes) w (not-false (eqb (length bytes) w) (neither (not (eqb (st .count) (e .setup .«num_players»))) _ right .1))
 
       pub send-silent : isRunning (e .sync .phase) ≡ false → Sends e Done buffer
       unfolding step sendStep decided seen

@@ -1,7 +1,7 @@
 -- Laws for other crates: ranges, a reported advantage and back, the round trip time by the whole pong, and the local advantage over the signed numbers:
 -- what it is, and that an overflow is told exactly where product, sum or difference leaves i32.
 use borrow.Author.Tests.{lt-ltb, le-ltb, lt-leb, ltb-false, leb-false, eqb-true, eqb-false}
-use mathlib.Core.Bool.{Bool, true, false, _||_}
+use mathlib.Core.Bool.{true, false, _||_}
 use mathlib.Core.Path.{_≡_, refl, _∙_}
 use Prim.Native.Nat.{ℕ, _+_, _-_, _*_, _/_, _^_, _≤_, _<_}
 use native.Mathlib.Decide.{decLt}
@@ -10,6 +10,7 @@ use lib.Dec.{ltb, leb, eqb}
 use lib.IntN.{ℤ, pos, _+ℤ_, _-ℤ_}
 use lib.Signed.{mag}
 use Rattle.base.specs.Pick.{pick}
+use Rattle.base.proofs.Bools.{neither}
 use Rattle.frame.specs.Bias.{bias32, bias16, signed}
 use Rattle.frame.proofs.Signed.{signed-add, signed-within}
 use Rattle.quality.specs.Quality.{clamped, widened, roundTrip}
@@ -68,10 +69,6 @@ round-trip-is epoch low high h =
       | false ↦ λ e. omega (arith, eqb-false high 0 e)
     ]
     refl
-
-neither : (x y : Bool) → x || y ≡ false → (x ≡ false) × (y ≡ false)
-neither true y e = (cc, cc)
-neither false y e = (refl, e)
 
 -- the signed numbers of 32 bits
 abbrev pub IsI32 : ℤ → Type 0

@@ -14,6 +14,7 @@ use Rattle.base.specs.Pick.{pick}
 use Rattle.base.specs.First.{firstOf}
 use Rattle.base.specs.Lay.{laidAt}
 use Rattle.base.proofs.Lay.{laid-none, laid-front, laid-length}
+use Rattle.base.proofs.Bools.{neither}
 use Rattle.timers.specs.Timers.{badClock, badClocks}
 use Rattle.protocol.specs.declared.Phase.the-variants.{Disconnected}
 use Rattle.codec.specs.Message.{Wire, FitAll}
@@ -59,10 +60,6 @@ pub record Queues (n : ℕ) (s : Seen) (d : Did) : Type 0 where
   pub counted : d .after .queued ≡ s .queued + sizes (d .out)
   pub room : (sizes (d .out) ≡ 0) ⊎ (s .queued + sizes (d .out) ≤ n)
 
-or-false : (x y : Bool) → x || y ≡ false → y ≡ false
-or-false true y h = let z : _≡_ {A = ℕ} 0 1 = ap (λ (b : Bool). pick b 0 1) h in absurd (omega arith)
-or-false false y h = h
-
 refused-queues : (n : ℕ) (s : Seen) (k : ℕ) → Queues n s (refused k s)
 unfolding refused sizes
 refused-queues n s k = record { counted = sym (add-zero (s .queued)); room = inl refl }
@@ -71,7 +68,7 @@ done-queues : (n : ℕ) (s : Seen) (e : Effect) → booked (e .state) ≡ booked
 unfolding done isFull bufferFull
 done-queues n s e h f =
     let q : e .state .queued ≡ s .queued = ap (λ (p : List Entry × ℕ). p .1) h in
-    let b : pick (ltb 0 (sizes (e .out))) (ltb n (e .state .queued + sizes (e .out))) false ≡ false = or-false (eventsFull (e .state .events) (e .told)) _ f in
+    let b : pick (ltb 0 (sizes (e .out))) (ltb n (e .state .queued + sizes (e .out))) false ≡ false = neither (eventsFull (e .state .events) (e .told)) _ f .1 in
     record {
       counted = rw q;
       room = by-cases (ltb 0 (sizes (e .out))) ((sizes (e .out) ≡ 0) ⊎ (s .queued + sizes (e .out) ≤ n))
@@ -85,7 +82,7 @@ message-queues from count w now epoch nonce n s =
     let r : Reaction = onBody (w .body) count w now epoch nonce (heard now s) in
     decided-last ((badClocks now epoch, 8) ∷ (ignored from (w .magic) s, silent) ∷ (r .tooLong, 12) ∷ (r .overflows, 6) ∷ []) (r .storeFull || isFull n (r .effect)) s (done (r .effect))
     (Queues n s) (refl, (refl, (refl, (refl, tt)))) (refused-queues n s)
-    (λ f. done-queues n s (r .effect) (body-leaves (w .body) count w now epoch nonce (heard now s) ∙ heard-leaves now s) (or-false (r .storeFull) _ f))
+    (λ f. done-queues n s (r .effect) (body-leaves (w .body) count w now epoch nonce (heard now s) ∙ heard-leaves now s) (neither (r .storeFull) _ f .1))
 
 quiet : (n : ℕ) (s t : Seen) → t .queued ≡ s .queued → Queues n s (changed t)
 unfolding sizes
@@ -132,7 +129,7 @@ step-laid : (c : Call) (b : List ℕ) (s : Seen) → lentTo c (length b) ≡ len
 unfolding step synchronizeStep datagramStep actStep sendStep disconnectStep checksumStep checksumSent queueWire synchronized started advantageStep statsStep statusStep
 step-laid (Call.synchronize now epoch nonce buffer) b s l fit w =
     queued-laid (step (Call.synchronize now epoch nonce buffer) s) b s fit w (rw l (decided-last ((badClocks now epoch, 8) ∷ (wrongState s, 2) ∷ []) (noncesFull nonce s || isFull (length b) (synchronized now epoch nonce (begin s))) s _ (Queues (length b) s) (refl, (refl, tt)) (refused-queues (length b) s)
-    (λ f. done-queues (length b) s (synchronized now epoch nonce (begin s)) (request-leaves now nonce _) (or-false (noncesFull nonce s) _ f))))
+    (λ f. done-queues (length b) s (synchronized now epoch nonce (begin s)) (request-leaves now nonce _) (neither (noncesFull nonce s) _ f .1))))
 step-laid (Call.message from count m now epoch nonce buffer) b s l fit w =
     queued-laid (step (Call.message from count m now epoch nonce buffer) s) b s fit w (rw l (message-queues from count m now epoch nonce (length b) s))
 step-laid (Call.datagram from bs now epoch nonce buffer) b s l fit w =
@@ -140,11 +137,11 @@ step-laid (Call.datagram from bs now epoch nonce buffer) b s l fit w =
 step-laid (Call.act count statuses now epoch nonce buffer) b s l fit w =
     let e : Effect = acted (s .phase) now epoch nonce statuses (begin s) in
     queued-laid (step (Call.act count statuses now epoch nonce buffer) s) b s fit w (rw l (decided-last ((badClocks now epoch, 8) ∷ (badStatuses count s, 3) ∷ []) (requestChoked (s .phase) now nonce s || isFull (length b) e) s _ (Queues (length b) s) (refl, (refl, tt)) (refused-queues (length b) s)
-    (λ f. done-queues (length b) s e (acted-leaves now (s .phase) epoch nonce statuses (begin s)) (or-false (requestChoked (s .phase) now nonce s) _ f))))
+    (λ f. done-queues (length b) s e (acted-leaves now (s .phase) epoch nonce statuses (begin s)) (neither (requestChoked (s .phase) now nonce s) _ f .1))))
 step-laid (Call.sendInput frame bs count statuses now buffer) b s l fit w =
     let e : Effect = inputSent now frame bs statuses (begin s) in
     queued-laid (step (Call.sendInput frame bs count statuses now buffer) s) b s fit w (rw l (decided-last ((badClock now, 8) ∷ (badStatuses count s || badBytes bs s, 3) ∷ (not (isRunning (s .phase)), silent) ∷ (badFrame frame (s .carried .sender), 4) ∷ []) (pendingFull s || isFull (length b) e) s _ (Queues (length b) s) (refl, (refl, (refl, (refl, tt)))) (refused-queues (length b) s)
-    (λ f. done-queues (length b) s e (sent-leaves now frame bs statuses (begin s)) (or-false (pendingFull s) _ f))))
+    (λ f. done-queues (length b) s e (sent-leaves now frame bs statuses (begin s)) (neither (pendingFull s) _ f .1))))
 step-laid (Call.disconnect now) b s l fit w =
     queued-laid (step (Call.disconnect now) s) b s fit w (decided-both _ s _ (Queues (length b) s) (refused-queues (length b) s) (quiet (length b) s (withPhase Disconnected (shutdownAt (now + 5000) s)) refl))
 step-laid (Call.sendChecksumReport frame checksum now buffer) b s l fit w =

@@ -1,4 +1,4 @@
-// The timer clocks of an endpoint (ggrs, protocol.rs), when a clock is refused, and when a wait is over. Each clock is set by a step of its own.
+// The timer clocks of an endpoint (ggrs, protocol.rs), when a clock is refused, and when a wait is over.
 ghost use mathlib.Core.Path.{_≡_};
 ghost use Rattle.base.specs.Pick.{pick};
 ghost use Rattle.timers.specs.Timers.{badClock, passed, madeAt, inputAt, sentAt, requestAt, heardAt, shutdownAt, timed};
