@@ -16,8 +16,8 @@ default-settled = settled (λ r. r) defaultStatus
 pub reported-settled : (d : Bool) (f : ℕ) (r s : ConnectionStatus) → r ≡ reported d f → s ≡ reported d f → r ≡ s
 reported-settled d f = settled (λ r. r) (reported d f)
 
-pub merge-settled : (x y r s : ConnectionStatus) → r ≡ merged x y → s ≡ merged x y → r ≡ s
-merge-settled x y = settled (λ r. r) (merged x y)
+pub connection-status-merge-settled : (x y r s : ConnectionStatus) → r ≡ merged x y → s ≡ merged x y → r ≡ s
+connection-status-merge-settled x y = settled (λ r. r) (merged x y)
 
 pub new-settled : (players : ℕ) (r s : Statuses) → held r ≡ fresh players → held s ≡ fresh players → held r ≡ held s
 new-settled players = settled held (fresh players)
@@ -35,11 +35,12 @@ module _ (l : Statuses) where
   pub merge-report-settled : (at : ℕ) (d : Bool) (f : ℕ) (r s : Statuses) → held r ≡ mergedAt at (reported d f) (held l) → held s ≡ mergedAt at (reported d f) (held l) → held r ≡ held s
   merge-report-settled at d f = merge-at-settled at (reported d f)
 
-  pub merge-all-settled : (m r s : Statuses) → held r ≡ mergedAll (held l) (held m) → held s ≡ mergedAll (held l) (held m) → held r ≡ held s
-  merge-all-settled m = settled held (mergedAll (held l) (held m))
+  pub statuses-merge-settled : (m r s : Statuses) → held r ≡ mergedAll (held l) (held m) → held s ≡ mergedAll (held l) (held m) → held r ≡ held s
+  statuses-merge-settled m = settled held (mergedAll (held l) (held m))
 
-  pub lent-settled : (r s : Statuses) → held r ≡ held l → held s ≡ held l → held r ≡ held s
-  lent-settled = settled held (held l)
+  pub lent-settled : (r s : Statuses) → (held r ≡ held l) × (r .count ≡ length (held l)) → (held s ≡ held l) × (s .count ≡ length (held l))
+      → (held r ≡ held s) × (r .count ≡ s .count)
+  lent-settled r s p q = (settled held (held l) r s (p .0) (q .0), settled (λ (x : Statuses). x .count) (length (held l)) r s (p .1) (q .1))
 
 pub copied-settled : (l : List ConnectionStatus) (r s : Statuses) → CopiedAs l r → CopiedAs l s → (held r ≡ held s) × (r .count ≡ s .count)
 copied-settled l r s p q = (settled held (take 4 l) r s (p .0) (q .0), settled (λ (x : Statuses). x .count) (min (length l) 4) r s (p .1) (q .1))
