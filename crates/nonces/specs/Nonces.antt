@@ -1,10 +1,10 @@
 -- The nonces that are outstanding, and what issuing and spending one does (document 01, Handshake).
-use mathlib.Core.Bool.{Bool, false}
+use mathlib.Core.Bool.{Bool, true, false}
 use mathlib.Core.List.{List, [], _∷_, _++_}
 use mathlib.Core.Path.{_≡_, refl}
 use Prim.Native.Nat.{ℕ, _≤_}
 use lib.Dec.{ltb}
-use lib.ListN.{length, take, drop}
+use lib.ListN.{length, take, drop, replicate}
 use Rattle.base.specs.Pick.{pick}
 use Rattle.base.specs.Keyed.{kept, has, without}
 use Rattle.nonces.specs.declared.Nonces.{Nonces}
@@ -48,11 +48,45 @@ pub record SpentAs (s : Nonces) (nonce : ℕ) (r : Spent) : Type 0 where
   pub view : outstanding (r .nonces) ≡ spent nonce (outstanding s)
   pub same : r .found ≡ false → r .nonces ≡ s
 
--- worked: issued again, a nonce moves to the end and counts once; spent, it is gone
+-- worked: issued again, a nonce moves to the end and counts once, from the front or from between others
 again-example : issued 4 (4 ∷ 7 ∷ []) ≡ 7 ∷ 4 ∷ []
 unfolding issued without kept
 again-example = refl
 
+again-between : issued 7 (4 ∷ 7 ∷ 9 ∷ []) ≡ 4 ∷ 9 ∷ 7 ∷ []
+unfolding issued without kept
+again-between = refl
+
+-- worked: spent, it is gone and the others stay, also where it is not the first; one that is not outstanding changes nothing, and does not count
 spent-example : spent 4 (4 ∷ 7 ∷ []) ≡ 7 ∷ []
 unfolding without kept
 spent-example = refl
+
+spent-second : spent 7 (4 ∷ 7 ∷ []) ≡ 4 ∷ []
+unfolding without kept
+spent-second = refl
+
+spent-absent : spent 9 (4 ∷ 7 ∷ []) ≡ 4 ∷ 7 ∷ []
+unfolding without kept
+spent-absent = refl
+
+second-counts : isOutstanding 7 (4 ∷ 7 ∷ []) ≡ true
+unfolding has
+second-counts = refl
+
+absent-counts-not : isOutstanding 9 (4 ∷ 7 ∷ []) ≡ false
+unfolding has
+absent-counts-not = refl
+
+-- worked: the 256th fits, and beyond it only one that is among them
+fits-last : fits 7 (replicate 255 4) ≡ true
+unfolding fits without kept
+fits-last = refl
+
+fits-no-more : fits 7 (replicate 256 4) ≡ false
+unfolding fits without kept
+fits-no-more = refl
+
+fits-among : fits 7 (replicate 255 4 ++ 7 ∷ []) ≡ true
+unfolding fits without kept
+fits-among = refl

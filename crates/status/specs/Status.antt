@@ -20,11 +20,15 @@ merged x y = record {
   «last_frame» = max (x .«last_frame») (y .«last_frame»);
 }
 
--- worked: a disconnected player stays so when a later report says false, and the later frame stays
-flag-stays : merged (reported true 7) (reported false 9) .disconnected ≡ true
+-- worked: a disconnected player stays so when a later report says false, and the later frame stays; neither record as it is would do
+flag-stays : merged (reported true 7) (reported false 9) ≡ reported true 9
 unfolding merged reported
 flag-stays = refl
 
-later-stays : merged (reported true 9) (reported false 7) .«last_frame» ≡ 9
+later-stays : merged (reported false 9) (reported true 7) ≡ reported true 9
 unfolding merged reported
 later-stays = refl
+
+neither : merged (reported false 9) (reported false 7) ≡ reported false 9
+unfolding merged reported
+neither = refl

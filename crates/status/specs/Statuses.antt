@@ -30,7 +30,32 @@ mergedAll [] ys = []
 mergedAll (x ∷ xs) [] = x ∷ xs
 mergedAll (x ∷ xs) (y ∷ ys) = merged x y ∷ mergedAll xs ys
 
--- worked: the second player has no partner, and stays
-merged-all-example : mergedAll (reported false 5 ∷ reported true 6 ∷ []) (reported false 8 ∷ []) ≡ reported false 8 ∷ reported true 6 ∷ []
+-- worked: each place has the or and the maximum, which neither list as it is has; the third player has no partner, and stays
+merged-all-example : mergedAll (reported true 5 ∷ reported false 9 ∷ reported true 6 ∷ []) (reported false 8 ∷ reported true 3 ∷ []) ≡ reported true 8 ∷ reported true 9 ∷ reported true 6 ∷ []
 unfolding mergedAll merged reported
 merged-all-example = refl
+
+-- worked: a partner beyond the end is left out
+merged-all-longer : mergedAll (reported true 5 ∷ []) (reported false 8 ∷ reported true 9 ∷ []) ≡ reported true 8 ∷ []
+unfolding mergedAll merged reported
+merged-all-longer = refl
+
+-- worked: one place merged, the others as they were; past the last nothing changes
+merged-at-example : mergedAt 1 (reported false 8) (reported false 4 ∷ reported true 5 ∷ []) ≡ reported false 4 ∷ reported true 8 ∷ []
+unfolding mergedAt merged reported
+merged-at-example = refl
+
+merged-at-past : mergedAt 2 (reported true 8) (reported false 4 ∷ reported true 5 ∷ []) ≡ reported false 4 ∷ reported true 5 ∷ []
+unfolding mergedAt merged reported
+merged-at-past = refl
+
+-- worked: of five records four are copied, in their order, and four is the count
+module _ (a b c d e : ConnectionStatus) where
+  copied-five : CopiedAs (a ∷ b ∷ c ∷ d ∷ e ∷ []) (record { list = a ∷ b ∷ c ∷ d ∷ []; count = 4 })
+  unfolding held
+  copied-five = (refl, refl)
+
+  -- of two, two, whatever the array holds past them
+  copied-two : CopiedAs (a ∷ b ∷ []) (record { list = a ∷ b ∷ c ∷ d ∷ []; count = 2 })
+  unfolding held
+  copied-two = (refl, refl)

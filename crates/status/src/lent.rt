@@ -2,7 +2,7 @@
 ghost use mathlib.Core.Path.{_≡_};
 ghost use mathlib.Core.List.{[], _∷_};
 ghost use Prim.Native.Nat.{_≤_, min};
-ghost use lib.ListN.{take, getD};
+ghost use lib.ListN.{length, take, getD};
 ghost use Rattle.status.specs.Status.{defaultStatus};
 ghost use Rattle.status.specs.Statuses.{held, CopiedAs};
 use crate::ConnectionStatus;
@@ -51,7 +51,7 @@ pub fn copied(list: &[ConnectionStatus]) -> Statuses
 // What lends an array of structs has its proof by hand: this alone does, and it is called by value.
 fn lend(list: [ConnectionStatus; 4], n: usize) -> Statuses
     requires { ⌜ n ≤ 4 ⌝ }
-    ensures { λ r. ⌜ held r ≡ take n list ⌝ }
+    ensures { λ r. ⌜ CopiedAs (take n list) r ⌝ }
 {
     copied(&list[..n])
 }
@@ -59,7 +59,7 @@ fn lend(list: [ConnectionStatus; 4], n: usize) -> Statuses
 impl Statuses {
     // The copy of the list of those held, one record per player, which is lent for it.
     pub fn lent(self) -> Statuses
-        ensures { λ r. ⌜ held r ≡ held self ⌝ }
+        ensures { λ r. ⌜ (held r ≡ held self) × (r .count ≡ length (held self)) ⌝ }
     {
         let list = self.list;
         lend(list, self.count())

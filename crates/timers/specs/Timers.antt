@@ -126,3 +126,20 @@ not-yet = refl
 
 due : passed 1000 200 1201 ≡ true
 due = refl
+
+-- worked: an act with a resend and a report sets both clocks and the send time; a resend of nothing sets its own clock alone
+fires : timed 1600 true true true (madeAt 1000) ≡ record {
+  «running_last_quality_report» = 1600;
+  «running_last_input_recv» = 1600;
+  «last_send_time» = 1600;
+  «last_sync_request_time» = 1000;
+  «last_recv_time» = 1000;
+  «shutdown_timeout» = 1000;
+}
+fires = refl
+
+resends-nothing : timed 1600 true false false (madeAt 1000) ≡ inputAt 1600 (madeAt 1000)
+resends-nothing = refl
+
+reports : timed 1600 false true true (madeAt 1000) ≡ qualityAt 1600 (sentAt 1600 (madeAt 1000))
+reports = refl

@@ -1,6 +1,6 @@
 -- `lend` meets its contract: a walk of its MIR, by hand. The array is copied into a slot, whose first n elements are lent for a lifetime that is made for the call of `copied`, and come back as they were.
 -- All that the proof knows of `copied` is that it meets its contract.
-use mathlib.Core.Path.{_≡_, refl, sym, subst, _∙_}
+use mathlib.Core.Path.{_≡_, refl, sym, subst}
 use Prim.Native.Nat.{ℕ, _<_, _≤_, _^_}
 use mathlib.Core.List.{[], _∷_, List, _++_, map}
 use lib.Dec.{lit<, T as Holds}
@@ -53,8 +53,7 @@ use denote.Triple.Walked.{says, needs, Stays, stay-dropped, walkOf, goes-dropped
 use denote.Exit.{yes}
 use Rattle.status.specs.declared.ConnectionStatus.{ConnectionStatus}
 use Rattle.status.specs.declared.list.Statuses.{Statuses}
-use Rattle.status.specs.Statuses.{held, CopiedAs}
-use Rattle.status.proofs.Fours.{four-of}
+use Rattle.status.specs.Statuses.{CopiedAs}
 use Rattle.status.proofs.ConnectionStatus as T
 use Rattle.status.proofs.ConnectionStatus.Laws as T′
 use Rattle.status.proofs.list.Statuses as S
@@ -100,7 +99,7 @@ module _ {M : Type 1} (𝓤 : URA M) (H : Heap 𝓤) (A : Atoms 𝓤) (W : Given
   abbrev Post : Val → SProp 𝓤
   Post = walkOf 𝓤 H A f.ended stayed (f.clauses 𝓤 H A at-mem run) .post ((tt, tt, tt, a, at), tt)
 
-  exits : (r : Statuses) (v : Val) → held r ≡ ys → Is S.the-row r (v ∷ []) → ent 𝓤 (emp 𝓤) (Post v)
+  exits : (r : Statuses) (v : Val) → CopiedAs ys r → Is S.the-row r (v ∷ []) → ent 𝓤 (emp 𝓤) (Post v)
   exits r v e is =
       qed W [] ∵ suffices ! _ (ends-at 𝓤 H A f.ended stayed (f.clauses 𝓤 H A at-mem run) W ((tt, tt, tt, a, at), tt) v r (tt, (tt, tt)) (tt, (tt, tt))) $ says ! e $
       owned ! S.the-row (Is S.the-row) (LL.makes S.the-type S′.the-plain 𝓤 H A) r _ is $ nothing ! $ nothing ! $ fjoin ! $ nothing ! $ fjoin ! $ nothing ! $ done !
@@ -165,7 +164,7 @@ module _ {M : Type 1} (𝓤 : URA M) (H : Heap 𝓤) (A : Atoms 𝓤) (W : Given
         -- [_3; true; _5; …; _4; …; what frees _3; _2; …; _1; …; _0; …]
         returns ! (look ! 11 refl) $ forget ! 0 refl $ forget ! 2 refl $ forget ! 4 refl $ forget ! 7 refl $ forget ! 9 refl $ forget ! 11 refl $
         move ! (11 ∷ 12 ∷ []) $ free1 ! $ move ! (9 ∷ 10 ∷ []) $ free1 ! $ move ! (7 ∷ 8 ∷ []) $ free1 ! $ move ! (0 ∷ 6 ∷ []) $ free1 ! $ move ! (3 ∷ 4 ∷ []) $ free1 ! $ move ! (1 ∷ 2 ∷ []) $ free1 ! $ free0 ! $
-        keep ! [] $ by ! (exits r w (e .0 ∙ four-of n h le) is))))))))))))))
+        keep ! [] $ by ! (exits r w e is))))))))))))))
       where
         many : length ys ≡ n
         many = length-take-le n h (subst (λ (k : ℕ). n ≤ k) (sym l) le)

@@ -1,12 +1,13 @@
 -- `lent` lends as many as are held: a count beyond the array is the array's length.
 use borrow.Author.Needs.{needs}
 use mathlib.Core.Path.{_≡_, sym, _∙_, ap}
-use Prim.Native.Nat.{ℕ}
+use Prim.Native.Nat.{ℕ, _≤_}
 use native.Mathlib.Omega.{arith}
 use lib.ListN.{length, take}
 use Rattle.base.proofs.Arrays.{unmap, take-count}
 use Rattle.status.specs.declared.list.Statuses.{Statuses}
 use Rattle.status.specs.Statuses.{held}
+use Rattle.status.proofs.Fours.{four-of}
 use Rattle.status.proofs.Held.{held-le}
 use Rattle.status.proofs.list.Statuses.lent.Statement.{statement}
 use Rattle.status.proofs.list.Statuses.lent.Tie as tie
@@ -24,7 +25,10 @@ returns : tie.Need-returns
 unfolding held
 returns c =
     let self : Statuses = c .before .before .before .args .self in
-    c .lend .ensures ∙ ap (λ (n : ℕ). take n (self .list)) (c .before .count .ensures) ∙ sym (take-count (self .count) (self .list))
+    let n : ℕ = c .before .count .result in
+    let few : n ≤ 4 = omega (arith, c .before .count .ensures, held-le self, long (c .before .before .before)) in
+    let same : take n (self .list) ≡ held self = ap (λ (k : ℕ). take k (self .list)) (c .before .count .ensures) ∙ sym (take-count (self .count) (self .list)) in
+    (c .lend .ensures .0 ∙ four-of n (self .list) few ∙ same, omega (arith, c .lend .ensures .1, ap length same, c .before .count .ensures, few))
 
 pub lent-spec : {M : Type 1} → statement M
 lent-spec = tie.close (tie.spec count-requires lend-requires returns)
