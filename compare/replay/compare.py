@@ -1,5 +1,5 @@
 #!/usr/bin/env python3
-"""compare.py DIR COMMAND..: runs DIR's scripts on the command that starts `replay` and holds what it writes against DIR's answers, call by call."""
+"""compare.py DIR COMMAND..: runs DIR's scripts on the command that starts `replay` and holds what it writes against DIR's answers."""
 
 import os
 import struct
@@ -22,33 +22,33 @@ def calls(script):
 
 
 def difference(script, expected, got):
-    """The first call that differs, or None."""
+    """Where the answers differ first, or None."""
     if got == expected:
         return None
-    if script[5] != DIGEST:
-        return "somewhere"
-    for k in range(calls(script)):
-        part = slice(ANSWER * k, ANSWER * (k + 1))
-        if got[part] != expected[part]:
-            return f"call {k}: expected {expected[part].hex()}, found {got[part].hex()}"
-    return "in length"
+    if script[5] == DIGEST:
+        for k in range(calls(script)):
+            part = slice(ANSWER * k, ANSWER * (k + 1))
+            if got[part] != expected[part]:
+                return f"call {k}: expected {expected[part].hex()}, found {got[part].hex()}"
+    at = len(os.path.commonprefix([expected, got]))
+    return f"byte {at}: expected {expected[at:at + 8].hex()}, found {got[at:at + 8].hex()}"
 
 
 def main(folder, *replay):
-    def answered(path):
-        return subprocess.run(replay, input=path.read_bytes(), stdout=subprocess.PIPE, check=False).stdout
-
-    compared = faults = 0
-    scripts = sorted(Path(folder).glob("*.script"))
-    with ThreadPoolExecutor(os.cpu_count()) as pool:
-        answers = list(pool.map(answered, scripts))
-    for path, got in zip(scripts, answers):
+    def held(path):
+        """The calls of a script, and where its answers differ."""
         script, expected = path.read_bytes(), path.with_suffix(".answers").read_bytes()
-        found = difference(script, expected, got)
-        if found:
-            faults += 1
-            print(f"{path.name}: {found}")
-        compared += calls(script)
+        got = subprocess.run(replay, input=script, stdout=subprocess.PIPE, check=False).stdout
+        return calls(script), difference(script, expected, got)
+
+    scripts = sorted(Path(folder).glob("*.script"))
+    compared = faults = 0
+    with ThreadPoolExecutor(os.cpu_count()) as pool:
+        for path, (count, found) in zip(scripts, pool.map(held, scripts)):
+            compared += count
+            if found:
+                faults += 1
+                print(f"{path.name}: {found}")
     print(f"{len(scripts)} scripts: {compared} calls compared, {faults} scripts differ")
     return 1 if faults or not scripts else 0
 

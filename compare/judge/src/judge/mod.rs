@@ -33,7 +33,7 @@ use tally::Tally;
 
 const USAGE: &str = "\
 judge run < SCRIPT > ANSWERS            run a script on the crate
-judge gen SEED > SCRIPT                 write the script of a seed (digests)
+judge gen SEED > SCRIPT                 write the script of a seed (whole answers)
 judge compare DIR                       run DIR's scripts and hold them against its answers
 judge find DIR                          the first difference alone; fails if there is none
 judge sample DIR                        write the stored sample
@@ -88,7 +88,7 @@ fn run() -> Result<(), String> {
 }
 
 fn gen(seed: u64) -> Result<(), String> {
-    let (_, script, _) = gen::generate(seed, Mode::Digest, &mut Tally::default());
+    let (_, script, _) = gen::generate(seed, Mode::Whole, &mut Tally::default());
     write_out(&script)
 }
 
