@@ -21,6 +21,7 @@ class Item:
 SMALL, LARGE = input_of(2, 1), input_of(4, 64)
 SEND = Item("send_input, the fourth that waits", "send-input", 4, 20_000)
 PAIR = Item("send_input, then message(InputAck) of the oldest", "input-ack", 5, 20_000)
+KEEP_ALIVE = Item("message(KeepAlive)", "keep-alive", 6, 20_000)
 
 CODEC = [
     Item("codec, reads an Input of 42 bytes", "read-42", 0, 1_000_000, SMALL),
@@ -33,7 +34,7 @@ CALLS = [
     Item("message(Input of one frame), 4 players, S = 16", "input-4x16", 3, 20_000),
     SEND,
     PAIR,
-    Item("message(KeepAlive)", "keep-alive", 6, 20_000),
+    KEEP_ALIVE,
     Item("act, nothing due", "act", 7, 20_000),
     Item("exchange of 10,000 frames, one frame", "exchange", 8, 10_000),
 ]

@@ -1,10 +1,10 @@
 #!/usr/bin/env python3
-"""memory.py: what our calls copy, and the stack that they need, of the program `bench` as it was last built.
+"""memory.py: what our calls copy, the size of the state, and the stack that the calls need, of the program `bench` as it was last built.
 
 Copies: `copies.c` is loaded before the C library and counts memcpy by size; a run of 200 less one of 100 is that of 100 calls. Stack: the frames
 in the disassembly, added up along the deepest chain of calls; and the smallest stack in which a run ends well."""
 import os, pathlib, platform, re, resource, shutil, subprocess, sys, tempfile
-from items import CALLS
+from items import CALLS, KEEP_ALIVE
 
 HERE = pathlib.Path(__file__).resolve().parent
 TOP = HERE.parent.parent
@@ -14,8 +14,6 @@ MACHINE = platform.machine()
 OBJDUMP = shutil.which("x86_64-linux-gnu-objdump") or "objdump"
 TOOLS = pathlib.Path(shutil.which("rt")).resolve().parent.parent / "on" / MACHINE / "toolchain"
 
-# The bytes of an endpoint: docs/SPEED.md adds them up.
-STATE = 34408
 REPEATED = 100
 
 
@@ -32,11 +30,16 @@ def copies():
         # The program is for x86-64 on every machine, so what is loaded into it is too.
         compiler = [TOOLS / "bin/clang", "--target=x86_64-unknown-linux-gnu", "-fuse-ld=lld", "-nostdlib"]
         subprocess.run([*compiler, "-O2", "-shared", "-fPIC", "-fno-builtin", "-o", counter, HERE / "copies.c", TOOLS / "lib/libc.so.6"], check=True)
+        each = {}
         for item in CALLS:
             once, twice = copied(counter, item, REPEATED), copied(counter, item, 2 * REPEATED)
-            each = {size: (twice[size] - once.get(size, 0)) / REPEATED for size in twice}
-            total = sum(size * times for size, times in each.items())
-            print(f"| {item.label:48} | {sum(each.values()):6.1f} | {total:12,.0f} | {total / STATE:9.1f} |")
+            each[item] = {size: (twice[size] - once.get(size, 0)) / REPEATED for size in twice}
+    # A KeepAlive changes no store, so what it copies is the endpoint: that is how its size is measured.
+    state = max(size for size, times in each[KEEP_ALIVE].items() if times)
+    for item, sizes in each.items():
+        total = sum(size * times for size, times in sizes.items())
+        print(f"| {item.label:48} | {sum(sizes.values()):6.1f} | {total:12,.0f} | {total / state:9.1f} |")
+    print(f"\nthe state: {state:,} bytes")
 
 
 def frames():
