@@ -3,4 +3,3 @@ pub mod Orders
 pub mod Timings
 pub mod Laws
 pub mod Datagrams
-pub mod Unusable

@@ -11,4 +11,3 @@ pub mod Advantage
 pub mod Call
 pub mod Step
 pub mod Value
-pub mod Unusable

@@ -1,0 +1,4 @@
+pub mod Steps
+pub mod Unusable
+pub mod Right
+pub mod Lazy

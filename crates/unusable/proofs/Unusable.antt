@@ -1,0 +1,288 @@
+-- None of the unusable versions meets the public statements. The endpoints that are tried are those that the version itself makes.
+use mathlib.Core.Bool.{true, false}
+use mathlib.Core.List.{List, [], _∷_, _++_}
+use mathlib.Core.Logic.{_⊎_, inl, inr}
+use mathlib.Core.Path.{_≡_, refl, sym, _∙_, ap}
+use native.Mathlib.Omega.{arith}
+use Prim.Native.Nat.{ℕ, zero, suc, _+_, _-_, _^_, _<_}
+use lib.ListN.{length, replicate, length-replicate}
+use Rattle.base.specs.Little.{Bytes}
+use Rattle.base.specs.Keyed.{kept, has, without}
+use Rattle.frame.specs.Bias.{nullFrame}
+use Rattle.packing.specs.Packing.{xors, framesOf, unpack, pack, decodableLength, decodable}
+use Rattle.packing.specs.Pad.{zeros, padded}
+use Rattle.pending.specs.Pending.{dropTo, lastTo, room}
+use Rattle.history.specs.History.{blank, highest, newestOf, foundIn, atLine, above, numbered, packetOf, takenIn}
+use Rattle.nonces.specs.Nonces.{issued, fits}
+use Rattle.status.specs.Status.{defaultStatus, reported, merged}
+use Rattle.status.specs.Statuses.{held, mergedAll, fresh as freshStatuses}
+use Rattle.events.specs.Events.{hasRoom, inputOf, inputEntry, announced}
+use Rattle.setup.specs.Setup.{badSetup, anyAbove, anyTwice, inserted, sorted, termsWith}
+use Rattle.outbox.specs.Outbox.{sizes}
+use Rattle.codec.specs.Message.{Wire, Fits, FitsReports, meant}
+use Rattle.codec.specs.Bytes.{bytes}
+use Rattle.codec.specs.declared.Message.{Message}
+use Rattle.codec.specs.declared.MessageBody.the-variants.{Input}
+use Rattle.codec.proofs.Meant.{input-is, meant-input, meant-magic, meant-body}
+use Rattle.codec.proofs.Octets.{bytes-bytes}
+use Rattle.protocol.specs.Seen.{Seen, made}
+use Rattle.protocol.specs.Did.{refused, decided, queueWire, done}
+use Rattle.protocol.specs.Room.{bufferFull, isFull}
+use Rattle.protocol.specs.Sending.{newest, droppedTo, acknowledged}
+use Rattle.protocol.specs.Receiving.{referenceFrame, taken, receivedIf, receive, announcedEach, discarded, packetOverflows, statusesMerged, informed, gotten, inputTaken, inputUnless, onInput}
+use Rattle.protocol.specs.Call.{Call}
+use Rattle.protocol.specs.Step.{fresh, filtered, ignored, resumed, heard, onBody, messageStep, disconnectStep, step}
+use Rattle.protocol.proofs.Bouts.{setupWith, new, fr, wire, none, P3, P5}
+use Rattle.protocol.proofs.Datagrams.{bytes-message}
+use Rattle.endpoint.specs.declared.Endpoint.{Endpoint}
+use Rattle.endpoint.specs.Endpoint.{seen}
+use Rattle.unusable.specs.Unusable.{Version, Meets, Asked, Reached, RefusesAll, Constant, Untouched, Received, FirstOnly, functionOf, callOf, number, after, toCome, InventsCounts, InventsLengths}
+use Rattle.unusable.proofs.Steps.{act-calm, send-calm, report-calm, disconnect-calm, advantage-calm, stats-sized, status-sized, taking-keeps, message-counts, heard-sized, other-message, unasked-reply, asked-reply, datagram-counts, datagram-sized, begins, begins-sized, reports, takes-all}
+
+-- a disconnect of a new endpoint is done at clock 0 and sets the shutdown time; it is refused at a clock above the ceiling
+done-at-0 : step (Call.disconnect 0) new .answer ≡ 0
+unfolding decided step disconnectStep fresh made
+done-at-0 = refl
+
+times-at-0 : step (Call.disconnect 0) new .after .clocks .«shutdown_timeout» ≡ 5000
+unfolding decided step disconnectStep fresh made
+times-at-0 = refl
+
+refused-late : step (Call.disconnect (2 ^ 62)) new .answer ≡ 8
+unfolding refused decided step disconnectStep
+refused-late = refl
+
+made-at : new .clocks .«shutdown_timeout» ≡ 1000
+unfolding fresh made
+made-at = refl
+
+taken-at-1000 : fresh (setupWith 1) 1000 .0 ≡ 0
+unfolding fresh badSetup anyAbove anyTwice has
+taken-at-1000 = refl
+
+module _ (v : Version) (m : Meets v) where
+  -- the version's own endpoint of the worked bouts
+  abbrev own : Endpoint
+  own = v .new (setupWith 1) 1000 .endpoint
+
+  own-reached : Reached v own
+  own-reached = Reached.made (setupWith 1) 1000 taken-at-1000
+
+  own-seen : seen own ≡ new
+  own-seen = m .new (setupWith 1) 1000 .made
+
+pub not-refuses-all : (v : Version) → RefusesAll v → Meets v → ⊥
+not-refuses-all v r m = r (own v m) (own-reached v m) (Asked.disconnect 0) (m .disconnect (own v m) 0 .answer ∙ rw (own-seen v m) done-at-0)
+
+pub not-constant : (v : Version) (n : ℕ → ℕ) → Constant n v → Meets v → ⊥
+not-constant v n c m =
+    let zero : n 5 ≡ 0 = sym (c (own v m) (own-reached v m) (Asked.disconnect 0)) ∙ m .disconnect (own v m) 0 .answer ∙ rw (own-seen v m) done-at-0 in
+    let eight : n 5 ≡ 8 = sym (c (own v m) (own-reached v m) (Asked.disconnect (2 ^ 62))) ∙ m .disconnect (own v m) (2 ^ 62) .answer ∙ rw (own-seen v m) refused-late in
+    omega arith
+
+-- the shutdown time is set
+pub not-untouched : (v : Version) → Untouched v → Meets v → ⊥
+not-untouched v u m =
+    let same : new ≡ step (Call.disconnect 0) new .after =
+    sym (own-seen v m) ∙ sym (u .calls (own v m) (own-reached v m) (Asked.disconnect 0)) ∙ m .disconnect (own v m) 0 .after ∙ rw (own-seen v m) in
+    let h : _≡_ {A = ℕ} 1000 5000 = sym made-at ∙ ap (λ (s : Seen). s .clocks .«shutdown_timeout») same ∙ times-at-0 in
+    omega arith
+
+-- ---- the first packet and then nothing: P5 after P3 brings frame 2
+
+abbrev received : Seen
+received = step P3 new .after
+
+newest-one : newest received ≡ fr 1
+unfolding kept has without xors framesOf unpack pack decodableLength decodable zeros padded dropTo lastTo room blank highest newestOf foundIn atLine above numbered packetOf takenIn issued fits defaultStatus reported merged mergedAll freshStatuses hasRoom inputOf inputEntry announced badSetup anyAbove anyTwice inserted sorted termsWith made refused decided queueWire sizes done bufferFull isFull droppedTo acknowledged referenceFrame taken receivedIf receive announcedEach discarded packetOverflows statusesMerged informed gotten inputTaken inputUnless onInput fresh filtered ignored resumed heard onBody messageStep step
+newest-one = refl
+
+newest-two : newest (step P5 received .after) ≡ fr 2
+unfolding kept has without xors framesOf unpack pack decodableLength decodable zeros padded dropTo lastTo room blank highest newestOf foundIn atLine above numbered packetOf takenIn issued fits defaultStatus reported merged mergedAll freshStatuses hasRoom inputOf inputEntry announced badSetup anyAbove anyTwice inserted sorted termsWith made refused decided queueWire sizes done bufferFull isFull droppedTo acknowledged referenceFrame taken receivedIf receive announcedEach discarded packetOverflows statusesMerged informed gotten inputTaken inputUnless onInput fresh filtered ignored resumed heard onBody messageStep step
+newest-two = refl
+
+-- the packets as values, their reports in an array of four
+abbrev input : (start : ℕ) → Message
+input start = record { magic = 9; body = Input false start nullFrame; reports = record { list = none ++ none; count = 2 } }
+
+abbrev p5 : Wire
+p5 = wire (Input false (fr 2) nullFrame) none (2 ∷ [])
+
+never : true ≡ false → ⊥
+never n = let z : _≡_ {A = ℕ} 0 1 = cc in omega arith
+
+p5-fits : Fits p5
+p5-fits =
+    record {
+      magic = omega arith;
+      body = (omega arith, omega arith);
+      frames = frames;
+      statuses = omega arith;
+      length = omega arith;
+      bytes = bytes;
+      none = λ e. absurd (never (sym (input-is false (fr 2) nullFrame) ∙ e));
+    }
+  where
+    frames : FitsReports none
+    frames zero d h = omega arith
+    frames (suc zero) d h = omega arith
+    frames (suc (suc i)) d h = absurd (omega arith)
+
+    bytes : Bytes (2 ∷ [])
+    bytes zero = omega arith
+    bytes (suc i) = omega arith
+
+module _ (v : Version) (m : Meets v) where
+  abbrev buffer : List ℕ
+  buffer = replicate 65536 0
+
+  long : length buffer ≡ 65536
+  long = length-replicate {A = ℕ} 65536 0
+
+  -- P3's packet comes to it
+  abbrev first : Endpoint
+  first = v .message (own v m) 3 (input (fr 0)) (5 ∷ 7 ∷ []) 2000 72000 0 buffer .0 .endpoint
+
+  first-reached : Reached v first
+  first-reached = Reached.called (own v m) (own-reached v m) (Asked.message 3 (input (fr 0)) (5 ∷ 7 ∷ []) 2000 72000 0 buffer)
+
+  first-seen : seen first ≡ received
+  first-seen =
+      m .message (own v m) 3 (input (fr 0)) (5 ∷ 7 ∷ []) 2000 72000 0 buffer .after
+      ∙ rw (own-seen v m, meant-input 9 false (fr 0) nullFrame (input (fr 0) .reports) (5 ∷ 7 ∷ []), long)
+
+  first-newest : newest (seen first) ≡ fr 1
+  first-newest = rw first-seen newest-one
+
+  first-received : Received first
+  first-received e = let z : fr 1 ≡ nullFrame = sym first-newest ∙ e in omega arith
+
+  -- then P5's, either way
+  second-message : newest (seen (v .message first 3 (input (fr 2)) (2 ∷ []) 2000 72000 0 buffer .0 .endpoint)) ≡ fr 2
+  second-message =
+      ap newest (m .message first 3 (input (fr 2)) (2 ∷ []) 2000 72000 0 buffer .after)
+      ∙ rw (first-seen, meant-input 9 false (fr 2) nullFrame (input (fr 2) .reports) (2 ∷ []), long) newest-two
+
+  second-datagram : newest (seen (v .datagram first 3 (bytes p5) 2000 72000 0 buffer .0 .endpoint)) ≡ fr 2
+  second-datagram =
+      ap newest (m .datagram first 3 (bytes p5) (bytes-bytes p5 p5-fits) 2000 72000 0 buffer .after)
+      ∙ rw (first-seen, bytes-message 3 p5 2000 72000 0 (length buffer) received p5-fits, long) newest-two
+
+pub not-first-only : (v : Version) → FirstOnly v → Meets v → ⊥
+not-first-only v (FirstOnly.messages f) m =
+    let e : fr 2 ≡ fr 1 = sym (second-message v m) ∙ f (first v m) (first-reached v m) (first-received v m) 3 (input (fr 2)) (2 ∷ []) 2000 72000 0 (buffer v m) ∙ first-newest v m in
+    omega arith
+not-first-only v (FirstOnly.datagrams f) m =
+    let e : fr 2 ≡ fr 1 = sym (second-datagram v m) ∙ f (first v m) (first-reached v m) (first-received v m) 3 (bytes p5) (bytes-bytes p5 p5-fits) 2000 72000 0 (buffer v m) ∙ first-newest v m in
+    omega arith
+
+-- ---- invented numbers
+
+abbrev counted : Seen → ℕ
+counted s = s .sync .remaining
+
+abbrev queue : Seen → ℕ
+queue s = s .queued
+
+module _ (v : Version) (m : Meets v) where
+  -- a refusal gives the very endpoint back
+  refused-same : (e : Endpoint) (c : Asked) → (number v e c ≡ 0 → ⊥) → after v e c ≡ e
+  refused-same e (Asked.synchronize now epoch nonce out) h = let k = m .synchronize e now epoch nonce out in k .same (λ z. h (k .answer ∙ z))
+  refused-same e (Asked.message from x payload now epoch nonce out) h = let k = m .message e from x payload now epoch nonce out in k .same (λ z. h (k .answer ∙ z))
+  refused-same e (Asked.datagram from d are now epoch nonce out) h = let k = m .datagram e from d are now epoch nonce out in k .same (λ z. h (k .answer ∙ z))
+  refused-same e (Asked.act statuses now epoch nonce out) h = let k = m .act e statuses now epoch nonce out in k .same (λ z. h (k .answer ∙ z))
+  refused-same e (Asked.sendInput frame bytes statuses now out) h = let k = m .«send_input» e frame bytes statuses now out in k .same (λ z. h (k .answer ∙ z))
+  refused-same e (Asked.disconnect now) h = let k = m .disconnect e now in k .same (λ z. h (k .answer ∙ z))
+  refused-same e (Asked.sendChecksumReport frame checksum now out) h = let k = m .«send_checksum_report» e frame checksum now out in k .same (λ z. h (k .answer ∙ z))
+  refused-same e (Asked.updateLocalFrameAdvantage local) h = let k = m .«update_local_frame_advantage» e local in k .same (λ z. h (k .answer ∙ z))
+  refused-same e (Asked.takeMessages out) h = let k = m .«take_messages» e out in k .same (λ z. h (k .answer ∙ z))
+  refused-same e (Asked.networkStats epoch) h = refl
+  refused-same e (Asked.peerConnectStatus handle) h = refl
+
+  idle-count : (e : Endpoint) (c : Asked) → 2 < functionOf c → toCome (after v e c) ≡ toCome e
+  unfolding seen
+  idle-count e (Asked.synchronize now epoch nonce out) h = absurd (omega arith)
+  idle-count e (Asked.message from x payload now epoch nonce out) h = absurd (omega arith)
+  idle-count e (Asked.datagram from d are now epoch nonce out) h = absurd (omega arith)
+  idle-count e (Asked.act statuses now epoch nonce out) h =
+      ap counted (m .act e statuses now epoch nonce out .after) ∙ act-calm (seen e) (statuses .count) (held statuses) now epoch nonce (length out) .count
+  idle-count e (Asked.sendInput frame bytes statuses now out) h =
+      ap counted (m .«send_input» e frame bytes statuses now out .after) ∙ send-calm (seen e) frame bytes (statuses .count) (held statuses) now (length out) .count
+  idle-count e (Asked.disconnect now) h = ap counted (m .disconnect e now .after) ∙ disconnect-calm (seen e) now .count
+  idle-count e (Asked.sendChecksumReport frame checksum now out) h =
+      ap counted (m .«send_checksum_report» e frame checksum now out .after) ∙ report-calm (seen e) frame checksum now (length out) .count
+  idle-count e (Asked.updateLocalFrameAdvantage local) h = ap counted (m .«update_local_frame_advantage» e local .after) ∙ advantage-calm (seen e) local .count
+  idle-count e (Asked.takeMessages out) h = ap counted (m .«take_messages» e out .after) ∙ taking-keeps (seen e) (length out)
+  idle-count e (Asked.networkStats epoch) h = refl
+  idle-count e (Asked.peerConnectStatus handle) h = refl
+
+  one-count : (e : Endpoint) (c : Asked) → 0 < functionOf c → (toCome (after v e c) ≡ toCome e) ⊎ (toCome (after v e c) ≡ toCome e - 1)
+  unfolding seen step
+  one-count e (Asked.synchronize now epoch nonce out) h = absurd (omega arith)
+  one-count e (Asked.message from x payload now epoch nonce out) h =
+      simp (sym (ap counted (m .message e from x payload now epoch nonce out .after))) at
+      (message-counts (seen e) from (x .reports .count) (meant x payload) now epoch nonce (length out))
+  one-count e (Asked.datagram from d are now epoch nonce out) h =
+      simp (sym (ap counted (m .datagram e from d are now epoch nonce out .after))) at (datagram-counts (seen e) from d now epoch nonce (length out))
+  one-count e (Asked.act statuses now epoch nonce out) h = inl (idle-count e (Asked.act statuses now epoch nonce out) (omega arith))
+  one-count e (Asked.sendInput frame bytes statuses now out) h = inl (idle-count e (Asked.sendInput frame bytes statuses now out) (omega arith))
+  one-count e (Asked.disconnect now) h = inl (idle-count e (Asked.disconnect now) (omega arith))
+  one-count e (Asked.sendChecksumReport frame checksum now out) h = inl (idle-count e (Asked.sendChecksumReport frame checksum now out) (omega arith))
+  one-count e (Asked.updateLocalFrameAdvantage local) h = inl (idle-count e (Asked.updateLocalFrameAdvantage local) (omega arith))
+  one-count e (Asked.takeMessages out) h = inl (idle-count e (Asked.takeMessages out) (omega arith))
+  one-count e (Asked.networkStats epoch) h = inl refl
+  one-count e (Asked.peerConnectStatus handle) h = inl refl
+
+  sized : (e : Endpoint) (c : Asked) → (functionOf c ≡ 8 → ⊥) → after v e c .queued ≡ e .queued + sizes (step (callOf c) (seen e) .out)
+  unfolding seen
+  sized e (Asked.synchronize now epoch nonce out) h = ap queue (m .synchronize e now epoch nonce out .after) ∙ begins-sized (seen e) now epoch nonce (length out)
+  sized e (Asked.message from x payload now epoch nonce out) h =
+      ap queue (m .message e from x payload now epoch nonce out .after) ∙ heard-sized (seen e) from (x .reports .count) (meant x payload) now epoch nonce (length out)
+  sized e (Asked.datagram from d are now epoch nonce out) h =
+      ap queue (m .datagram e from d are now epoch nonce out .after) ∙ datagram-sized (seen e) from d now epoch nonce (length out)
+  sized e (Asked.act statuses now epoch nonce out) h =
+      ap queue (m .act e statuses now epoch nonce out .after) ∙ act-calm (seen e) (statuses .count) (held statuses) now epoch nonce (length out) .queue
+  sized e (Asked.sendInput frame bytes statuses now out) h =
+      ap queue (m .«send_input» e frame bytes statuses now out .after) ∙ send-calm (seen e) frame bytes (statuses .count) (held statuses) now (length out) .queue
+  sized e (Asked.disconnect now) h = ap queue (m .disconnect e now .after) ∙ disconnect-calm (seen e) now .queue
+  sized e (Asked.sendChecksumReport frame checksum now out) h =
+      ap queue (m .«send_checksum_report» e frame checksum now out .after) ∙ report-calm (seen e) frame checksum now (length out) .queue
+  sized e (Asked.updateLocalFrameAdvantage local) h = ap queue (m .«update_local_frame_advantage» e local .after) ∙ advantage-calm (seen e) local .queue
+  sized e (Asked.takeMessages out) h = absurd (h refl)
+  sized e (Asked.networkStats epoch) h = stats-sized (seen e) epoch
+  sized e (Asked.peerConnectStatus handle) h = status-sized (seen e) handle
+
+pub not-invents-counts : (v : Version) → InventsCounts v → Meets v → ⊥
+unfolding seen step
+not-invents-counts v (InventsCounts.begun e now epoch nonce out d h) m =
+    let k = m .synchronize e now epoch nonce out in
+    h (ap counted (k .after) ∙ begins (seen e) now epoch nonce (length out) (sym (k .answer) ∙ d) .0)
+not-invents-counts v (InventsCounts.unasked e from x payload now epoch nonce out reply b o h) m =
+    h (ap counted (m .message e from x payload now epoch nonce out .after)
+    ∙ unasked-reply (seen e) from (x .reports .count) (meant x payload) now epoch nonce (length out) reply (meant-body x payload ∙ b) o)
+not-invents-counts v (InventsCounts.unlike e from x payload now epoch nonce out other h) m =
+    h (ap counted (m .message e from x payload now epoch nonce out .after)
+    ∙ other-message (seen e) from (x .reports .count) (meant x payload) now epoch nonce (length out) (λ reply b. other reply (sym (meant-body x payload) ∙ b)))
+not-invents-counts v (InventsCounts.uncounted e from x payload now epoch nonce out reply b o p i d h) m =
+    let k = m .message e from x payload now epoch nonce out in
+    h (ap counted (k .after)
+    ∙ asked-reply (seen e) from (x .reports .count) (meant x payload) now epoch nonce (length out) reply (meant-body x payload ∙ b) p o (rw (meant-magic x payload) i) (sym (k .answer) ∙ d))
+not-invents-counts v (InventsCounts.miscounted e c s h k) m = elim (one-count v m e c s) [ inl z ↦ h z | inr z ↦ k z ]
+not-invents-counts v (InventsCounts.idle e c s h) m = h (idle-count v m e c s)
+not-invents-counts v (InventsCounts.refused e c r h) m = h (ap toCome (refused-same v m e c r))
+not-invents-counts v (InventsCounts.taken e h) m = h (ap counted (m .«take_events» e .after))
+
+pub not-invents-lengths : (v : Version) → InventsLengths v → Meets v → ⊥
+unfolding seen step
+not-invents-lengths v (InventsLengths.requested e now epoch nonce out d h) m =
+    let k = m .synchronize e now epoch nonce out in
+    h (ap queue (k .after) ∙ begins (seen e) now epoch nonce (length out) (sym (k .answer) ∙ d) .1)
+not-invents-lengths v (InventsLengths.reported e frame checksum now out d h) m =
+    let k = m .«send_checksum_report» e frame checksum now out in
+    h (ap queue (k .after) ∙ reports (seen e) frame checksum now (length out) (sym (k .answer) ∙ d))
+not-invents-lengths v (InventsLengths.left e out d h) m =
+    let k = m .«take_messages» e out in
+    h (ap queue (k .after) ∙ takes-all (seen e) (length out) (sym (k .answer) ∙ d))
+not-invents-lengths v (InventsLengths.unsized e c s h) m = h (sized v m e c s)
+not-invents-lengths v (InventsLengths.taken e h) m = h (ap queue (m .«take_events» e .after))
+not-invents-lengths v (InventsLengths.refused e c r h) m = h (ap (λ (x : Endpoint). x .queued) (refused-same v m e c r))
