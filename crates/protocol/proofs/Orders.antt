@@ -2,8 +2,8 @@
 use mathlib.Core.Bool.{true, false}
 use mathlib.Core.List.{List, [], _∷_, map}
 use mathlib.Core.Path.{_≡_, refl}
-use Prim.Native.Nat.{ℕ, _^_}
-use lib.ListN.{replicate}
+use Prim.Native.Nat.{ℕ, zero, suc, _^_}
+use lib.ListN.{length, replicate}
 use Rattle.base.specs.Keyed.{kept, has, without}
 use Rattle.frame.specs.Bias.{nullFrame}
 use Rattle.packing.specs.Packing.{xors, framesOf, unpack, pack, decodableLength, decodable}
@@ -20,7 +20,7 @@ use Rattle.events.specs.declared.Event.the-variants as Event
 use Rattle.events.specs.Events.{hasRoom, inputOf, inputEntry, announced}
 use Rattle.protocol.specs.declared.Phase.the-variants.{Running, Shutdown}
 use Rattle.setup.specs.Setup.{badSetup, anyAbove, anyTwice, inserted, sorted, termsWith}
-use Rattle.protocol.specs.Seen.{made, withPhase}
+use Rattle.protocol.specs.Seen.{Seen, made, withPhase}
 use Rattle.outbox.specs.Outbox.{sizes, reportOf, pendingInput}
 use Rattle.protocol.specs.Did.{refused, decided, queueWire, done}
 use Rattle.protocol.specs.Room.{bufferFull, isFull}
@@ -95,3 +95,38 @@ orders :
     × (step (Call.message 3 0 (record { magic = 8; body = KeepAlive; reports = []; payload = [] }) 2000 2000 0 0) (after handshake new) .after .clocks .«last_recv_time» ≡ 1000)
 unfolding kept has without xors framesOf unpack pack decodableLength decodable zeros padded dropTo lastTo firstFrame lastFrame room payload blank highest newestOf foundIn atLine above numbered packetOf takenIn issued fits defaultStatus reported merged mergedAll freshStatuses hasRoom inputOf inputEntry announced badSetup anyAbove anyTwice inserted sorted termsWith made refused decided queueWire sizes done bufferFull isFull nonceIssued request started synchronized counted running replied onSyncReply droppedTo acknowledged badFrame reportOf pendingInput pendingQueued accepted tooMany inputSent referenceFrame taken receivedIf receive announcedEach discarded packetOverflows statusesMerged informed gotten inputTaken inputUnless onInput fresh synchronizeStep filtered ignored resumed heard onBody messageStep sendStep disconnectStep step statsStep statusStep takeStep checksumStep checksumSent
 orders = (refl, refl, refl, refl, refl, refl, refl, refl, refl, refl, refl, refl, refl, refl, refl, refl, refl, refl, refl, refl, refl, refl, refl, refl, refl, refl, refl, refl, refl, refl, refl)
+
+-- ---- the 129th pending input
+
+-- n frames one after the other, all accepted and none acknowledged
+abbrev sends : (frame n : ℕ) → List Call
+sends frame zero = []
+sends frame (suc n) = send frame (5 ∷ []) 2000 65536 ∷ sends (suc frame) n
+
+abbrev pendingOf : Seen → ℕ
+pendingOf s = length (s .carried .sender .pending)
+
+abbrev with127 : Seen
+with127 = after (sends (fr 0) 127) (after handshake new)
+
+abbrev with128 : Seen
+with128 = step (send (fr 127) (5 ∷ []) 2000 65536) with127 .after
+
+abbrev with129 : Seen
+with129 = step (send (fr 128) (5 ∷ []) 2000 65536) with128 .after
+
+crowded :
+    (pendingOf with127 ≡ 127)
+    -- the 128th tells nothing
+    × (step (send (fr 127) (5 ∷ []) 2000 65536) with127 .answer ≡ 0)
+    × (step (send (fr 127) (5 ∷ []) 2000 65536) with127 .told ≡ [])
+    × (pendingOf with128 ≡ 128)
+    -- the 129th is kept and tells Disconnected, without marking it announced
+    × (step (send (fr 128) (5 ∷ []) 2000 65536) with128 .answer ≡ 0)
+    × (events (step (send (fr 128) (5 ∷ []) 2000 65536) with128 .told) ≡ Event.Disconnected ∷ [])
+    × (pendingOf with129 ≡ 129)
+    × (with129 .flags .«disconnect_event_sent» ≡ false)
+    -- one more does not fit
+    × (step (send (fr 129) (5 ∷ []) 2000 65536) with129 .answer ≡ 5)
+unfolding kept has without xors framesOf unpack pack decodableLength decodable zeros padded dropTo lastTo firstFrame lastFrame room payload blank highest newestOf foundIn atLine above numbered packetOf takenIn issued fits defaultStatus reported merged mergedAll freshStatuses hasRoom inputOf inputEntry announced badSetup anyAbove anyTwice inserted sorted termsWith made refused decided queueWire sizes done bufferFull isFull nonceIssued request started synchronized counted running replied onSyncReply droppedTo acknowledged badFrame reportOf pendingInput pendingQueued accepted tooMany inputSent fresh synchronizeStep filtered ignored resumed heard onBody messageStep sendStep step
+crowded = (refl, refl, refl, refl, refl, refl, refl, refl, refl)
