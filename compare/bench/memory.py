@@ -89,10 +89,10 @@ def least_stack(item):
 
 def stack():
     frame, calls = frames()
-    print(f"\n| {'function':32} | its frame | with what it calls |\n|{'-' * 34}|----------:|-------------------:|")
+    print(f"\n| {'function':34} | its frame | with what it calls |\n|{'-' * 36}|----------:|-------------------:|")
     for name in sorted(frame):
         if name.startswith("endpoint::Endpoint::"):
-            print(f"| {name:32} | {frame[name]:9,} | {deepest(name, frame, calls):18,} |")
+            print(f"| {name:34} | {frame[name]:9,} | {deepest(name, frame, calls):18,} |")
     print(f"\nthe exchange ends well with a stack of {least_stack(CALLS[-1])} KiB, and not with 4 KiB less")
 
 
