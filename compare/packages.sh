@@ -19,10 +19,14 @@ for package in "$@"; do
 done
 [ ${#missing[@]} -gt 0 ] || exit 0
 
+# One at a time: a lock of apt's lists is not waited for.
+exec 9>"${TMPDIR:-/tmp}/rojbendal-packages.lock"
+flock 9
+
 log=$(mktemp)
 trap 'rm -f "$log"' EXIT
 
-# Another job may be installing at the same time, so wait for dpkg's lock.
+# Somebody else may be installing at the same time, so wait for dpkg's lock.
 apt() {
     DEBIAN_FRONTEND=noninteractive apt-get -qq -o DPkg::Lock::Timeout=300 "$@" >>"$log" 2>&1
 }

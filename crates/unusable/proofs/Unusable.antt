@@ -267,6 +267,7 @@ not-invents-counts v (InventsCounts.uncounted e from x payload now epoch nonce o
     let k = m .message e from x payload now epoch nonce out in
     h (ap counted (k .after)
     ∙ asked-reply (seen e) from (x .reports .count) (meant x payload) now epoch nonce (length out) reply (meant-body x payload ∙ b) p o (rw (meant-magic x payload) i) (sym (k .answer) ∙ d))
+not-invents-counts v (InventsCounts.misread e from d are now epoch nonce out h) m = h (ap counted (m .datagram e from d are now epoch nonce out .after))
 not-invents-counts v (InventsCounts.miscounted e c s h k) m = elim (one-count v m e c s) [ inl z ↦ h z | inr z ↦ k z ]
 not-invents-counts v (InventsCounts.idle e c s h) m = h (idle-count v m e c s)
 not-invents-counts v (InventsCounts.refused e c r h) m = h (ap toCome (refused-same v m e c r))

@@ -222,6 +222,10 @@ pub data InventsCounts (v : Version) : Type 0 where
   -- a message that counts though it is no reply
   unlike : (e : Endpoint) (from : ℕ) (m : Message) (payload : List ℕ) (now epoch nonce : ℕ) (out : List ℕ) → ((reply : ℕ) → m .body ≡ SyncReply reply → ⊥)
       → (toCome (heard v e from m payload now epoch nonce out) ≡ toCome e → ⊥) → InventsCounts v
+  -- a datagram after which others are to come than document 01's step leaves: what it holds counts though it should not, or does not though it should
+  misread : (e : Endpoint) (from : ℕ) (d : List ℕ) (are : Bytes d) (now epoch nonce : ℕ) (out : List ℕ)
+      → (toCome (after v e (Asked.datagram from d are now epoch nonce out)) ≡ step (Call.datagram from d now epoch nonce (length out)) (seen e) .after .sync .remaining → ⊥)
+      → InventsCounts v
   -- a message or a datagram that counts as another number than one
   miscounted : (e : Endpoint) (c : Asked) → 0 < functionOf c → (toCome (after v e c) ≡ toCome e → ⊥) → (toCome (after v e c) ≡ toCome e - 1 → ⊥) → InventsCounts v
   -- a call that counts though it is none of a handshake, or is refused
