@@ -1,5 +1,5 @@
 -- The ways out of `message` that are no Input's, and the end of a message that falls through: by what the calls in them gave.
-use borrow.Author.Tests.{ltb-true, ltb-false}
+use borrow.Author.Tests.{ltb-true, ltb-false, lt-ltb, le-ltb}
 use mathlib.Core.Bool.{Bool, true, false, _&&_, _||_}
 use mathlib.Core.List.{List, [], _∷_}
 use mathlib.Core.Path.{_≡_, refl, sym, _∙_}
@@ -7,6 +7,7 @@ use native.Mathlib.Omega.{arith}
 use Prim.Native.Nat.{ℕ, _-_, _<_, _≤_}
 use lib.Dec.{ltb, leb}
 use lib.ListN.{length}
+use lib.Seq.{take-length}
 use Rattle.answer.specs.declared.Answer.{Answer}
 use Rattle.answer.specs.declared.Answer.the-variants.{Done, Full, Overflow}
 use Rattle.codec.specs.Message.{listed, kindOf}
@@ -15,7 +16,8 @@ use Rattle.codec.specs.declared.Message.{Message}
 use Rattle.codec.specs.declared.MessageBody.the-variants.{SyncReply, Input, InputAck, ChecksumReport}
 use Rattle.nonces.specs.declared.Issued.{Issued}
 use Rattle.nonces.specs.declared.Spent.{Spent}
-use Rattle.nonces.specs.Nonces.{outstanding, isOutstanding, IssuedAs, SpentAs}
+use Rattle.nonces.specs.declared.Nonces.{Nonces}
+use Rattle.nonces.specs.Nonces.{outstanding, isOutstanding, spent, renewed, IssuedAs, SpentAs}
 use Rattle.setup.specs.Setup.{intervalOf}
 use Rattle.timers.specs.declared.Clocks.{Clocks}
 use Rattle.timers.specs.Timers.{badClock, sentAt, heardAt}
@@ -74,46 +76,72 @@ module _ (e : Endpoint) (from : ℕ) (m : Message) (p : List ℕ) (now epoch non
     pub reply-passes : isSynchronizing (e .sync .phase) && isOutstanding reply (outstanding (e .nonces)) ≡ false → OnlyHeard
     reply-passes h x d = sync-replied e from m p now epoch nonce buffer good heeded x reply buffer eb (ignored e now nonce (m .magic) reply buffer x d h)
 
-    -- that does; y: the nonces without its own
-    module _ (phase : e .sync .phase ≡ Synchronizing) (y : Spent) (ey : SpentAs (e .nonces) reply y) (counts : y .found ≡ true) where
+    -- that does; l: how many replies are to come, y: the nonces without its own, and with the next one where l is not 0
+    module _ (phase : e .sync .phase ≡ Synchronizing) (l : ℕ) (el : l ≡ e .sync .remaining - 1) (y : Spent) (ey : SpentAs (e .nonces) reply (ltb 0 l) nonce y) (counts : y .found ≡ true) where
+      outstood : isOutstanding reply (outstanding (e .nonces)) ≡ true
+      outstood = sym (ey .found) ∙ counts
+
       early : 1 < e .sync .remaining → (x : Ended) (b′ : List ℕ)
           → DidAs e (reacted (length buffer) (seen e) (Counting e now nonce (m .magic) reply true)) buffer x b′ → Arrives x b′
       early more x b′ d =
-          sync-replied e from m p now epoch nonce buffer good heeded x reply b′ eb (reply-early e now nonce (m .magic) reply buffer phase (sym (ey .found) ∙ counts) more x b′ d)
+          sync-replied e from m p now epoch nonce buffer good heeded x reply b′ eb (reply-early e now nonce (m .magic) reply buffer phase outstood more x b′ d)
 
       last : e .sync .remaining ≤ 1 → (x : Ended) → DoneAs e (reacted 0 (seen e) (Counting e now nonce (m .magic) reply false)) x → Arrives x buffer
       last one x d =
-          sync-replied e from m p now epoch nonce buffer good heeded x reply buffer eb (reply-last e now nonce (m .magic) reply buffer phase (sym (ey .found) ∙ counts) one x d)
+          sync-replied e from m p now epoch nonce buffer good heeded x reply buffer eb (reply-last e now nonce (m .magic) reply buffer phase outstood one x d)
 
       untold : (more : Bool) → ltb 1 (e .sync .remaining) ≡ more → hasRoom (held (e .events)) 1 ≡ false → Ends e Full buffer
       untold true h k = early (ltb-true 1 (e .sync .remaining) h) _ buffer (early-untold e now nonce (m .magic) reply k buffer)
       untold false h k = last (ltb-false 1 (e .sync .remaining) h) _ (last-untold e now nonce (m .magic) reply k)
+
+      -- the nonces without the reply's, by themselves
+      abbrev without : Nonces
+      without = record { list = spent reply (outstanding (e .nonces)); used = length (spent reply (outstanding (e .nonces))) }
+
+      without-is : outstanding without ≡ spent reply (outstanding (e .nonces))
+      unfolding outstanding
+      without-is = take-length (spent reply (outstanding (e .nonces)))
+
+      -- with the next one
+      abbrev next : Issued
+      next = record { nonces = y .nonces; ok = true }
+
+      next-issued : 0 < l → IssuedAs without nonce next
+      unfolding renewed
+      next-issued more =
+          record {
+            ok = rw (without-is, ey .room counts);
+            view = rw (without-is, ey .room counts) (ey .view ∙ rw (outstood, lt-ltb 0 l more));
+            same = λ z. cc;
+          }
+
+      none-issued : l ≤ 0 → outstanding (y .nonces) ≡ spent reply (outstanding (e .nonces))
+      unfolding renewed
+      none-issued none = ey .view ∙ rw (outstood, le-ltb 0 l none)
 
       -- n: how many events there are, f: whether no other can be told
       module _ (n : ℕ) (en : n ≡ length (held (e .events))) (f : Bool) (ef : f ≡ leb 640 n) where
         pub reply-untold : f ≡ true → Ends e Full buffer
         reply-untold h = untold (ltb 1 (e .sync .remaining)) refl (one-crowds (e .events) n en (sym ef ∙ h))
 
-        -- l: how many replies are to come
-        module _ (told : f ≡ false) (c : Clocks) (ec : c ≡ heardAt now (e .clocks)) (l : ℕ) (el : l ≡ e .sync .remaining - 1) where
+        module _ (told : f ≡ false) (c : Clocks) (ec : c ≡ heardAt now (e .clocks)) where
           room : hasRoom (held (e .events)) 1 ≡ true
           room = one-fits (e .events) n en (sym ef ∙ told)
 
-          module _ (more : 0 < l) (i : Issued) (ei : IssuedAs (y .nonces) nonce i) (g : Requested) (b′ : List ℕ)
-              (eg : RequestedAs (i .ok) c (e .setup .magic) now nonce buffer (e .queued) g b′) where
+          module _ (more : 0 < l) (g : Requested) (b′ : List ℕ) (eg : RequestedAs true c (e .setup .magic) now nonce buffer (e .queued) g b′) where
             pub reply-choked : g .ok ≡ false → Ends e Full b′
             reply-choked k =
-                early (omega (arith, more, el)) _ b′ (early-choked e now nonce (m .magic) reply (y .nonces) (ey .view) l el buffer c ec i ei g b′ eg k)
+                early (omega (arith, more, el)) _ b′ (early-choked e now nonce (m .magic) reply without without-is l el buffer c ec next (next-issued more) g b′ eg k)
 
             pub reply-goes-on : (x : Entry) → x ≡ plain (Event.Synchronizing 5 (5 - l)) → (q : Pushed) → PushedAs (e .events) (hasRoom (held (e .events)) 1) (x ∷ []) q → g .ok ≡ true
-                → Ends (remade e (e .pending) (e .acked) (e .history) (record { phase = e .sync .phase; remaining = l; «remote_magic» = e .sync .«remote_magic» }) (i .nonces) (g .clocks) (e .flags) (e .quality) (e .statuses) (e .checksums) (q .events) (g .end)) Done b′
+                → Ends (remade e (e .pending) (e .acked) (e .history) (record { phase = e .sync .phase; remaining = l; «remote_magic» = e .sync .«remote_magic» }) (y .nonces) (g .clocks) (e .flags) (e .quality) (e .statuses) (e .checksums) (q .events) (g .end)) Done b′
             reply-goes-on x ex q eq k =
-                early (omega (arith, more, el)) _ b′ (early-done e now nonce (m .magic) reply (y .nonces) (ey .view) l el buffer c ec i ei g b′ eg q room (rw ex at eq) k)
+                early (omega (arith, more, el)) _ b′ (early-done e now nonce (m .magic) reply without without-is l el buffer c ec next (next-issued more) g b′ eg q room (rw ex at eq) k)
 
           pub reply-over : l ≤ 0 → (x : Entry) → x ≡ plain Event.Synchronized → (q : Pushed) → PushedAs (e .events) (hasRoom (held (e .events)) 1) (x ∷ []) q
               → Ends (remade e (e .pending) (e .acked) (e .history) (record { phase = Running; remaining = l; «remote_magic» = m .magic }) (y .nonces) c (e .flags) (e .quality) (e .statuses) (e .checksums) (q .events) (e .queued)) Done buffer
           reply-over none x ex q eq =
-              last (omega (arith, none, el)) _ (last-done e now nonce (m .magic) reply (y .nonces) (ey .view) l el c q room ec (rw ex at eq))
+              last (omega (arith, none, el)) _ (last-done e now nonce (m .magic) reply (y .nonces) (none-issued none) l el c q room ec (rw ex at eq))
 
   -- an Input that is discarded
   pub input-passes : (d : Bool) (start ack : ℕ) → m .body ≡ Input d start ack → (o : Opened) → OpenedAs (e .history) (e .setup) d start (m .reports .count) (length p) o

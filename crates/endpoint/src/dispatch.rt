@@ -73,7 +73,8 @@ impl Endpoint {
                 };
                 // One that counts is told, and another request goes out or the handshake is over: from then on the filter asks for its magic.
                 if let Phase::Synchronizing = phase {
-                    let spent = self.nonces.spend(random_reply);
+                    let remaining = handshake::less(self.sync.remaining, 1);
+                    let spent = self.nonces.spend(random_reply, 0 < remaining, nonce);
                     if spent.found {
                         if telling::is_crowded(true, self.events.count()) {
                             return Ended {
@@ -82,11 +83,9 @@ impl Endpoint {
                             };
                         }
                         let heard = self.clocks.heard(now);
-                        let remaining = handshake::less(self.sync.remaining, 1);
                         if 0 < remaining {
-                            let issued = spent.nonces.issue(nonce);
                             let requested = handshake::request(
-                                issued.ok,
+                                true,
                                 heard,
                                 self.setup.magic,
                                 now,
@@ -102,7 +101,7 @@ impl Endpoint {
                             }
                             let told = self.events.push(handshake::progress(remaining));
                             let events = told.events;
-                            let nonces = issued.nonces;
+                            let nonces = spent.nonces;
                             let clocks = requested.clocks;
                             self.sync.remaining = remaining;
                             self.nonces = nonces;

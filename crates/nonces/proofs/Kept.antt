@@ -2,7 +2,7 @@
 use borrow.Author.Tests.{lt-ltb, le-ltb}
 use mathlib.Core.Bool.{Bool, true, false}
 use mathlib.Core.List.{List}
-use mathlib.Core.Path.{_≡_, sym, _∙_}
+use mathlib.Core.Path.{_≡_, refl, sym, _∙_}
 use Prim.Native.Nat.{ℕ, _+_, _≤_, _<_}
 use native.Mathlib.Omega.{arith}
 use lib.Dec.{ltb}
@@ -11,8 +11,8 @@ use lib.Seq.{length-take-le}
 use Rattle.base.proofs.Arrays.{take-count, view-le, store-end}
 use Rattle.base.proofs.Removal.{without-none}
 use Rattle.nonces.specs.declared.Nonces.{Nonces}
-use Rattle.nonces.specs.Nonces.{outstanding, isOutstanding, spent, issued, fits, KeptAs, IssuedAs, SpentAs}
-use Rattle.nonces.proofs.Laws.{spent-fewer}
+use Rattle.nonces.specs.Nonces.{outstanding, isOutstanding, spent, issued, fits, renewed, KeptAs, IssuedAs, SpentAs}
+use Rattle.nonces.proofs.Laws.{spent-fewer, fits-after-spent}
 
 module _ (s : Nonces) (long : length (s .list) ≡ 256) (n : ℕ) (counted : n ≡ length (outstanding s)) where
   pub count-le : n ≤ 256
@@ -52,17 +52,23 @@ module _ (s : Nonces) (long : length (s .list) ≡ 256) (n : ℕ) (counted : n �
       same-store = rw unchanged
 
     -- each law takes the answer's flag, and what its test says of the numbers
-    pub spent-some : {found : Bool} → found ≡ true → kept < n → SpentAs s nonce (record { nonces = record { list = l; used = kept }; found = found })
-    unfolding outstanding
-    spent-some f h = record { found = f ∙ sym (lt-ltb kept n h) ∙ fewer; view = front; same = λ e. cc }
+    module _ (goesOn : Bool) (next : ℕ) where
+      later : isOutstanding nonce (outstanding s) ≡ true → fits next (spent nonce (outstanding s)) ≡ true
+      later = fits-after-spent nonce (outstanding s) next (omega (arith, count-le, counted))
 
-    pub spent-none : {found : Bool} → found ≡ false → n ≤ kept → SpentAs s nonce (record { nonces = record { list = l; used = s .used }; found = found })
-    spent-none f h =
-        record {
-          found = f ∙ sym (le-ltb kept n h) ∙ fewer;
-          view = rw (same-store h) (sym (none-gone h));
-          same = λ _. same-store h;
-        }
+      pub spent-some : {found : Bool} → found ≡ true → kept < n → goesOn ≡ false
+          → SpentAs s nonce goesOn next (record { nonces = record { list = l; used = kept }; found = found })
+      unfolding outstanding renewed
+      spent-some f h over =
+          let has : isOutstanding nonce (outstanding s) ≡ true = sym fewer ∙ lt-ltb kept n h in
+          record { found = f ∙ sym has; view = rw (has, over) front; room = λ _. later has; same = λ e. cc }
+
+      pub spent-none : {found : Bool} → found ≡ false → n ≤ kept
+          → SpentAs s nonce goesOn next (record { nonces = record { list = l; used = s .used }; found = found })
+      unfolding renewed
+      spent-none f h =
+          let none : isOutstanding nonce (outstanding s) ≡ false = sym fewer ∙ le-ltb kept n h in
+          record { found = f ∙ sym none; view = rw (same-store h, none); room = λ e. cc; same = λ _. same-store h }
 
     room : ltb kept 256 ≡ fits nonce (outstanding s)
     unfolding fits
@@ -86,3 +92,32 @@ module _ (s : Nonces) (long : length (s .list) ≡ 256) (n : ℕ) (counted : n �
           view = rw (same-store all, ← room, le-ltb kept 256 h);
           same = λ _. same-store all;
         }
+
+-- what is left of a store is a store, to which the next nonce goes
+module _ (s : Nonces) (long : length (s .list) ≡ 256) (n : ℕ) (counted : n ≡ length (outstanding s)) (nonce kept : ℕ) (l : List ℕ) (k : KeptAs (s .list) n nonce kept l)
+    (some : kept < n) where
+  abbrev left : Nonces
+  left = record { list = l; used = kept }
+
+  left-long : length l ≡ 256
+  left-long = k .long ∙ long
+
+  left-is : outstanding left ≡ spent nonce (outstanding s)
+  unfolding outstanding
+  left-is = front s long n counted nonce kept l k
+
+  left-counted : kept ≡ length (outstanding left)
+  left-counted = many s long n counted nonce kept l k ∙ rw left-is
+
+  module _ (next last : ℕ) (l2 : List ℕ) (k2 : KeptAs l kept next last l2) where
+    pub last-within : last < 256
+    last-within = omega (arith, k2 .fewer, count-le s long n counted)
+
+    pub spent-next : {found : Bool} → found ≡ true → (goesOn : Bool) → goesOn ≡ true
+        → SpentAs s nonce goesOn next (record { nonces = record { list = set l2 last next; used = last + 1 }; found = found })
+    unfolding renewed
+    spent-next f goesOn on =
+        let has : isOutstanding nonce (outstanding s) ≡ true = sym (fewer s long n counted nonce kept l k) ∙ lt-ltb kept n some in
+        let room = later s long n counted nonce kept l k goesOn next has in
+        let i = issued-some left left-long kept left-counted next last l2 k2 {ok = true} refl last-within in
+        record { found = f ∙ sym has; view = rw (has, on) (i .view ∙ rw (left-is, room)); room = λ _. room; same = λ e. cc }

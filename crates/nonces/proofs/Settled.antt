@@ -1,4 +1,5 @@
 -- Two answers that a contract allows are equal, by name for each public function: stores up to what their array holds past the count.
+use mathlib.Core.Bool.{Bool}
 use mathlib.Core.List.{[]}
 use mathlib.Core.Path.{_≡_, sym, _∙_}
 use Prim.Native.Nat.{ℕ}
@@ -20,5 +21,6 @@ module _ (n : Nonces) where
     pub issue-settled : (r s : Issued) → IssuedAs n nonce r → IssuedAs n nonce s → (r .ok ≡ s .ok) × (outstanding (r .nonces) ≡ outstanding (s .nonces))
     issue-settled r s a b = (a .ok ∙ sym (b .ok), a .view ∙ sym (b .view))
 
-    pub spend-settled : (r s : Spent) → SpentAs n nonce r → SpentAs n nonce s → (r .found ≡ s .found) × (outstanding (r .nonces) ≡ outstanding (s .nonces))
-    spend-settled r s a b = (a .found ∙ sym (b .found), a .view ∙ sym (b .view))
+    pub spend-settled : (goesOn : Bool) (next : ℕ) (r s : Spent) → SpentAs n nonce goesOn next r → SpentAs n nonce goesOn next s
+        → (r .found ≡ s .found) × (outstanding (r .nonces) ≡ outstanding (s .nonces))
+    spend-settled goesOn next r s a b = (a .found ∙ sym (b .found), a .view ∙ sym (b .view))

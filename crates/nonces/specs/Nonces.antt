@@ -43,9 +43,14 @@ pub record IssuedAs (s : Nonces) (nonce : ℕ) (r : Issued) : Type 0 where
   pub view : outstanding (r .nonces) ≡ pick (fits nonce (outstanding s)) (issued nonce (outstanding s)) (outstanding s)
   pub same : r .ok ≡ false → r .nonces ≡ s
 
-pub record SpentAs (s : Nonces) (nonce : ℕ) (r : Spent) : Type 0 where
+-- a nonce that is outstanding is spent, and where the handshake goes on the next one issued, for which there is room then
+unfoldable pub renewed : (nonce : ℕ) → (goesOn : Bool) → (next : ℕ) → List ℕ → List ℕ
+renewed nonce goesOn next l = pick (isOutstanding nonce l) (pick goesOn (issued next (spent nonce l)) (spent nonce l)) l
+
+pub record SpentAs (s : Nonces) (nonce : ℕ) (goesOn : Bool) (next : ℕ) (r : Spent) : Type 0 where
   pub found : r .found ≡ isOutstanding nonce (outstanding s)
-  pub view : outstanding (r .nonces) ≡ spent nonce (outstanding s)
+  pub view : outstanding (r .nonces) ≡ renewed nonce goesOn next (outstanding s)
+  pub room : r .found ≡ true → fits next (spent nonce (outstanding s)) ≡ true
   pub same : r .found ≡ false → r .nonces ≡ s
 
 -- worked: issued again, a nonce moves to the end and counts once, from the front or from between others
@@ -69,6 +74,19 @@ spent-second = refl
 spent-absent : spent 9 (4 ∷ 7 ∷ []) ≡ 4 ∷ 7 ∷ []
 unfolding without kept
 spent-absent = refl
+
+-- worked: with the next one issued in its place; one that is not outstanding brings none
+renewed-example : renewed 4 true 9 (4 ∷ 7 ∷ []) ≡ 7 ∷ 9 ∷ []
+unfolding renewed issued has without kept
+renewed-example = refl
+
+renewed-last : renewed 4 false 9 (4 ∷ 7 ∷ []) ≡ 7 ∷ []
+unfolding renewed issued has without kept
+renewed-last = refl
+
+renewed-absent : renewed 5 true 9 (4 ∷ 7 ∷ []) ≡ 4 ∷ 7 ∷ []
+unfolding renewed issued has without kept
+renewed-absent = refl
 
 second-counts : isOutstanding 7 (4 ∷ 7 ∷ []) ≡ true
 unfolding has

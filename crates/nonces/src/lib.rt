@@ -71,15 +71,21 @@ impl Nonces {
         Issued { nonces: self, ok }
     }
 
-    // The nonce is found where it is outstanding, and is so no longer: fewer are left.
-    pub fn spend(mut self, nonce: u32) -> Spent
-        ensures { λ r. ⌜ SpentAs self nonce r ⌝ }
+    // The nonce is found where it is outstanding, and is so no longer: fewer are left, so that the next one, where the handshake goes on, has its room.
+    // One function for both: the store would be copied again for the second.
+    pub fn spend(mut self, nonce: u32, goes_on: bool, next: u32) -> Spent
+        ensures { λ r. ⌜ SpentAs self nonce «goes_on» next r ⌝ }
     {
         let n = self.count();
         let kept = keep_others(&mut self.list, n, nonce);
         let found = kept < n;
         if found {
             self.used = kept;
+            if goes_on {
+                let last = keep_others(&mut self.list, kept, next);
+                self.list[last] = next;
+                self.used = last + 1;
+            }
         }
         Spent {
             nonces: self,

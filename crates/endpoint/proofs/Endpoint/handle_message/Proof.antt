@@ -72,6 +72,9 @@ returns-2 c =
 enum-told : tie.Need-enum-told
 enum-told c = search needs
 
+less-requires : tie.Need-less-requires
+less-requires c κs = search needs
+
 spend-requires : tie.Need-spend-requires
 spend-requires c κs = search needs
 
@@ -83,21 +86,17 @@ is-crowded-requires-2 c κs = search needs
 
 returns-3 : tie.Need-returns-3
 returns-3 c =
-    let k = c .before .before .before .before .before .before .before .before .before .before .before in
+    let k = c .before .before .before .before .before .before .before .before .before .before .before .before in
     let h = k .before .before .before .before in
     let a = h .before .before .before .before .before .before .args in
+    let l = c .before .before .before .before .before .less in
+    let y = c .before .before .before .before .spend in
     entered (a .self) (a .reading) (read-in h) _ (a .out .now) _ _ (reply-untold (a .self) (a .from) (a .message) (a .payload .now) (a .now) (a .epoch) (a .nonce) (a .out .now) (good h) (heeded h)
-    _ (c .before .before .before .before .before .before .before .before .body .given .1) (c .before .before .before .before .before .enum-told .given .1) (c .before .before .before .before .spend .result) (c .before .before .before .before .spend .ensures) (c .before .before .before .if2 .taken)
+    _ (c .before .before .before .before .before .before .before .before .before .body .given .1) (c .before .before .before .before .before .before .enum-told .given .1) (l .result) (l .ensures) (y .result) (y .ensures) (c .before .before .before .if2 .taken)
     (c .before .before .count2 .result) (c .before .before .count2 .ensures) (c .before .is-crowded2 .result) (c .before .is-crowded2 .ensures) (c .if3 .taken))
 
 heard-requires : tie.Need-heard-requires
 heard-requires c κs = search needs
-
-less-requires : tie.Need-less-requires
-less-requires c κs = search needs
-
-issue-requires : tie.Need-issue-requires
-issue-requires c κs = search needs
 
 request-requires : tie.Need-request-requires
 request-requires c κs = search needs
@@ -107,14 +106,15 @@ same-length c = search needs
 
 returns-4 : tie.Need-returns-4
 returns-4 c =
-    let k = c .before .before .before .before .before .before .before .before .before .before .before .before .before .before .before .before .before .before .before .before .before in
+    let k = c .before .before .before .before .before .before .before .before .before .before .before .before .before .before .before .before .before .before .before .before in
     let h = k .before .before .before .before in
     let a = h .before .before .before .before .before .before .args in
+    let l = c .before .before .before .before .before .before .before .before .before .before .before .before .before .less in
+    let y = c .before .before .before .before .before .before .before .before .before .before .before .before .spend in
     entered (a .self) (a .reading) (read-in h) _ (a .out .now) _ _ (reply-choked (a .self) (a .from) (a .message) (a .payload .now) (a .now) (a .epoch) (a .nonce) (a .out .now) (good h) (heeded h)
-    _ (c .before .before .before .before .before .before .before .before .before .before .before .before .before .before .before .before .before .before .body .given .1) (c .before .before .before .before .before .before .before .before .before .before .before .before .before .before .before .enum-told .given .1) (c .before .before .before .before .before .before .before .before .before .before .before .before .before .before .spend .result) (c .before .before .before .before .before .before .before .before .before .before .before .before .before .before .spend .ensures) (c .before .before .before .before .before .before .before .before .before .before .before .before .before .if2 .taken)
-    (c .before .before .before .before .before .before .before .before .before .before .before .before .count2 .result) (c .before .before .before .before .before .before .before .before .before .before .before .before .count2 .ensures) (c .before .before .before .before .before .before .before .before .before .before .before .is-crowded2 .result) (c .before .before .before .before .before .before .before .before .before .before .before .is-crowded2 .ensures) (c .before .before .before .before .before .before .before .before .before .before .if3 .left)
-    (c .before .before .before .before .before .before .before .before .before .heard .result) (c .before .before .before .before .before .before .before .before .before .heard .ensures) (c .before .before .before .before .before .before .before .before .less .result) (c .before .before .before .before .before .before .before .before .less .ensures) (c .before .before .before .before .before .before .before .if4 .taken)
-    (c .before .before .before .before .before .before .issue .result) (c .before .before .before .before .before .before .issue .ensures) (c .before .before .before .before .request .result) (c .before .before .before .before .request .last .1 .1 .1 .1 .1 .0) (c .before .before .before .before .request .ensures) (not-true _ (c .if5 .taken)))
+    _ (c .before .before .before .before .before .before .before .before .before .before .before .before .before .before .before .before .before .body .given .1) (c .before .before .before .before .before .before .before .before .before .before .before .before .before .before .enum-told .given .1) (l .result) (l .ensures) (y .result) (y .ensures) (c .before .before .before .before .before .before .before .before .before .before .before .if2 .taken)
+    (c .before .before .before .before .before .before .before .before .before .before .count2 .result) (c .before .before .before .before .before .before .before .before .before .before .count2 .ensures) (c .before .before .before .before .before .before .before .before .before .is-crowded2 .result) (c .before .before .before .before .before .before .before .before .before .is-crowded2 .ensures) (c .before .before .before .before .before .before .before .before .if3 .left)
+    (c .before .before .before .before .before .before .before .heard .result) (c .before .before .before .before .before .before .before .heard .ensures) (c .before .before .before .before .before .before .if4 .taken) (c .before .before .before .before .request .result) (c .before .before .before .before .request .last .1 .1 .1 .1 .1 .0) (c .before .before .before .before .request .ensures) (not-true _ (c .if5 .taken)))
 
 progress-requires : tie.Need-progress-requires
 progress-requires c κs = search needs
@@ -127,14 +127,15 @@ same-length-2 c = search needs
 
 returns-5 : tie.Need-returns-5
 returns-5 c =
-    let k = c .before .before .before .before .before .before .before .before .before .before .before .before .before .before .before .before .before .before .before .before .before .before .before .before .before .before .before in
+    let k = c .before .before .before .before .before .before .before .before .before .before .before .before .before .before .before .before .before .before .before .before .before .before .before .before .before .before in
     let h = k .before .before .before .before in
     let a = h .before .before .before .before .before .before .args in
+    let l = c .before .before .before .before .before .before .before .before .before .before .before .before .before .before .before .before .before .before .before .less in
+    let y = c .before .before .before .before .before .before .before .before .before .before .before .before .before .before .before .before .before .before .spend in
     entered (a .self) (a .reading) (read-in h) _ (a .out .now) _ _ (reply-goes-on (a .self) (a .from) (a .message) (a .payload .now) (a .now) (a .epoch) (a .nonce) (a .out .now) (good h) (heeded h)
-    _ (c .before .before .before .before .before .before .before .before .before .before .before .before .before .before .before .before .before .before .before .before .before .before .before .before .body .given .1) (c .before .before .before .before .before .before .before .before .before .before .before .before .before .before .before .before .before .before .before .before .before .enum-told .given .1) (c .before .before .before .before .before .before .before .before .before .before .before .before .before .before .before .before .before .before .before .before .spend .result) (c .before .before .before .before .before .before .before .before .before .before .before .before .before .before .before .before .before .before .before .before .spend .ensures) (c .before .before .before .before .before .before .before .before .before .before .before .before .before .before .before .before .before .before .before .if2 .taken)
-    (c .before .before .before .before .before .before .before .before .before .before .before .before .before .before .before .before .before .before .count2 .result) (c .before .before .before .before .before .before .before .before .before .before .before .before .before .before .before .before .before .before .count2 .ensures) (c .before .before .before .before .before .before .before .before .before .before .before .before .before .before .before .before .before .is-crowded2 .result) (c .before .before .before .before .before .before .before .before .before .before .before .before .before .before .before .before .before .is-crowded2 .ensures) (c .before .before .before .before .before .before .before .before .before .before .before .before .before .before .before .before .if3 .left)
-    (c .before .before .before .before .before .before .before .before .before .before .before .before .before .before .before .heard .result) (c .before .before .before .before .before .before .before .before .before .before .before .before .before .before .before .heard .ensures) (c .before .before .before .before .before .before .before .before .before .before .before .before .before .before .less .result) (c .before .before .before .before .before .before .before .before .before .before .before .before .before .before .less .ensures) (c .before .before .before .before .before .before .before .before .before .before .before .before .before .if4 .taken)
-    (c .before .before .before .before .before .before .before .before .before .before .before .before .issue .result) (c .before .before .before .before .before .before .before .before .before .before .before .before .issue .ensures) (c .before .before .before .before .before .before .before .before .before .before .request .result) (c .before .before .before .before .before .before .before .before .before .before .request .last .1 .1 .1 .1 .1 .0) (c .before .before .before .before .before .before .before .before .before .before .request .ensures)
+    _ (c .before .before .before .before .before .before .before .before .before .before .before .before .before .before .before .before .before .before .before .before .before .before .before .body .given .1) (c .before .before .before .before .before .before .before .before .before .before .before .before .before .before .before .before .before .before .before .before .enum-told .given .1) (l .result) (l .ensures) (y .result) (y .ensures) (c .before .before .before .before .before .before .before .before .before .before .before .before .before .before .before .before .before .if2 .taken)
+    (c .before .before .before .before .before .before .before .before .before .before .before .before .before .before .before .before .count2 .result) (c .before .before .before .before .before .before .before .before .before .before .before .before .before .before .before .before .count2 .ensures) (c .before .before .before .before .before .before .before .before .before .before .before .before .before .before .before .is-crowded2 .result) (c .before .before .before .before .before .before .before .before .before .before .before .before .before .before .before .is-crowded2 .ensures) (c .before .before .before .before .before .before .before .before .before .before .before .before .before .before .if3 .left)
+    (c .before .before .before .before .before .before .before .before .before .before .before .before .before .heard .result) (c .before .before .before .before .before .before .before .before .before .before .before .before .before .heard .ensures) (c .before .before .before .before .before .before .before .before .before .before .before .before .if4 .taken) (c .before .before .before .before .before .before .before .before .before .before .request .result) (c .before .before .before .before .before .before .before .before .before .before .request .last .1 .1 .1 .1 .1 .0) (c .before .before .before .before .before .before .before .before .before .before .request .ensures)
     (c .before .before .before .before .before .progress .result) (c .before .before .before .before .before .progress .ensures) (c .before .before .before .before .push .result) (c .before .before .before .before .push .ensures) (not-false _ (c .before .before .before .before .before .before .if5 .left)))
 
 completion-requires : tie.Need-completion-requires
@@ -148,17 +149,19 @@ returns-6 c =
     let k = c .before .before .before .before .before .before .before .before .before .before .before .before .before .before .before .before .before .before in
     let h = k .before .before .before .before in
     let a = h .before .before .before .before .before .before .args in
+    let l = c .before .before .before .before .before .before .before .before .before .before .before .less in
+    let y = c .before .before .before .before .before .before .before .before .before .before .spend in
     entered (a .self) (a .reading) (read-in h) _ (a .out .now) _ _ (reply-over (a .self) (a .from) (a .message) (a .payload .now) (a .now) (a .epoch) (a .nonce) (a .out .now) (good h) (heeded h)
-    _ (c .before .before .before .before .before .before .before .before .before .before .before .before .before .before .before .body .given .1) (c .before .before .before .before .before .before .before .before .before .before .before .before .enum-told .given .1) (c .before .before .before .before .before .before .before .before .before .before .before .spend .result) (c .before .before .before .before .before .before .before .before .before .before .before .spend .ensures) (c .before .before .before .before .before .before .before .before .before .before .if2 .taken)
-    (c .before .before .before .before .before .before .before .before .before .count2 .result) (c .before .before .before .before .before .before .before .before .before .count2 .ensures) (c .before .before .before .before .before .before .before .before .is-crowded2 .result) (c .before .before .before .before .before .before .before .before .is-crowded2 .ensures) (c .before .before .before .before .before .before .before .if3 .left)
-    (c .before .before .before .before .before .before .heard .result) (c .before .before .before .before .before .before .heard .ensures) (c .before .before .before .before .before .less .result) (c .before .before .before .before .before .less .ensures) (c .before .before .before .before .if4 .left)
+    _ (c .before .before .before .before .before .before .before .before .before .before .before .before .before .before .before .body .given .1) (c .before .before .before .before .before .before .before .before .before .before .before .before .enum-told .given .1) (l .result) (l .ensures) (y .result) (y .ensures) (c .before .before .before .before .before .before .before .before .before .if2 .taken)
+    (c .before .before .before .before .before .before .before .before .count2 .result) (c .before .before .before .before .before .before .before .before .count2 .ensures) (c .before .before .before .before .before .before .before .is-crowded2 .result) (c .before .before .before .before .before .before .before .is-crowded2 .ensures) (c .before .before .before .before .before .before .if3 .left)
+    (c .before .before .before .before .before .heard .result) (c .before .before .before .before .before .heard .ensures) (c .before .before .before .before .if4 .left)
     (c .before .before .before .completion .result) (c .before .before .before .completion .ensures) (c .before .before .push2 .result) (c .before .before .push2 .ensures))
 
 -- outside the handshake, or with a nonce that is not outstanding
 uncounted : (c : tie.At-match3-came) → isSynchronizing (c .before .before .before .before .before .before .before .before .before .before .before .before .before .before .before .args .self .sync .phase) && isOutstanding (c .before .before .body .given .0 .0) (outstanding (c .before .before .before .before .before .before .before .before .before .before .before .before .before .before .before .args .self .nonces)) ≡ false
 uncounted c =
     ⊎-elim
-    (λ w. rw (ap isSynchronizing (w .1 .given .1)) (sym (w .2 .ensures .found) ∙ w .3 .left))
+    (λ w. rw (ap isSynchronizing (w .1 .given .1)) (sym (w .3 .ensures .found) ∙ w .4 .left))
     (λ w. rw (not-synchronizing (c .before .before .before .before .before .before .before .before .before .before .before .before .before .before .before .args .self .sync .phase) (w .keys2)))
     (c .match3 .came)
 
@@ -613,13 +616,12 @@ handle-message-spec =
     enum-known-body
     returns-2
     enum-told
+    less-requires
     spend-requires
     count-requires-2
     is-crowded-requires-2
     returns-3
     heard-requires
-    less-requires
-    issue-requires
     request-requires
     same-length
     returns-4
