@@ -4,14 +4,13 @@ ghost use mathlib.Core.Bool.{not, _&&_, _||_};
 ghost use Prim.Native.Nat.{suc, _+_, _-_, _*_, _^_, _<_, _≤_, min};
 ghost use lib.Dec.{ltb, eqb};
 ghost use Rattle.base.specs.Pick.{pick};
-ghost use Rattle.frame.specs.Bias.{bias32, nullFrame};
+ghost use Rattle.frame.specs.Bias.{bias32};
 ghost use Rattle.timers.specs.Timers.{inputAt};
 ghost use Rattle.packing.specs.Packing.{frameCount, decodableLength};
 ghost use Rattle.setup.specs.Setup.{termsOf, receivingWidth};
 ghost use Rattle.endpoint.specs.News.{NewsAs};
 ghost use Rattle.endpoint.specs.Opened.{OpenedAs};
 use frame::BIAS32;
-use frame::NULL_FRAME;
 use history::History;
 use packing::InputBytes;
 use setup::Setup;
@@ -55,16 +54,6 @@ fn is_too_long(setup: Setup, length: usize) -> bool
     MOST_FRAMES * setup.receiving_width() < length
 }
 
-// While nothing is received, the blank frame; else the one before the packet.
-fn reference_frame(newest: u32, start_frame: u32) -> u32
-    ensures { λ r. ⌜ r ≡ pick (eqb newest nullFrame) nullFrame («start_frame» - 1) ⌝ }
-{
-    if newest == NULL_FRAME {
-        return NULL_FRAME;
-    }
-    if start_frame == 0 { 0 } else { start_frame - 1 }
-}
-
 // Whether inputs can be read: their reference is held, and they are whole frames.
 fn is_readable(held: bool, length: usize, width: usize) -> bool
     ensures { λ r. ⌜ r ≡ (held && decodableLength width length) ⌝ }
@@ -93,16 +82,15 @@ pub(crate) fn open(
     ensures { λ r. ⌜ OpenedAs history setup «disconnect_requested» «start_frame» count length r ⌝ }
 {
     let width = setup.receiving_width();
-    let newest = history.newest();
-    let found = history.find(reference_frame(newest, start_frame));
-    let input = found.input;
+    let looked = history.look(start_frame);
+    let input = looked.input;
     Opened {
         input,
-        held: found.held,
-        newest,
+        held: looked.held,
+        newest: looked.newest,
         discarded: is_discarded(disconnect_requested, count, setup.num_players, start_frame),
         too_long: is_too_long(setup, length),
-        readable: is_readable(found.held, length, width),
+        readable: is_readable(looked.held, length, width),
         overflows: overflows(start_frame, packing::frame_count(length, width)),
     }
 }

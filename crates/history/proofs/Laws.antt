@@ -19,7 +19,7 @@ use Rattle.packing.specs.Pad.{padded}
 use Rattle.packing.specs.declared.input_bytes.InputBytes.{InputBytes}
 use Rattle.history.specs.declared.History.{History}
 use Rattle.history.specs.declared.Found.{Found}
-use Rattle.history.specs.History.{received, blank, highest, newestOf, foundIn, numbered, Ascending}
+use Rattle.history.specs.History.{received, blank, highest, newestOf, foundIn, lookedAt, numbered, Ascending}
 
 pub received-le : (h : History) → length (received h) ≤ length (h .slots)
 unfolding received
@@ -63,6 +63,11 @@ module _ (f : ℕ) (l : List InputBytes) (k : ℕ) where
   pub found-end : length l ≤ k → foundIn f (drop k l) ≡ record { held = false; input = blank }
   unfolding foundIn
   found-end h = rw (drop-of-length-le l h)
+
+pub looked-none : (start : ℕ) (l : List InputBytes) → length l ≡ 0 → lookedAt start l ≡ record { input = blank; held = false; newest = nullFrame }
+unfolding lookedAt foundIn newestOf
+looked-none start [] h = refl
+looked-none start (x ∷ l) h = absurd (omega arith)
 
 -- what is found has the frame
 pub found-frame : (f : ℕ) (l : List InputBytes) → foundIn f l .held ≡ true → foundIn f l .input .frame ≡ f

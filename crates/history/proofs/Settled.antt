@@ -6,8 +6,8 @@ use lib.ListN.{take}
 use Rattle.base.proofs.Settled.{settled}
 use Rattle.packing.specs.declared.input_bytes.InputBytes.{InputBytes}
 use Rattle.history.specs.declared.History.{History}
-use Rattle.history.specs.declared.Found.{Found}
-use Rattle.history.specs.History.{received, blank, newestOf, foundIn, packetOf, takenAbove}
+use Rattle.history.specs.declared.Looked.{Looked}
+use Rattle.history.specs.History.{received, blank, newestOf, lookedAt, packetOf, takenAbove}
 
 pub new-settled : (r s : History) → received r ≡ blank ∷ [] → received s ≡ blank ∷ [] → received r ≡ received s
 new-settled = settled received (blank ∷ [])
@@ -16,8 +16,8 @@ module _ (h : History) where
   pub newest-settled : (r s : ℕ) → r ≡ newestOf (received h) → s ≡ newestOf (received h) → r ≡ s
   newest-settled = settled (λ r. r) (newestOf (received h))
 
-  pub find-settled : (frame : ℕ) (r s : Found) → r ≡ foundIn frame (received h) → s ≡ foundIn frame (received h) → r ≡ s
-  find-settled frame = settled (λ r. r) (foundIn frame (received h))
+  pub look-settled : (start : ℕ) (r s : Looked) → r ≡ lookedAt start (received h) → s ≡ lookedAt start (received h) → r ≡ s
+  look-settled start = settled (λ r. r) (lookedAt start (received h))
 
   pub take-in-settled : (payload : List ℕ) (start width : ℕ) (reference : InputBytes) (newest maxPrediction : ℕ) (r s : History)
       → received r ≡ take 33 (takenAbove newest maxPrediction (received h) (packetOf start width (reference .bytes) payload))

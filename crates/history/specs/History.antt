@@ -13,6 +13,7 @@ use Rattle.packing.specs.Pad.{zeros, padded}
 use Rattle.packing.specs.declared.input_bytes.InputBytes.{InputBytes}
 use Rattle.history.specs.declared.History.{History}
 use Rattle.history.specs.declared.Found.{Found}
+use Rattle.history.specs.declared.Looked.{Looked}
 
 -- the inputs held; a count beyond the array is the array's length
 unfoldable pub received : History → List InputBytes
@@ -35,6 +36,14 @@ newestOf (x ∷ xs) = highest (x ∷ xs)
 unfoldable pub foundIn : ℕ → List InputBytes → Found
 foundIn f [] = record { held = false; input = blank }
 foundIn f (x ∷ xs) = pick (eqb (x .frame) f) (record { held = true; input = x }) (foundIn f xs)
+
+-- what is found, beside the newest frame
+abbrev pub beside : ℕ → Found → Looked
+beside newest found = record { input = found .input; held = found .held; newest = newest }
+
+-- the newest frame, and the reference of a packet from a frame on: while nothing is received the blank one, else the one before it
+unfoldable pub lookedAt : ℕ → List InputBytes → Looked
+lookedAt start l = beside (newestOf l) (foundIn (pick (eqb (newestOf l) nullFrame) nullFrame (start - 1)) l)
 
 -- at or above the keep line: frame >= newest - 2 max_prediction
 abbrev pub stays : ℕ → ℕ → ℕ → Bool
@@ -96,3 +105,12 @@ leaves-above = refl
 again : takenIn 1 (input 10 ∷ input 11 ∷ []) (input 10 ∷ input 11 ∷ []) ≡ input 10 ∷ input 11 ∷ []
 unfolding takenIn atLine above kept newestOf highest input
 again = refl
+
+-- worked: a packet from frame 12 on after 10 and 11 is packed against 11, a first one against the blank frame
+looks : lookedAt 12 (input 10 ∷ input 11 ∷ []) ≡ record { input = input 11; held = true; newest = 11 }
+unfolding lookedAt foundIn newestOf highest input
+looks = refl
+
+looks-first : lookedAt 12 (blank ∷ []) ≡ record { input = blank; held = true; newest = nullFrame }
+unfolding lookedAt foundIn newestOf highest blank
+looks-first = refl

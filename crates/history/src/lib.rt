@@ -3,9 +3,12 @@ ghost use mathlib.Core.Path.{_≡_};
 ghost use mathlib.Core.List.{[], _∷_, _++_};
 ghost use Prim.Native.Nat.{_-_, _*_, _≤_, _^_, min};
 ghost use lib.ListN.{length, take};
+ghost use lib.Dec.{eqb};
+ghost use Rattle.base.specs.Pick.{pick};
 ghost use Rattle.base.specs.Keyed.{kept};
+ghost use Rattle.frame.specs.Bias.{nullFrame};
 ghost use Rattle.packing.specs.Packing.{frameCount, framesOf};
-ghost use Rattle.history.specs.History.{received, blank, newestOf, foundIn, newestAfter, stays, fresh, numbered, packetOf, takenAbove};
+ghost use Rattle.history.specs.History.{received, blank, newestOf, lookedAt, newestAfter, stays, fresh, numbered, packetOf, takenAbove};
 use frame::NULL_FRAME;
 use packing::InputBytes;
 
@@ -17,9 +20,27 @@ pub struct History {
     pub used: usize,
 }
 
+// What is found of a frame, as the definitions tell it.
 pub struct Found {
     pub held: bool,
     pub input: InputBytes,
+}
+
+// The newest frame, and the input that a packet is packed against.
+pub struct Looked {
+    pub input: InputBytes,
+    pub held: bool,
+    pub newest: u32,
+}
+
+// While nothing is received, the blank frame; else the one before the packet.
+fn reference_frame(newest: u32, start: u32) -> u32
+    ensures { λ r. ⌜ r ≡ pick (eqb newest nullFrame) nullFrame (start - 1) ⌝ }
+{
+    if newest == NULL_FRAME {
+        return NULL_FRAME;
+    }
+    if start == 0 { 0 } else { start - 1 }
 }
 
 // Whether a frame is at or above the keep line, newest - 2 max_prediction. Written as a sum: a difference could fall below the least frame.
@@ -109,28 +130,49 @@ impl History {
         newest
     }
 
-    // The input of a frame, if it is held.
-    pub fn find(self, frame: u32) -> Found
-        ensures { λ r. ⌜ r ≡ foundIn frame (received self) ⌝ }
+    // The newest frame, and the input that a packet from `start` on is packed against, if it is held: while nothing is received the blank one, else the
+    // one before it. Both searches stand in one function, since each function that searches the store copies it.
+    pub fn look(self, start: u32) -> Looked
+        ensures { λ r. ⌜ r ≡ lookedAt start (received self) ⌝ }
     {
+        let blank = InputBytes {
+            frame: NULL_FRAME,
+            bytes: [0u8; 64],
+        };
         let n = self.count();
+        if n == 0 {
+            return Looked {
+                input: blank,
+                held: false,
+                newest: NULL_FRAME,
+            };
+        }
+        let mut newest = 0;
         let mut k = 0;
         while k < n {
             let x = self.slots[k];
-            if x.frame == frame {
-                return Found {
-                    held: true,
-                    input: x,
-                };
+            if x.frame > newest {
+                newest = x.frame;
             }
             k += 1;
         }
-        Found {
+        let frame = reference_frame(newest, start);
+        let mut at = 0;
+        while at < n {
+            let x = self.slots[at];
+            if x.frame == frame {
+                return Looked {
+                    input: x,
+                    held: true,
+                    newest,
+                };
+            }
+            at += 1;
+        }
+        Looked {
+            input: blank,
             held: false,
-            input: InputBytes {
-                frame: NULL_FRAME,
-                bytes: [0u8; 64],
-            },
+            newest,
         }
     }
 

@@ -1,5 +1,5 @@
 use mathlib.Core.Path.{_≡_}
-use Rattle.history.specs.History.{received, foundIn}
+use Rattle.history.specs.History.{received, newestOf, foundIn, lookedAt}
 use Rattle.protocol.specs.Receiving.{referenceFrame}
 use borrow.Author.Needs.{needs}
 use Rattle.endpoint.proofs.packet.open.Statement.{statement}
@@ -8,14 +8,8 @@ use Rattle.endpoint.proofs.packet.open.Tie as tie
 receiving-width-requires : tie.Need-receiving-width-requires
 receiving-width-requires c κs = search needs
 
-newest-requires : tie.Need-newest-requires
-newest-requires c κs = search needs
-
-reference-frame-requires : tie.Need-reference-frame-requires
-reference-frame-requires c κs = search needs
-
-find-requires : tie.Need-find-requires
-find-requires c κs = search needs
+look-requires : tie.Need-look-requires
+look-requires c κs = search needs
 
 is-discarded-requires : tie.Need-is-discarded-requires
 is-discarded-requires c κs = search needs
@@ -32,17 +26,21 @@ frame-count-requires c κs = search needs
 overflows-requires : tie.Need-overflows-requires
 overflows-requires c κs = search needs
 
-found : (c : tie.After-find) → c .find .result
-    ≡ foundIn (referenceFrame (c .before .before .before .before .args .start-frame) (received (c .before .before .before .before .args .history))) (received (c .before .before .before .before .args .history))
-unfolding referenceFrame
-found c = rw (← c .before .before .newest .ensures, ← c .before .reference-frame .ensures) (c .find .ensures)
+found : (c : tie.After-look) → record { held = c .look .result .held; input = c .look .result .input }
+    ≡ foundIn (referenceFrame (c .before .before .args .start-frame) (received (c .before .before .args .history))) (received (c .before .before .args .history))
+unfolding referenceFrame lookedAt
+found c = rw (c .look .ensures)
+
+newest : (c : tie.After-look) → c .look .result .newest ≡ newestOf (received (c .before .before .args .history))
+unfolding lookedAt
+newest c = rw (c .look .ensures)
 
 returns : tie.Need-returns
 returns c =
-    let wide = c .before .before .before .before .before .before .before .before .before .receiving-width .ensures in
+    let wide = c .before .before .before .before .before .before .before .receiving-width .ensures in
     record {
       found = found (c .before .before .before .before .before .before);
-      newest = c .before .before .before .before .before .before .before .before .newest .ensures;
+      newest = newest (c .before .before .before .before .before .before);
       discarded = c .before .before .before .before .is-discarded .ensures;
       long = c .before .before .before .is-too-long .ensures;
       readable = rw wide at (c .before .before .is-readable .ensures);
@@ -54,9 +52,7 @@ open-spec =
     tie.close
     (tie.spec
     receiving-width-requires
-    newest-requires
-    reference-frame-requires
-    find-requires
+    look-requires
     is-discarded-requires
     is-too-long-requires
     is-readable-requires

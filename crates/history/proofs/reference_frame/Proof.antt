@@ -2,8 +2,8 @@ use native.Mathlib.Omega.{arith}
 use Rattle.frame.specs.Bias.{nullFrame}
 use borrow.Author.Needs.{needs}
 use borrow.Author.Tests.{eq-eqb, ne-eqb}
-use Rattle.endpoint.proofs.packet.reference_frame.Statement.{statement}
-use Rattle.endpoint.proofs.packet.reference_frame.Tie as tie
+use Rattle.history.proofs.reference_frame.Statement.{statement}
+use Rattle.history.proofs.reference_frame.Tie as tie
 
 returns : tie.Need-returns
 returns c = rw (eq-eqb (c .before .args .newest) nullFrame (c .if1 .taken))
