@@ -7,7 +7,6 @@ use Prim.Native.Nat.{ℕ}
 use Rattle.base.proofs.Bools.{neither}
 use Rattle.answer.specs.Number.{numberOf}
 use Rattle.answer.specs.declared.Answer.{Answer}
-use Rattle.answer.specs.declared.Answer.the-variants.{Done}
 use Rattle.codec.specs.declared.Message.{Message}
 use Rattle.timers.specs.Timers.{badClock}
 use Rattle.protocol.specs.Did.{Did, decided}
@@ -43,10 +42,6 @@ pub entered : (e : Endpoint) (r : Answer) → numberOf r ≡ 0 → (d : Did) (b 
     → DidAs e d b x b′ → DidAs e (decided (numberOf r) (seen e) d) b x b′
 unfolding decided
 entered e r h d b x b′ q = rw h q
-
-pub read-alike : (e : Endpoint) (d : Did) (b : List ℕ) (x : Ended) (b′ : List ℕ) → DidAs e (decided (numberOf Done) (seen e) d) b x b′ → DidAs e d b x b′
-unfolding decided
-read-alike e d b x b′ q = q
 
 -- a shut one: the reader's refusal, the clock's, or a message that nobody hears
 module _ (e : Endpoint) (r : Answer) (from : ℕ) (m : Message) (p : List ℕ) (now epoch nonce : ℕ) (buffer : List ℕ) where

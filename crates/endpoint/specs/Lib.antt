@@ -12,5 +12,6 @@ pub mod Opened
 pub mod Reacted
 pub mod Frames
 pub mod Filter
+pub mod Arrived
 pub mod Due
 pub mod Batch

@@ -1,15 +1,15 @@
 // What arrives: a message as a value, or as the bytes of a datagram.
 ghost use lib.ListN.{length};
-ghost use Rattle.answer.specs.Number.{numberOf};
 ghost use Rattle.codec.specs.Message.{meant};
-ghost use Rattle.protocol.specs.Did.{decided};
 ghost use Rattle.protocol.specs.Call.{Call};
 ghost use Rattle.protocol.specs.Step.{step};
+ghost use Rattle.endpoint.specs.Arrived.{callOf};
 ghost use Rattle.endpoint.specs.Endpoint.{seen, DidAs};
 use crate::Ended;
 use crate::Endpoint;
 use crate::Sync;
 use crate::admitting;
+use crate::arriving;
 use crate::batch;
 use crate::handshake;
 use crate::hearing;
@@ -24,23 +24,27 @@ use codec::SIZES;
 use protocol::Phase;
 
 impl Endpoint {
-    // A message, with what its reader answered: a reader's refusal is the call's. By the number of its kind; each arm's `else`, and a number above 7,
+    // What arrives is read first, and a reader's refusal is the call's. A message goes by the number of its kind; each arm's `else`, and a number above 7,
     // cannot be reached, since a kind's number tells its body. All of it stands in this one function, since an endpoint that is passed on to another is
     // copied: what is decided stands in functions over the plain parts, and what changes a store is that store's. A refusal comes before the first
     // change.
     fn handle_message(
         mut self,
-        reading: Answer,
+        is_datagram: bool,
         from: u32,
-        message: Message,
-        payload: &[u8],
+        given: Message,
+        bytes: &[u8],
         now: u64,
         epoch: u64,
         nonce: u32,
         out: &mut [u8],
     ) -> Ended
-        ensures { λ r. ⌜ DidAs self (decided (numberOf reading) (seen self) (step (Call.message from (message .reports .count) (meant message (payload .entry .now)) now epoch nonce (length (out .entry .now))) (seen self))) (out .entry .now) r (out .exit .now) ⌝ }
+        ensures { λ r. ⌜ DidAs self (step (callOf «is_datagram» from given (bytes .entry .now) now epoch nonce (length (out .entry .now))) (seen self)) (out .entry .now) r (out .exit .now) ⌝ }
     {
+        let received = arriving::read(is_datagram, given, bytes);
+        let reading = received.answer;
+        let message = received.message;
+        let payload = arriving::payload_of(is_datagram, bytes);
         let magic = message.magic;
         let sync = self.sync;
         let phase = sync.phase;
@@ -187,7 +191,7 @@ impl Endpoint {
                     // Inputs that can be read: those above the newest are announced, and the newest is acknowledged.
                     if opened.readable {
                         let input = opened.input;
-                        let bytes = input.bytes;
+                        let reference = input.bytes;
                         let width = self.setup.receiving_width();
                         let news = packet::news_of(
                             opened.newest,
@@ -214,7 +218,7 @@ impl Endpoint {
                                 payload,
                                 news.at,
                                 width,
-                                bytes,
+                                reference,
                                 list,
                                 handles.count,
                                 self.setup.input_size as usize,
@@ -401,10 +405,9 @@ impl Endpoint {
     ) -> Ended
         ensures { λ r. ⌜ DidAs self (step (Call.message from (message .reports .count) (meant message (payload .entry .now)) now epoch nonce (length (out .entry .now))) (seen self)) (out .entry .now) r (out .exit .now) ⌝ }
     {
-        self.handle_message(Answer::Done, from, message, payload, now, epoch, nonce, out)
+        self.handle_message(false, from, message, payload, now, epoch, nonce, out)
     }
 
-    // What could not be read goes the same way, since a second way out would copy the endpoint once more.
     pub fn datagram(
         self,
         from: u32,
@@ -416,10 +419,7 @@ impl Endpoint {
     ) -> Ended
         ensures { λ r. ⌜ DidAs self (step (Call.datagram from (datagram .entry .now) now epoch nonce (length (out .entry .now))) (seen self)) (out .entry .now) r (out .exit .now) ⌝ }
     {
-        let received = codec::read(datagram);
-        let reading = received.answer;
-        let message = received.message;
-        let payload = codec::payload_of(datagram);
-        self.handle_message(reading, from, message, payload, now, epoch, nonce, out)
+        let message = arriving::unread();
+        self.handle_message(true, from, message, datagram, now, epoch, nonce, out)
     }
 }

@@ -2,6 +2,7 @@
 // answer and the endpoint after it; on a refusal that is the very endpoint it was called on. What a call does is `step` of the crate `protocol`.
 mod acting;
 mod admitting;
+mod arriving;
 mod batch;
 mod closing;
 mod dispatch;

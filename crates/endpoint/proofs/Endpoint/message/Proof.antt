@@ -1,5 +1,5 @@
-use Rattle.endpoint.proofs.Doors.{read-alike}
 use borrow.Author.Needs.{needs}
+use Rattle.endpoint.specs.Arrived.{callOf}
 use Rattle.endpoint.proofs.Endpoint.message.Statement.{statement}
 use Rattle.endpoint.proofs.Endpoint.message.Tie as tie
 
@@ -10,9 +10,8 @@ same-length : tie.Need-same-length
 same-length c = search needs
 
 returns : tie.Need-returns
-returns c =
-    let a = c .before .before .before .before .before .before .args in
-    read-alike (a .self) _ (a .out .now) (c .before .before .handle-message .result) _ (c .before .before .handle-message .ensures)
+unfolding callOf
+returns c = c .before .before .handle-message .ensures
 
 pub message-spec : {M : Type 1} → statement M
 message-spec = tie.close (tie.spec handle-message-requires same-length returns)
