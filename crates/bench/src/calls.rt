@@ -26,7 +26,7 @@ fn waiting(end: Endpoint) -> u64 {
 }
 
 // The Input of one frame after the other, each packed against the one before.
-pub fn input(setup: Setup, payload: &[u8], count: u32) -> u64 {
+pub(crate) fn input(setup: Setup, payload: &[u8], count: u32) -> u64 {
     let mut out = [0u8; 64];
     let mut end = ends::ready(setup, OTHER);
     let mut sum = 0u64;
@@ -84,7 +84,7 @@ fn waited() -> Endpoint {
 }
 
 // A frame is sent while three wait; then it is forgotten and sent again.
-pub fn send_input(count: u32) -> u64 {
+pub(crate) fn send_input(count: u32) -> u64 {
     let mut out = [0u8; 64];
     let mut end = waited();
     let input = [3u8; 1];
@@ -109,7 +109,7 @@ pub fn send_input(count: u32) -> u64 {
 }
 
 // A frame is sent while three wait, then the oldest is acknowledged.
-pub fn input_ack(count: u32) -> u64 {
+pub(crate) fn input_ack(count: u32) -> u64 {
     let mut out = [0u8; 64];
     let mut end = waited();
     let statuses = Statuses::new(2);
@@ -141,7 +141,7 @@ pub fn input_ack(count: u32) -> u64 {
     sum
 }
 
-pub fn keep_alive(count: u32) -> u64 {
+pub(crate) fn keep_alive(count: u32) -> u64 {
     let mut out = [0u8; 64];
     let mut end = ends::ready(ends::small(), OTHER);
     let mut i = 0u32;
@@ -155,7 +155,7 @@ pub fn keep_alive(count: u32) -> u64 {
 }
 
 // At a time when no timer is due.
-pub fn act(count: u32) -> u64 {
+pub(crate) fn act(count: u32) -> u64 {
     let mut out = [0u8; 64];
     let mut end = ends::ready(ends::small(), OTHER);
     let statuses = Statuses::new(2);

@@ -15,12 +15,12 @@ pub const OTHER: u16 = 4661;
 pub const START: u64 = 1000;
 
 // Two players, one at each end, S = 1.
-pub fn small() -> Setup {
+pub(crate) fn small() -> Setup {
     running::two_players(MAGIC, PEER, 1)
 }
 
 // Four players, whose inputs all come from the other end, S = 16.
-pub fn large() -> Setup {
+pub(crate) fn large() -> Setup {
     let setup = small();
     Setup {
         num_players: 4,
@@ -35,7 +35,7 @@ pub fn large() -> Setup {
 }
 
 // A message without statuses and payload.
-pub fn plain(magic: u16, body: MessageBody) -> Message {
+pub(crate) fn plain(magic: u16, body: MessageBody) -> Message {
     let reports = codec::no_reports();
     Message {
         magic,
@@ -44,13 +44,13 @@ pub fn plain(magic: u16, body: MessageBody) -> Message {
     }
 }
 
-pub fn ready(setup: Setup, other: u16) -> Endpoint {
+pub(crate) fn ready(setup: Setup, other: u16) -> Endpoint {
     let made = Endpoint::new(setup, START);
     running::synchronized(made.endpoint, other)
 }
 
 // Both queues emptied in place: a store each, and no call that is timed.
-pub fn emptied(mut end: Endpoint) -> Endpoint {
+pub(crate) fn emptied(mut end: Endpoint) -> Endpoint {
     end.queued = 0;
     end.events.used = 0;
     end

@@ -28,7 +28,7 @@ struct Played {
     sum: u64,
 }
 
-pub fn run(count: u32) -> u64 {
+pub(crate) fn run(count: u32) -> u64 {
     let mut out_a = [0u8; 256];
     let mut out_b = [0u8; 256];
     let a = ends::ready(ends::small(), OTHER);

@@ -17,7 +17,7 @@ fn frame_at(datagram: &[u8]) -> usize {
 }
 
 // Each repetition reads other bytes: the lowest one of the first frame is the repetition's number.
-pub fn read(count: u32, datagram: &mut [u8]) -> u64 {
+pub(crate) fn read(count: u32, datagram: &mut [u8]) -> u64 {
     let at = frame_at(datagram);
     if datagram.len() <= at {
         return 0;
@@ -81,7 +81,7 @@ fn reported(reports: StatusReports) -> u64 {
 }
 
 // Each repetition writes another first frame.
-pub fn write(count: u32, datagram: &[u8]) -> u64 {
+pub(crate) fn write(count: u32, datagram: &[u8]) -> u64 {
     let at = frame_at(datagram);
     let received = codec::read(datagram);
     let message = received.message;

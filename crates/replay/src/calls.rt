@@ -25,7 +25,7 @@ pub struct Outcome {
 }
 
 impl Side {
-    pub fn absent() -> Side {
+    pub(crate) fn absent() -> Side {
         let made = Endpoint::new(setup_of(&[]), 0);
         let endpoint = made.endpoint;
         Side {
@@ -35,7 +35,7 @@ impl Side {
     }
 }
 
-pub fn turn(side: Side, record: Record, payload: &[u8], array: &mut [u8]) -> Outcome {
+pub(crate) fn turn(side: Side, record: Record, payload: &[u8], array: &mut [u8]) -> Outcome {
     let way = record.way(side.present);
     match way {
         Way::Same(answer) => Outcome { answer, side },
@@ -123,7 +123,7 @@ fn unchanged(endpoint: Endpoint, answer: Answer) -> Ended {
     Ended { endpoint, answer }
 }
 
-pub fn stats_answer(result: StatsResult) -> Answer {
+pub(crate) fn stats_answer(result: StatsResult) -> Answer {
     match result {
         StatsResult::Stats(_) => Answer::Done,
         StatsResult::Refused(answer) => answer,

@@ -23,15 +23,15 @@ const TABLE: [u32; 16] = [
 // The sum of no bytes, before `sum_of` closes it.
 pub const NONE: u32 = 0xFFFF_FFFF;
 
-pub fn crc32(bytes: &[u8]) -> u32 {
+pub(crate) fn crc32(bytes: &[u8]) -> u32 {
     sum_of(with_bytes(NONE, bytes))
 }
 
-pub fn sum_of(crc: u32) -> u32 {
+pub(crate) fn sum_of(crc: u32) -> u32 {
     crc ^ 0xFFFF_FFFF
 }
 
-pub fn with_bytes(before: u32, bytes: &[u8]) -> u32 {
+pub(crate) fn with_bytes(before: u32, bytes: &[u8]) -> u32 {
     // Lent to each step: a step that named the constant would copy it.
     let table = TABLE;
     let mut crc = before;

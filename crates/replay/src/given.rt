@@ -13,7 +13,7 @@ use endpoint::StatsResult;
 use endpoint::StatusResult;
 
 // By the endpoint before the call, where the call is done; `array` is the object's.
-pub fn put_given(out: Out, endpoint: Endpoint, record: Record, array: &[u8]) -> Out {
+pub(crate) fn put_given(out: Out, endpoint: Endpoint, record: Record, array: &[u8]) -> Out {
     let call = record.call;
     match call {
         10 => put_stats(out, endpoint.network_stats(record.epoch)),
@@ -26,14 +26,14 @@ pub fn put_given(out: Out, endpoint: Endpoint, record: Record, array: &[u8]) -> 
     }
 }
 
-pub fn put_side(out: Out, side: Side, array: &[u8]) -> Out {
+pub(crate) fn put_side(out: Out, side: Side, array: &[u8]) -> Out {
     if !side.present {
         return out.u8(0);
     }
     put_endpoint(out, side.endpoint, array)
 }
 
-pub fn put_stats(out: Out, result: StatsResult) -> Out {
+pub(crate) fn put_stats(out: Out, result: StatsResult) -> Out {
     let StatsResult::Stats(stats) = result else {
         return out;
     };
@@ -50,7 +50,7 @@ fn put_peer_status(out: Out, result: StatusResult) -> Out {
     put_status(out, status)
 }
 
-pub fn put_all(out: Out, messages: &[u8]) -> Out {
+pub(crate) fn put_all(out: Out, messages: &[u8]) -> Out {
     out.part(messages, messages.len())
 }
 

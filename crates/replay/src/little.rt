@@ -16,7 +16,7 @@ fn byte_at(bytes: &[u8], at: usize) -> u64
     0
 }
 
-pub fn u8_at(bytes: &[u8], at: usize) -> u8 {
+pub(crate) fn u8_at(bytes: &[u8], at: usize) -> u8 {
     byte_at(bytes, at) as u8
 }
 
@@ -46,14 +46,14 @@ pub(crate) fn frame_at(bytes: &[u8], at: usize) -> u32
     frame::bits_of(u32_at(bytes, at))
 }
 
-pub fn least(a: usize, b: usize) -> usize
+pub(crate) fn least(a: usize, b: usize) -> usize
     ensures { λ r. ⌜ (r ≤ a) × (r ≤ b) ⌝ }
 {
     if a < b { a } else { b }
 }
 
 // The first n of the bytes, or all.
-pub fn front(bytes: &[u8], n: usize) -> &[u8] {
+pub(crate) fn front(bytes: &[u8], n: usize) -> &[u8] {
     if bytes.len() < n {
         return bytes;
     }
@@ -61,7 +61,7 @@ pub fn front(bytes: &[u8], n: usize) -> &[u8] {
 }
 
 // As many of the bytes as fit, to the start of a buffer.
-pub fn copy(bytes: &[u8], to: &mut [u8]) {
+pub(crate) fn copy(bytes: &[u8], to: &mut [u8]) {
     let n = least(bytes.len(), to.len());
     let mut i = 0;
     while i < n {

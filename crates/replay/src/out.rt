@@ -30,7 +30,7 @@ fn sum_of_lengths(length: u32, more: usize) -> u32 {
 }
 
 impl Out {
-    pub fn begin(digest: bool, record: Record, answer: u32) -> Out {
+    pub(crate) fn begin(digest: bool, record: Record, answer: u32) -> Out {
         write(&[record.call, record.object, (answer % 0x100) as u8, 0]);
         Out {
             digest,
@@ -39,14 +39,14 @@ impl Out {
         }
     }
 
-    pub fn end(self) {
+    pub(crate) fn end(self) {
         if self.digest {
             write(&four(self.length));
             write(&four(sum_of(self.sum)));
         }
     }
 
-    pub fn bytes(self, bytes: &[u8]) -> Out {
+    pub(crate) fn bytes(self, bytes: &[u8]) -> Out {
         if !self.digest {
             write(bytes);
             return self;
@@ -59,37 +59,37 @@ impl Out {
     }
 
     // The first n bytes of a slice, their count before them.
-    pub fn part(self, bytes: &[u8], n: usize) -> Out {
+    pub(crate) fn part(self, bytes: &[u8], n: usize) -> Out {
         self.count(n).bytes(front(bytes, n))
     }
 
-    pub fn u8(self, n: u8) -> Out {
+    pub(crate) fn u8(self, n: u8) -> Out {
         self.bytes(&[n])
     }
 
-    pub fn u16(self, n: u16) -> Out {
+    pub(crate) fn u16(self, n: u16) -> Out {
         self.bytes(&[(n % 0x100) as u8, (n / 0x100) as u8])
     }
 
-    pub fn u32(self, n: u32) -> Out {
+    pub(crate) fn u32(self, n: u32) -> Out {
         self.bytes(&four(n))
     }
 
-    pub fn u64(self, n: u64) -> Out {
+    pub(crate) fn u64(self, n: u64) -> Out {
         self.u32((n % 0x1_0000_0000) as u32)
             .u32((n / 0x1_0000_0000) as u32)
     }
 
     // A count, as four bytes.
-    pub fn count(self, n: usize) -> Out {
+    pub(crate) fn count(self, n: usize) -> Out {
         self.u32((n % 0x1_0000_0000) as u32)
     }
 
-    pub fn frame(self, frame: u32) -> Out {
+    pub(crate) fn frame(self, frame: u32) -> Out {
         self.u32(frame::bits_of(frame))
     }
 
-    pub fn flag(self, flag: bool) -> Out {
+    pub(crate) fn flag(self, flag: bool) -> Out {
         if flag {
             return self.u8(1);
         }

@@ -75,7 +75,7 @@ fn statuses_of(head: &[u8]) -> Statuses {
 }
 
 impl Record {
-    pub fn read(head: &[u8]) -> Record {
+    pub(crate) fn read(head: &[u8]) -> Record {
         let statuses = statuses_of(head);
         Record {
             call: u8_at(head, 0),
@@ -104,7 +104,7 @@ impl Record {
     }
 
     // By whether the object is there.
-    pub fn way(self, present: bool) -> Way {
+    pub(crate) fn way(self, present: bool) -> Way {
         let call = self.call;
         if call == BUFFER {
             return Way::Same(0);
@@ -121,7 +121,7 @@ impl Record {
         Way::Called
     }
 
-    pub fn is_bad(self) -> bool {
+    pub(crate) fn is_bad(self) -> bool {
         let exists = self.exists();
         (LAST_CALL < self.call)
             | (SPECTATOR < self.object)

@@ -29,11 +29,11 @@ struct Carried {
     length: usize,
 }
 
-pub fn complain(line: &[u8]) {
+pub(crate) fn complain(line: &[u8]) {
     io::write_all(STDERR_FILENO, line);
 }
 
-pub fn read_mode() -> Mode {
+pub(crate) fn read_mode() -> Mode {
     let mut header = [0u8; 8];
     let n = io::read_full(STDIN_FILENO, &mut header);
     if n < 8 {
@@ -55,7 +55,7 @@ fn mode_of(header: &[u8]) -> Mode {
 }
 
 // The next record; its payload part, or the datagram that it carries, stands at the start of `payload`.
-pub fn next_record(payload: &mut [u8], a: &[u8], b: &[u8], c: &[u8]) -> Next {
+pub(crate) fn next_record(payload: &mut [u8], a: &[u8], b: &[u8], c: &[u8]) -> Next {
     let mut head = [0u8; 64];
     let n = io::read_full(STDIN_FILENO, &mut head);
     let record = Record::read(&head);

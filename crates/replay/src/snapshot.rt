@@ -22,7 +22,7 @@ use status::ConnectionStatus;
 use status::Statuses;
 use timers::Clocks;
 
-pub fn put_endpoint(out: Out, endpoint: Endpoint, queue: &[u8]) -> Out {
+pub(crate) fn put_endpoint(out: Out, endpoint: Endpoint, queue: &[u8]) -> Out {
     let out = put_standing(out, endpoint);
     let out = put_stores(out, endpoint);
     out.part(queue, endpoint.queued)
@@ -73,7 +73,7 @@ fn put_list(out: Out, list: &[u32], n: usize) -> Out {
     to
 }
 
-pub fn put_handles(out: Out, handles: Handles) -> Out {
+pub(crate) fn put_handles(out: Out, handles: Handles) -> Out {
     let list = handles.list;
     put_list(out, &list, handles.count)
 }
@@ -133,11 +133,11 @@ fn put_quality(out: Out, quality: Quality) -> Out {
         .frame(quality.remote_frame_advantage)
 }
 
-pub fn put_status(out: Out, status: ConnectionStatus) -> Out {
+pub(crate) fn put_status(out: Out, status: ConnectionStatus) -> Out {
     out.flag(status.disconnected).frame(status.last_frame)
 }
 
-pub fn put_statuses(out: Out, statuses: Statuses) -> Out {
+pub(crate) fn put_statuses(out: Out, statuses: Statuses) -> Out {
     let n = statuses.count();
     let mut to = out.count(n);
     let mut i = 0;
@@ -217,7 +217,7 @@ fn put_checksums(out: Out, checksums: Checksums) -> Out {
     to
 }
 
-pub fn put_event(out: Out, event: Event, input: [u8; 16], size: u32) -> Out {
+pub(crate) fn put_event(out: Out, event: Event, input: [u8; 16], size: u32) -> Out {
     match event {
         Event::Synchronizing { total, count } => out.u8(0).u32(total).u32(count),
         Event::Synchronized => out.u8(1),
@@ -237,7 +237,7 @@ fn put_bytes(out: Out, input: &[u8], size: u32) -> Out {
         .bytes(front(input, size as usize))
 }
 
-pub fn put_events(out: Out, events: Events, size: u32) -> Out {
+pub(crate) fn put_events(out: Out, events: Events, size: u32) -> Out {
     let n = least(events.count(), 640);
     let mut to = out.count(n);
     let mut i = 0;

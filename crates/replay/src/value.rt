@@ -23,15 +23,15 @@ const VALUE_SIZE: usize = 80;
 
 const CHECKSUM_SIZE: usize = 16;
 
-pub fn is_setup(bytes: &[u8]) -> bool {
+pub(crate) fn is_setup(bytes: &[u8]) -> bool {
     bytes.len() == SETUP_SIZE
 }
 
-pub fn is_checksum(bytes: &[u8]) -> bool {
+pub(crate) fn is_checksum(bytes: &[u8]) -> bool {
     CHECKSUM_SIZE <= bytes.len()
 }
 
-pub fn is_message(bytes: &[u8]) -> bool {
+pub(crate) fn is_message(bytes: &[u8]) -> bool {
     VALUE_SIZE <= bytes.len() && u32_at(bytes, 4) < 8
 }
 
@@ -44,7 +44,7 @@ fn desync_of(bytes: &[u8]) -> DesyncDetection {
     }
 }
 
-pub fn setup_of(bytes: &[u8]) -> Setup {
+pub(crate) fn setup_of(bytes: &[u8]) -> Setup {
     let list = [
         u32_at(bytes, 8),
         u32_at(bytes, 12),
@@ -83,7 +83,7 @@ fn limits_of(bytes: &[u8]) -> Limits {
 }
 
 // A setup without its handles and its local players, and with the limits.
-pub fn session_setup_of(bytes: &[u8]) -> SessionSetup {
+pub(crate) fn session_setup_of(bytes: &[u8]) -> SessionSetup {
     let setup = setup_of(bytes);
     let choices = setup.choices;
     let limits = limits_of(bytes);
@@ -165,7 +165,7 @@ fn body_of(bytes: &[u8]) -> MessageBody {
     }
 }
 
-pub fn message_of(bytes: &[u8]) -> Message {
+pub(crate) fn message_of(bytes: &[u8]) -> Message {
     let body = body_of(bytes);
     let reports = reports_of(bytes);
     Message {
@@ -175,7 +175,7 @@ pub fn message_of(bytes: &[u8]) -> Message {
     }
 }
 
-pub fn payload_of(bytes: &[u8]) -> &[u8] {
+pub(crate) fn payload_of(bytes: &[u8]) -> &[u8] {
     if bytes.len() < VALUE_SIZE {
         return bytes;
     }

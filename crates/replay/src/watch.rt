@@ -28,7 +28,7 @@ pub struct Watched {
 }
 
 impl Watcher {
-    pub fn absent() -> Watcher {
+    pub(crate) fn absent() -> Watcher {
         let made = SpectatorSession::new(session_setup_of(&[]), 0);
         let session = made.session;
         Watcher {
@@ -38,7 +38,7 @@ impl Watcher {
     }
 }
 
-pub fn turn(side: Watcher, record: Record, payload: &[u8], array: &mut [u8]) -> Watched {
+pub(crate) fn turn(side: Watcher, record: Record, payload: &[u8], array: &mut [u8]) -> Watched {
     let way = record.way(side.present);
     match way {
         Way::Same(answer) => Watched {

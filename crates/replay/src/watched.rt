@@ -24,7 +24,7 @@ use watching::SessionState;
 use watching::SyncedInput;
 
 // By the session before the call, where the call is done; `array` is the object's, and `filled` what a poll left in it.
-pub fn put_given(
+pub(crate) fn put_given(
     out: Out,
     session: SpectatorSession,
     record: Record,
@@ -45,7 +45,7 @@ pub fn put_given(
     }
 }
 
-pub fn put_side(out: Out, side: Watcher, array: &[u8]) -> Out {
+pub(crate) fn put_side(out: Out, side: Watcher, array: &[u8]) -> Out {
     if !side.present {
         return out.u8(0);
     }
