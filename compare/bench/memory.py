@@ -1,14 +1,15 @@
 #!/usr/bin/env python3
-"""memory.py: what our calls copy, the size of the state, and the stack that the calls need, of the program `bench` as it was last built.
+"""memory.py: what our calls copy, the size of the state, and the stack that the calls need, of the programs `bench` and `replay` as they were last built.
 
 Copies: `copies.c` is loaded before the C library and counts memcpy by size; a run of 200 less one of 100 is that of 100 calls. Stack: the frames
-in the disassembly, added up along the deepest chain of calls; and the smallest stack in which a run ends well."""
+in the disassembly, added up along the deepest chain of calls; and the smallest stack in which a run ends well. What of a call is a function of its
+own depends on the program: `replay` makes every call, so the larger of the two counts."""
 import os, pathlib, platform, re, resource, shutil, subprocess, sys, tempfile
 from items import CALLS, KEEP_ALIVE
 
 HERE = pathlib.Path(__file__).resolve().parent
 TOP = HERE.parent.parent
-PROGRAM = TOP / "target/bin/bench"
+PROGRAMS = TOP / "target/bin"
 MACHINE = platform.machine()
 # Debian's name for it, on every machine; on x86-64 the plain one does as well.
 OBJDUMP = shutil.which("x86_64-linux-gnu-objdump") or "objdump"
@@ -42,9 +43,9 @@ def copies():
     print(f"\nthe state: {state:,} bytes")
 
 
-def frames():
+def frames(program):
     """Each function's frame in bytes, and what it calls."""
-    text = subprocess.run([OBJDUMP, "-d", "-C", "--no-show-raw-insn", PROGRAM], capture_output=True, text=True, check=True).stdout
+    text = subprocess.run([OBJDUMP, "-d", "-C", "--no-show-raw-insn", PROGRAMS / program], capture_output=True, text=True, check=True).stdout
     frame, calls = {}, {}
     for block in re.split(r"\n\n", text):
         head = re.match(r"[0-9a-f]+ <(.*)>:\n", block)
@@ -69,7 +70,7 @@ def ends_within(item, kib):
     def limit():
         resource.setrlimit(resource.RLIMIT_STACK, (kib * 1024, kib * 1024))
 
-    loaded = [TOOLS / "lib/ld-linux-x86-64.so.2", "--library-path", TOOLS / "lib", PROGRAM]
+    loaded = [TOOLS / "lib/ld-linux-x86-64.so.2", "--library-path", TOOLS / "lib", PROGRAMS / "bench"]
     if MACHINE == "x86_64":
         run = subprocess.run(loaded, input=item.record(REPEATED), capture_output=True, preexec_fn=limit)
     else:
@@ -88,11 +89,15 @@ def least_stack(item):
 
 
 def stack():
-    frame, calls = frames()
-    print(f"\n| {'function':34} | its frame | with what it calls |\n|{'-' * 36}|----------:|-------------------:|")
-    for name in sorted(frame):
-        if name.startswith("endpoint::Endpoint::"):
-            print(f"| {name:34} | {frame[name]:9,} | {deepest(name, frame, calls):18,} |")
+    needs = {}
+    for program in ("bench", "replay"):
+        frame, calls = frames(program)
+        for name in frame:
+            if name.startswith("endpoint::Endpoint::"):
+                needs[name] = max(needs.get(name, (0, 0, "")), (deepest(name, frame, calls), frame[name], program))
+    print(f"\n| {'function':34} | its frame | with what it calls | in     |\n|{'-' * 36}|----------:|-------------------:|--------|")
+    for name, (deep, own, program) in sorted(needs.items()):
+        print(f"| {name:34} | {own:9,} | {deep:18,} | {program:6} |")
     print(f"\nthe exchange ends well with a stack of {least_stack(CALLS[-1])} KiB, and not with 4 KiB less")
 
 

@@ -17,12 +17,12 @@ use Rattle.protocol.specs.Seen.{isShutdown}
 use Rattle.protocol.specs.Did.{Did, refused, decided}
 use Rattle.protocol.specs.Call.{Call}
 use Rattle.protocol.specs.Step.{step, takeStep}
-use Rattle.protocol.specs.Value.{Value, valueOf, filledPart}
+use Rattle.protocol.specs.Value.{Value, valueOf, filledPart, handedBack}
 use Rattle.endpoint.specs.declared.Endpoint.{Endpoint}
 use Rattle.endpoint.specs.declared.Ended.{Ended}
 use Rattle.endpoint.specs.declared.taking.TakenEvents.{TakenEvents}
 use Rattle.endpoint.specs.Endpoint.{seen, DoneAs}
-use Rattle.endpoint.specs.Taken.{handedBack, TakenAs}
+use Rattle.endpoint.specs.Taken.{TakenAs}
 use Rattle.endpoint.proofs.Settles.{done-settled}
 use Rattle.endpoint.proofs.Ends.{remade, refused-done}
 

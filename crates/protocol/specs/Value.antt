@@ -15,6 +15,7 @@ use Rattle.protocol.specs.Seen.{Seen, isRunning, isDisconnected, isShutd
 use Rattle.protocol.specs.Sending.{newest}
 use Rattle.protocol.specs.Reports.{statsOf}
 use Rattle.protocol.specs.Call.{Call}
+use Rattle.protocol.specs.Step.{step}
 
 pub data Value : Type 0 where
   nothing : Value
@@ -57,3 +58,7 @@ valueOf (Call.isHandlingMessage from) s = Value.flag (eqb from (s .setup .peer))
 valueOf Call.newestFrame s = Value.frame (newest s)
 valueOf Call.state s = Value.phase (s .phase)
 valueOf Call.checksums s = Value.checksums (s .checksums)
+
+-- the bytes of a buffer, from its start, that taking messages hands back: the filled part, none where it is refused
+unfoldable pub handedBack : (buffer : ℕ) → Seen → ℕ
+handedBack buffer s = pick (eqb (step (Call.takeMessages buffer) s .answer) 0) (filledPart s) 0

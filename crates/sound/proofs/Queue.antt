@@ -22,7 +22,7 @@ use Rattle.codec.specs.Bytes.{bytes, queueOf}
 use Rattle.events.specs.declared.Entry.{Entry}
 use Rattle.outbox.specs.Outbox.{sizes}
 use Rattle.outbox.proofs.Laws.{queue-size}
-use Rattle.protocol.specs.Seen.{Seen, isRunning, withPhase, withEvents, withQueued, shutdownAt}
+use Rattle.protocol.specs.Seen.{Seen, isRunning, isShutdown, withPhase, withEvents, withQueued, shutdownAt}
 use Rattle.protocol.specs.Did.{Did, Effect, refused, decided, silent, begin, queueWire, done}
 use Rattle.protocol.specs.Room.{eventsFull, bufferFull, isFull}
 use Rattle.protocol.specs.Call.{Call}
@@ -32,6 +32,7 @@ use Rattle.protocol.specs.Act.{acted, requestChoked}
 use Rattle.protocol.specs.Checksum.{checksumSent}
 use Rattle.protocol.specs.Advantage.{bothKnown, localAdvantage, advantageUpdated}
 use Rattle.protocol.specs.Step.{changed, shortBuffer, wrongState, ignored, heard, onBody, step, synchronizeStep, messageStep, datagramStep, actStep, sendStep, disconnectStep, checksumStep, advantageStep, statsStep, statusStep, takeStep}
+use Rattle.protocol.specs.Value.{filledPart, handedBack}
 use Rattle.sound.specs.Runs.{ran, lentTo, Lent, lentAfter, lentRan, gone, allGone, allOut}
 use Rattle.sound.proofs.Leaves.{by-cases, booked, acted-leaves, sent-leaves, heard-leaves, body-leaves, request-leaves}
 use Rattle.sound.proofs.Told.{decided-both}
@@ -170,6 +171,15 @@ step-laid Call.state b s l fit w =
     queued-laid (step Call.state s) b s fit w (quiet (length b) s s refl)
 step-laid Call.checksums b s l fit w =
     queued-laid (step Call.checksums s) b s fit w (quiet (length b) s s refl)
+
+-- what leaves the queue is what is handed back, but in Shutdown, where nothing is
+pub gone-handed : (n : ℕ) (b : List ℕ) (s : Seen) → isShutdown (s .phase) ≡ false → gone (Call.takeMessages n) b s ≡ take (handedBack n s) b
+unfolding handedBack filledPart
+gone-handed n b s h = rw h (go (eqb (step (Call.takeMessages n) s .answer) 0))
+  where
+    go : (done : Bool) → pick done (take (s .queued) b) [] ≡ take (pick done (s .queued) 0) b
+    go true = refl
+    go false = refl
 
 both : (xs ys : List Wire) → queueOf (xs ++ ys) ≡ queueOf xs ++ queueOf ys
 unfolding flatten

@@ -45,7 +45,7 @@ use Rattle.protocol.specs.Reports.{notSynchronized, notEnoughData, statsOf}
 use Rattle.protocol.specs.Checksum.{checksumSent}
 use Rattle.protocol.specs.Advantage.{localOverflows}
 use Rattle.protocol.specs.Call.{Call}
-use Rattle.protocol.specs.Value.{Value, valueOf, synchronizedIn}
+use Rattle.protocol.specs.Value.{Value, valueOf, synchronizedIn, handedBack}
 use Rattle.protocol.specs.Step.{fresh, badHandle, wrongState, ignored, heard, onBody, reactionRefusals, shortBuffer, synchronizeStep, messageStep, datagramStep, actStep, sendStep, disconnectStep, checksumStep, advantageStep, takeStep, statsStep, statusStep, step}
 use Rattle.endpoint.specs.declared.Endpoint.{Endpoint}
 use Rattle.endpoint.specs.declared.Ended.{Ended}
@@ -55,7 +55,6 @@ use Rattle.endpoint.specs.declared.getters.StatsResult.{StatsResult}
 use Rattle.endpoint.specs.declared.getters.StatsResult.the-variants as StatsResult
 use Rattle.endpoint.specs.Endpoint.{seen, DidAs, DoneAs}
 use Rattle.endpoint.specs.Made.{MadeAs}
-use Rattle.endpoint.specs.Taken.{handedBack}
 use Rattle.endpoint.specs.Told.{told, shownStatus, shownStats}
 use Rattle.unusable.specs.Unusable.{Version, Meets}
 

@@ -25,7 +25,7 @@ use Rattle.protocol.specs.Seen.{isSynchronizing}
 use Rattle.protocol.specs.Sending.{newest}
 use Rattle.protocol.specs.Call.{Call}
 use Rattle.protocol.specs.Step.{fresh, ignored, step}
-use Rattle.protocol.specs.Value.{Value, valueOf}
+use Rattle.protocol.specs.Value.{Value, valueOf, handedBack}
 use Rattle.endpoint.specs.declared.Endpoint.{Endpoint}
 use Rattle.endpoint.specs.declared.Ended.{Ended}
 use Rattle.endpoint.specs.declared.taking.TakenEvents.{TakenEvents}
@@ -33,7 +33,7 @@ use Rattle.endpoint.specs.declared.getters.StatusResult.{StatusResult}
 use Rattle.endpoint.specs.declared.getters.StatsResult.{StatsResult}
 use Rattle.endpoint.specs.Endpoint.{seen, DidAs, DoneAs}
 use Rattle.endpoint.specs.Made.{MadeAs}
-use Rattle.endpoint.specs.Taken.{handedBack, TakenAs}
+use Rattle.endpoint.specs.Taken.{TakenAs}
 use Rattle.endpoint.specs.Told.{told, shownStatus, shownStats}
 
 -- one function for each public function of the endpoint, with its arguments and its answer. Of a buffer that is lent to be written, `out`, the bytes that it
