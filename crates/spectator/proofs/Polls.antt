@@ -30,12 +30,12 @@ use Rattle.timers.specs.Timers.{badClocks}
 use Rattle.protocol.specs.Call.{Call as HostCall}
 use Rattle.protocol.specs.Sending.{newest, badStatuses}
 use Rattle.protocol.specs.Step.{changed as hostChanged, shortBuffer, actStep, takeStep, step as hostStep}
-use Rattle.protocol.specs.Value.{Value as HostValue, valueOf as hostValueOf, filledPart}
+use Rattle.protocol.specs.Value.{Value as HostValue, valueOf as hostValueOf, filledPart, handedBack}
 use Rattle.endpoint.specs.declared.Endpoint.{Endpoint}
 use Rattle.endpoint.specs.declared.Ended.{Ended as HostEnded}
 use Rattle.endpoint.specs.declared.taking.TakenEvents.{TakenEvents}
 use Rattle.endpoint.specs.Endpoint.{seen as seenHost, DidAs as HostDidAs, DoneAs as HostDoneAs}
-use Rattle.endpoint.specs.Taken.{handedBack, TakenAs}
+use Rattle.endpoint.specs.Taken.{TakenAs}
 use Rattle.watching.specs.Watch.{Watch}
 use Rattle.watching.specs.Handling.{handledAll}
 use Rattle.watching.specs.Call.{Call}

@@ -1,13 +1,14 @@
 -- Two answers that a call's contract allows are equal, as are the states and the lent buffers after them, for each public function.
 use mathlib.Core.List.{List}
-use mathlib.Core.Path.{_≡_, sym, _∙_}
+use mathlib.Core.Path.{_≡_, refl, sym, _∙_, ap}
 use Prim.Native.Nat.{ℕ}
 use lib.ListN.{length, take}
 use Rattle.base.proofs.Settled.{settled}
 use Rattle.answer.specs.Number.{number-tells}
 use Rattle.codec.specs.Message.{Wire}
-use Rattle.endpoint.specs.Taken.{handedBack}
+use Rattle.protocol.specs.Value.{handedBack}
 use Rattle.endpoint.specs.declared.getters.StatsResult.{StatsResult}
+use Rattle.endpoint.specs.declared.getters.StatsResult.the-variants.{Stats, Refused}
 use Rattle.watching.specs.declared.SessionSetup.{SessionSetup}
 use Rattle.watching.specs.declared.SessionState.{SessionState}
 use Rattle.watching.specs.Call.{Call}
@@ -17,18 +18,31 @@ use Rattle.spectator.specs.declared.SpectatorSession.{SpectatorSession}
 use Rattle.spectator.specs.declared.Ended.{Ended}
 use Rattle.spectator.specs.declared.advancing.Advanced.{Advanced}
 use Rattle.spectator.specs.declared.getters.FramesBehind.{FramesBehind}
+use Rattle.spectator.specs.declared.getters.FramesBehind.the-variants.{Frames, Overflow}
 use Rattle.spectator.specs.declared.getters.TakenEvents.{TakenEvents}
 use Rattle.spectator.specs.declared.polling.Polled.{Polled}
 use Rattle.spectator.specs.declared.telling.SessionEvents.{SessionEvents}
 use Rattle.spectator.specs.Stores.{toldOf, framesOf}
 use Rattle.spectator.specs.Session.{seen, DidAs, DoneAs}
-use Rattle.spectator.specs.Answers.{told, shownStats, shownBehind, MadeAs, TakenAs, PolledAs, AdvancedAs}
+use Rattle.spectator.specs.Answers.{told, shownStats, shownBehind, MadeAs, TakenAs, polledPart, PolledAs, AdvancedAs}
 
 pub new-settled : (g : SessionSetup) (now : ℕ) (r s : Ended) → MadeAs g now r → MadeAs g now s → (r .answer ≡ s .answer) × (seen (r .session) ≡ seen (s .session))
 new-settled g now r s a b = (number-tells (r .answer) (s .answer) (a .answer ∙ sym (b .answer)), a .made ∙ sym (b .made))
 
 pub count-settled : (e : SessionEvents) (m n : ℕ) → m ≡ length (toldOf e) → n ≡ length (toldOf e) → m ≡ n
 count-settled e m n = settled (λ x. x) (length (toldOf e)) m n
+
+same-stats : (r s : StatsResult) → shownStats r ≡ shownStats s → r ≡ s
+same-stats (Stats a) (Stats b) h = let v : Value.stats a ≡ Value.stats b = ap (λ (t : ℕ × Value). t .1) h in cc
+same-stats (Stats a) (Refused b) h = let v : Value.stats a ≡ Value.nothing = ap (λ (t : ℕ × Value). t .1) h in cc
+same-stats (Refused a) (Stats b) h = let v : Value.nothing ≡ Value.stats b = ap (λ (t : ℕ × Value). t .1) h in cc
+same-stats (Refused a) (Refused b) h = ap Refused (number-tells a b (ap (λ (t : ℕ × Value). t .0) h))
+
+same-behind : (r s : FramesBehind) → shownBehind r ≡ shownBehind s → r ≡ s
+same-behind (Frames m) (Frames n) h = let v : Value.count m ≡ Value.count n = ap (λ (t : ℕ × Value). t .1) h in cc
+same-behind (Frames m) Overflow h = let v : Value.count m ≡ Value.nothing = ap (λ (t : ℕ × Value). t .1) h in cc
+same-behind Overflow (Frames n) h = let v : Value.nothing ≡ Value.count n = ap (λ (t : ℕ × Value). t .1) h in cc
+same-behind Overflow Overflow h = refl
 
 module _ (e : SpectatorSession) where
   module _ (d : Did) where
@@ -54,10 +68,14 @@ module _ (e : SpectatorSession) where
     pub datagram-settled : (from : ℕ) (bytes : List ℕ) → Both (Call.datagram from bytes now epoch nonce (length buffer))
     datagram-settled from bytes = did-settled (step (Call.datagram from bytes now epoch nonce (length buffer)) (seen e)) buffer r s b c
 
-  pub poll-remote-clients-settled : (d : Did) (part : ℕ) (buffer : List ℕ) (r s : Polled) (b c : List ℕ) → PolledAs e d part buffer r b → PolledAs e d part buffer s c
-      → (r .answer ≡ s .answer) × (seen (r .session) ≡ seen (s .session)) × (r .filled ≡ s .filled) × (b ≡ c)
-  poll-remote-clients-settled d part buffer r s b c x y =
-      (number-tells (r .answer) (s .answer) (x .answer ∙ sym (y .answer)), x .after ∙ sym (y .after), x .filled ∙ sym (y .filled), x .lent ∙ sym (y .lent))
+  module _ (now epoch nonce : ℕ) (buffer : List ℕ) where
+    abbrev Polls : Polled → List ℕ → Type 0
+    Polls = PolledAs e (step (Call.pollRemoteClients now epoch nonce (length buffer)) (seen e)) (polledPart now epoch nonce (length buffer) (seen e)) buffer
+
+    pub poll-remote-clients-settled : (r s : Polled) (b c : List ℕ) → Polls r b → Polls s c
+        → (r .answer ≡ s .answer) × (seen (r .session) ≡ seen (s .session)) × (r .filled ≡ s .filled) × (b ≡ c)
+    poll-remote-clients-settled r s b c x y =
+        (number-tells (r .answer) (s .answer) (x .answer ∙ sym (y .answer)), x .after ∙ sym (y .after), x .filled ∙ sym (y .filled), x .lent ∙ sym (y .lent))
 
   pub advance-frame-settled : (r s : Advanced) → AdvancedAs e r → AdvancedAs e s
       → (r .answer ≡ s .answer) × (seen (r .session) ≡ seen (s .session)) × (framesOf (r .requests) ≡ framesOf (s .requests))
@@ -70,14 +88,16 @@ module _ (e : SpectatorSession) where
   pub messages-settled : (buffer a b : List ℕ) → a ≡ take (handedBack (length buffer) (seen e .host)) buffer → b ≡ take (handedBack (length buffer) (seen e .host)) buffer → a ≡ b
   messages-settled buffer a b = settled (λ x. x) (take (handedBack (length buffer) (seen e .host)) buffer) a b
 
-  pub events-settled : (r s : TakenEvents) → TakenAs e r → TakenAs e s → (Value.events (toldOf (r .events)) ≡ Value.events (toldOf (s .events))) × (seen (r .session) ≡ seen (s .session))
-  events-settled r s x y = (x .events ∙ sym (y .events), x .after ∙ sym (y .after))
+  pub events-settled : (r s : TakenEvents) → TakenAs e r → TakenAs e s → (toldOf (r .events) ≡ toldOf (s .events)) × (seen (r .session) ≡ seen (s .session))
+  events-settled r s x y =
+      let z : Value.events (toldOf (r .events)) ≡ Value.events (toldOf (s .events)) = x .events ∙ sym (y .events) in
+      (cc, x .after ∙ sym (y .after))
 
-  pub network-stats-settled : (epoch : ℕ) (r s : StatsResult) → shownStats r ≡ told (Call.networkStats epoch) (seen e) → shownStats s ≡ told (Call.networkStats epoch) (seen e) → shownStats r ≡ shownStats s
-  network-stats-settled epoch r s = settled shownStats (told (Call.networkStats epoch) (seen e)) r s
+  pub network-stats-settled : (epoch : ℕ) (r s : StatsResult) → shownStats r ≡ told (Call.networkStats epoch) (seen e) → shownStats s ≡ told (Call.networkStats epoch) (seen e) → r ≡ s
+  network-stats-settled epoch r s a b = same-stats r s (a ∙ sym b)
 
-  pub frames-behind-host-settled : (r s : FramesBehind) → shownBehind r ≡ told Call.framesBehindHost (seen e) → shownBehind s ≡ told Call.framesBehindHost (seen e) → shownBehind r ≡ shownBehind s
-  frames-behind-host-settled r s = settled shownBehind (told Call.framesBehindHost (seen e)) r s
+  pub frames-behind-host-settled : (r s : FramesBehind) → shownBehind r ≡ told Call.framesBehindHost (seen e) → shownBehind s ≡ told Call.framesBehindHost (seen e) → r ≡ s
+  frames-behind-host-settled r s a b = same-behind r s (a ∙ sym b)
 
   pub current-state-settled : (r s : SessionState) → Value.state r ≡ valueOf Call.currentState (seen e) → Value.state s ≡ valueOf Call.currentState (seen e) → r ≡ s
   current-state-settled r s x y = let z : Value.state r ≡ Value.state s = x ∙ sym y in cc

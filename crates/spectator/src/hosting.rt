@@ -2,7 +2,7 @@
 ghost use mathlib.Core.Path.{_≡_};
 ghost use lib.ListN.{length, take};
 ghost use Rattle.codec.specs.Message.{meant};
-ghost use Rattle.endpoint.specs.Taken.{handedBack};
+ghost use Rattle.protocol.specs.Value.{handedBack};
 ghost use Rattle.endpoint.specs.Endpoint.{seen as seenHost};
 ghost use Rattle.watching.specs.Call.{Call};
 ghost use Rattle.watching.specs.Step.{step};
