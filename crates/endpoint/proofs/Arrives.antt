@@ -12,8 +12,7 @@ use Rattle.frame.specs.Bias.{bias32}
 use Rattle.answer.specs.declared.Answer.the-variants.{TooLong, Overflow}
 use Rattle.packing.specs.Packing.{frameCount, decodable, decodableLength}
 use Rattle.packing.specs.declared.input_bytes.InputBytes.{InputBytes}
-use Rattle.history.specs.declared.Found.{Found}
-use Rattle.history.specs.History.{received, foundIn}
+use Rattle.history.specs.History.{received, Found, foundIn}
 use Rattle.codec.specs.declared.StatusReport.{StatusReport}
 use Rattle.setup.specs.Setup.{termsOf, termsWith, receivingWidth}
 use Rattle.protocol.specs.Seen.{Receiver}

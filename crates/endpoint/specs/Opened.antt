@@ -6,8 +6,7 @@ use lib.Dec.{ltb, eqb}
 use Rattle.frame.specs.Bias.{bias32}
 use Rattle.packing.specs.Packing.{frameCount, decodableLength}
 use Rattle.history.specs.declared.History.{History}
-use Rattle.history.specs.declared.Found.{Found}
-use Rattle.history.specs.History.{received, newestOf, foundIn}
+use Rattle.history.specs.History.{received, newestOf, Found, foundIn}
 use Rattle.setup.specs.declared.Setup.{Setup}
 use Rattle.setup.specs.Setup.{termsOf, receivingWidth}
 use Rattle.protocol.specs.Receiving.{referenceFrame}

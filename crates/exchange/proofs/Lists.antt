@@ -18,8 +18,7 @@ use Rattle.packing.specs.Packing.{Wide}
 use Rattle.packing.specs.Pad.{padded}
 use Rattle.packing.specs.declared.input_bytes.InputBytes.{InputBytes}
 use Rattle.pending.specs.Pending.{dropTo, lastTo, lastFrame, frameBytes}
-use Rattle.history.specs.declared.Found.{Found}
-use Rattle.history.specs.History.{highest, newestOf, foundIn, above, numbered}
+use Rattle.history.specs.History.{highest, newestOf, Found, foundIn, above, numbered}
 
 abbrev pub entry : ℕ → List ℕ → InputBytes
 entry f b = record { frame = f; bytes = padded b }

@@ -18,8 +18,7 @@ use Rattle.packing.specs.declared.input_bytes.InputBytes.{InputBytes}
 use Rattle.packing.proofs.Laws.{unpack-pack, pack-decodable}
 use Rattle.packing.proofs.Pads.{zeros-length, padded-length}
 use Rattle.pending.specs.Pending.{dropTo, lastTo, firstFrame, lastFrame, payload, frameBytes}
-use Rattle.history.specs.declared.Found.{Found}
-use Rattle.history.specs.History.{blank, newestOf, foundIn, stays, atLine, above, numbered, packetOf, takenIn}
+use Rattle.history.specs.History.{blank, newestOf, Found, foundIn, stays, atLine, above, numbered, packetOf, takenIn}
 use Rattle.history.proofs.Laws.{found-frame}
 use Rattle.codec.specs.Message.{Wire}
 use Rattle.setup.specs.Setup.{Terms, SoundSetup, receivingWidth}

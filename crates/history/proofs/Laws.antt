@@ -18,8 +18,7 @@ use Rattle.packing.specs.Packing.{xors, framesOf}
 use Rattle.packing.specs.Pad.{padded}
 use Rattle.packing.specs.declared.input_bytes.InputBytes.{InputBytes}
 use Rattle.history.specs.declared.History.{History}
-use Rattle.history.specs.declared.Found.{Found}
-use Rattle.history.specs.History.{received, blank, highest, newestOf, foundIn, lookedAt, numbered, Ascending}
+use Rattle.history.specs.History.{received, blank, highest, newestOf, Found, foundIn, lookedAt, numbered, Ascending}
 
 pub received-le : (h : History) → length (received h) ≤ length (h .slots)
 unfolding received

@@ -12,7 +12,6 @@ use Rattle.packing.specs.Packing.{unpack}
 use Rattle.packing.specs.Pad.{zeros, padded}
 use Rattle.packing.specs.declared.input_bytes.InputBytes.{InputBytes}
 use Rattle.history.specs.declared.History.{History}
-use Rattle.history.specs.declared.Found.{Found}
 use Rattle.history.specs.declared.Looked.{Looked}
 
 -- the inputs held; a count beyond the array is the array's length
@@ -31,6 +30,11 @@ highest (x ∷ xs) = max (x .frame) (highest xs)
 unfoldable pub newestOf : List InputBytes → ℕ
 newestOf [] = nullFrame
 newestOf (x ∷ xs) = highest (x ∷ xs)
+
+-- what is found of a frame
+pub record Found : Type 0 where
+  pub held : Bool
+  pub input : InputBytes
 
 -- the input of a frame; where it is not held, the blank one stands beside the answer
 unfoldable pub foundIn : ℕ → List InputBytes → Found

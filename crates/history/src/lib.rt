@@ -20,12 +20,6 @@ pub struct History {
     pub used: usize,
 }
 
-// What is found of a frame, as the definitions tell it.
-pub struct Found {
-    pub held: bool,
-    pub input: InputBytes,
-}
-
 // The newest frame, and the input that a packet is packed against.
 pub struct Looked {
     pub input: InputBytes,

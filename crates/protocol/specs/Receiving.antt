@@ -8,8 +8,7 @@ use Rattle.base.specs.Pick.{pick}
 use Rattle.frame.specs.Bias.{bias32, nullFrame}
 use Rattle.packing.specs.Packing.{frameCount, decodable}
 use Rattle.packing.specs.declared.input_bytes.InputBytes.{InputBytes}
-use Rattle.history.specs.History.{newestOf, foundIn, above, packetOf, takenIn}
-use Rattle.history.specs.declared.Found.{Found}
+use Rattle.history.specs.History.{newestOf, Found, foundIn, above, packetOf, takenIn}
 use Rattle.status.specs.Status.{reported}
 use Rattle.status.specs.Statuses.{mergedAll}
 use Rattle.codec.specs.declared.StatusReport.{StatusReport}

@@ -13,8 +13,7 @@ use Rattle.base.specs.Keyed.{kept}
 use Rattle.frame.specs.Bias.{nullFrame}
 use Rattle.packing.specs.Packing.{unpack, decodable}
 use Rattle.packing.specs.declared.input_bytes.InputBytes.{InputBytes}
-use Rattle.history.specs.declared.Found.{Found}
-use Rattle.history.specs.History.{newestOf, foundIn, packetOf, newestAfter}
+use Rattle.history.specs.History.{newestOf, Found, foundIn, packetOf, newestAfter}
 use Rattle.history.proofs.Laws.{found-frame}
 use Rattle.history.proofs.TakenIn.{newest-taken}
 use Rattle.status.specs.declared.ConnectionStatus.{ConnectionStatus}

@@ -16,8 +16,7 @@ use Rattle.frame.specs.Bias.{bias32, nullFrame}
 use Rattle.packing.specs.Packing.{frameCount, framesOf, unpack, decodable}
 use Rattle.packing.specs.declared.input_bytes.InputBytes.{InputBytes}
 use Rattle.packing.proofs.Laws.{xors-length, unpack-take}
-use Rattle.history.specs.declared.Found.{Found}
-use Rattle.history.specs.History.{blank, highest, newestOf, foundIn, stays, atLine, above, numbered, packetOf, takenIn, newestAfter, Ascending}
+use Rattle.history.specs.History.{blank, highest, newestOf, Found, foundIn, stays, atLine, above, numbered, packetOf, takenIn, newestAfter, Ascending}
 use Rattle.history.proofs.TakenIn.{newest-kept, newest-taken, ascending-numbered, taken-ascending, taken-few, taken-fits}
 use Rattle.setup.specs.Setup.{Terms, SoundSetup, receivingWidth}
 use Rattle.setup.proofs.Laws.{receiving-within}
