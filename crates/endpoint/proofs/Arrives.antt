@@ -12,14 +12,14 @@ use Rattle.frame.specs.Bias.{bias32}
 use Rattle.answer.specs.declared.Answer.the-variants.{TooLong, Overflow}
 use Rattle.packing.specs.Packing.{frameCount, decodable, decodableLength}
 use Rattle.packing.specs.declared.input_bytes.InputBytes.{InputBytes}
-use Rattle.history.specs.History.{received, Found, foundIn}
+use Rattle.history.specs.History.{received, Found, foundIn, referenceFrame}
 use Rattle.codec.specs.declared.StatusReport.{StatusReport}
 use Rattle.setup.specs.Setup.{termsOf, termsWith, receivingWidth}
 use Rattle.protocol.specs.Seen.{Receiver}
 use Rattle.protocol.specs.Did.{Effect, decided, change}
 use Rattle.protocol.specs.Handshake.{Reaction, plainly}
 use Rattle.protocol.specs.Sending.{acknowledged}
-use Rattle.protocol.specs.Receiving.{referenceFrame, receivedIf, receive, discarded, packetOverflows, informed, gotten, inputTaken, inputUnless, onInput}
+use Rattle.protocol.specs.Receiving.{receivedIf, receive, discarded, packetOverflows, informed, gotten, inputTaken, inputUnless, onInput}
 use Rattle.protocol.specs.Step.{heard, reacted}
 use Rattle.protocol.proofs.Laws.{by-hearing}
 use Rattle.endpoint.specs.declared.Endpoint.{Endpoint}

@@ -6,10 +6,9 @@ use lib.Dec.{ltb, eqb}
 use Rattle.frame.specs.Bias.{bias32}
 use Rattle.packing.specs.Packing.{frameCount, decodableLength}
 use Rattle.history.specs.declared.History.{History}
-use Rattle.history.specs.History.{received, newestOf, Found, foundIn}
+use Rattle.history.specs.History.{received, newestOf, Found, foundIn, referenceFrame}
 use Rattle.setup.specs.declared.Setup.{Setup}
 use Rattle.setup.specs.Setup.{termsOf, receivingWidth}
-use Rattle.protocol.specs.Receiving.{referenceFrame}
 use Rattle.endpoint.specs.declared.packet.Opened.{Opened}
 
 -- the reference, as it was found

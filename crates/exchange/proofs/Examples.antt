@@ -14,7 +14,7 @@ use Rattle.packing.specs.Packing.{xors, framesOf, unpack, pack, decodableLength
 use Rattle.packing.specs.Pad.{zeros, padded}
 use Rattle.packing.specs.declared.input_bytes.InputBytes.{InputBytes}
 use Rattle.pending.specs.Pending.{dropTo, lastTo, room, firstFrame, lastFrame, payload}
-use Rattle.history.specs.History.{blank, highest, newestOf, foundIn, atLine, above, numbered, packetOf, takenIn}
+use Rattle.history.specs.History.{blank, highest, newestOf, foundIn, referenceFrame, atLine, above, numbered, packetOf, takenIn}
 use Rattle.nonces.specs.Nonces.{issued, fits}
 use Rattle.status.specs.Status.{defaultStatus, reported, merged}
 use Rattle.status.specs.Statuses.{mergedAll, fresh as freshStatuses}
@@ -41,7 +41,7 @@ use Rattle.protocol.specs.Did.{refused, decided, queueWire, done}
 use Rattle.protocol.specs.Room.{bufferFull, isFull}
 use Rattle.protocol.specs.Handshake.{nonceIssued, request, started, synchronized, counted, running, replied, onSyncReply}
 use Rattle.protocol.specs.Sending.{droppedTo, acknowledged, badFrame, pendingQueued, accepted, tooMany, inputSent}
-use Rattle.protocol.specs.Receiving.{referenceFrame, taken, receivedIf, receive, announcedEach, discarded, packetOverflows, statusesMerged, informed, gotten, inputTaken, inputUnless, onInput, onInputAck}
+use Rattle.protocol.specs.Receiving.{taken, receivedIf, receive, announcedEach, discarded, packetOverflows, statusesMerged, informed, gotten, inputTaken, inputUnless, onInput, onInputAck}
 use Rattle.protocol.specs.Call.{Call}
 use Rattle.protocol.specs.Step.{fresh, synchronizeStep, filtered, ignored, resumed, heard, onBody, messageStep, sendStep, step}
 use Rattle.protocol.proofs.Datagrams.{bytes-message}

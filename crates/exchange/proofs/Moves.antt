@@ -18,7 +18,7 @@ use Rattle.packing.specs.Packing.{frameCount, decodable, Wide}
 use Rattle.packing.specs.declared.input_bytes.InputBytes.{InputBytes}
 use Rattle.packing.proofs.Laws.{pack-length}
 use Rattle.pending.specs.Pending.{firstFrame, payload}
-use Rattle.history.specs.History.{blank, newestOf, foundIn, numbered, packetOf}
+use Rattle.history.specs.History.{blank, newestOf, foundIn, referenceFrame, numbered, packetOf}
 use Rattle.history.proofs.Laws.{found-frame}
 use Rattle.codec.specs.Message.{Wire}
 use Rattle.events.specs.declared.Entry.{Entry}
@@ -28,7 +28,7 @@ use Rattle.setup.specs.Setup.{Terms, SoundSetup, receivingWidth}
 use Rattle.setup.proofs.Laws.{receiving-within}
 use Rattle.protocol.specs.Seen.{Sender, Receiver}
 use Rattle.protocol.specs.Sending.{droppedTo, lastAccepted, badFrame}
-use Rattle.protocol.specs.Receiving.{Got, referenceFrame, receivedIf, receive, announcedEach}
+use Rattle.protocol.specs.Receiving.{Got, receivedIf, receive, announcedEach}
 use Rattle.sound.specs.Each.{Each}
 use Rattle.sound.specs.Sound.{SoundReceiver}
 use Rattle.sound.proofs.Choices.{or-none, and-none}

@@ -18,14 +18,14 @@ use Rattle.packing.specs.declared.input_bytes.InputBytes.{InputBytes}
 use Rattle.packing.proofs.Laws.{unpack-pack, pack-decodable}
 use Rattle.packing.proofs.Pads.{zeros-length, padded-length}
 use Rattle.pending.specs.Pending.{dropTo, lastTo, firstFrame, lastFrame, payload, frameBytes}
-use Rattle.history.specs.History.{blank, newestOf, Found, foundIn, stays, atLine, above, numbered, packetOf, takenIn}
+use Rattle.history.specs.History.{blank, newestOf, Found, foundIn, referenceFrame, stays, atLine, above, numbered, packetOf, takenIn}
 use Rattle.history.proofs.Laws.{found-frame}
 use Rattle.codec.specs.Message.{Wire}
 use Rattle.setup.specs.Setup.{Terms, SoundSetup, receivingWidth}
 use Rattle.setup.proofs.Laws.{receiving-within}
 use Rattle.protocol.specs.Seen.{Sender}
 use Rattle.protocol.specs.Sending.{droppedTo, lastAccepted}
-use Rattle.protocol.specs.Receiving.{Got, referenceFrame, taken, receivedIf, receive}
+use Rattle.protocol.specs.Receiving.{Got, taken, receivedIf, receive}
 use Rattle.sound.specs.Each.{Each}
 use Rattle.sound.specs.Sound.{SoundReceiver}
 use Rattle.sound.proofs.Receivers.{never-full}

@@ -41,13 +41,20 @@ unfoldable pub foundIn : ℕ → List InputBytes → Found
 foundIn f [] = record { held = false; input = blank }
 foundIn f (x ∷ xs) = pick (eqb (x .frame) f) (record { held = true; input = x }) (foundIn f xs)
 
+-- the reference of a packet is NULL_FRAME while nothing is received, else frame start_frame - 1: by numbers alone, and of what is held
+abbrev pub referenceBy : (newest start : ℕ) → ℕ
+referenceBy newest start = pick (eqb newest nullFrame) nullFrame (start - 1)
+
+unfoldable pub referenceFrame : ℕ → List InputBytes → ℕ
+referenceFrame start history = referenceBy (newestOf history) start
+
 -- what is found, beside the newest frame
 abbrev pub beside : ℕ → Found → Looked
 beside newest found = record { input = found .input; held = found .held; newest = newest }
 
--- the newest frame, and the reference of a packet from a frame on: while nothing is received the blank one, else the one before it
+-- the newest frame, and what is found of the reference of a packet from a frame on
 unfoldable pub lookedAt : ℕ → List InputBytes → Looked
-lookedAt start l = beside (newestOf l) (foundIn (pick (eqb (newestOf l) nullFrame) nullFrame (start - 1)) l)
+lookedAt start l = beside (newestOf l) (foundIn (referenceFrame start l) l)
 
 -- at or above the keep line: frame >= newest - 2 max_prediction
 abbrev pub stays : ℕ → ℕ → ℕ → Bool
@@ -112,9 +119,9 @@ again = refl
 
 -- worked: a packet from frame 12 on after 10 and 11 is packed against 11, a first one against the blank frame
 looks : lookedAt 12 (input 10 ∷ input 11 ∷ []) ≡ record { input = input 11; held = true; newest = 11 }
-unfolding lookedAt foundIn newestOf highest input
+unfolding lookedAt referenceFrame foundIn newestOf highest input
 looks = refl
 
 looks-first : lookedAt 12 (blank ∷ []) ≡ record { input = blank; held = true; newest = nullFrame }
-unfolding lookedAt foundIn newestOf highest blank
+unfolding lookedAt referenceFrame foundIn newestOf highest blank
 looks-first = refl

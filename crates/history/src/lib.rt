@@ -3,12 +3,9 @@ ghost use mathlib.Core.Path.{_≡_};
 ghost use mathlib.Core.List.{[], _∷_, _++_};
 ghost use Prim.Native.Nat.{_-_, _*_, _≤_, _^_, min};
 ghost use lib.ListN.{length, take};
-ghost use lib.Dec.{eqb};
-ghost use Rattle.base.specs.Pick.{pick};
 ghost use Rattle.base.specs.Keyed.{kept};
-ghost use Rattle.frame.specs.Bias.{nullFrame};
 ghost use Rattle.packing.specs.Packing.{frameCount, framesOf};
-ghost use Rattle.history.specs.History.{received, blank, newestOf, lookedAt, newestAfter, stays, fresh, numbered, packetOf, takenAbove};
+ghost use Rattle.history.specs.History.{received, blank, newestOf, referenceBy, lookedAt, newestAfter, stays, fresh, numbered, packetOf, takenAbove};
 use frame::NULL_FRAME;
 use packing::InputBytes;
 
@@ -29,7 +26,7 @@ pub struct Looked {
 
 // While nothing is received, the blank frame; else the one before the packet.
 fn reference_frame(newest: u32, start: u32) -> u32
-    ensures { λ r. ⌜ r ≡ pick (eqb newest nullFrame) nullFrame (start - 1) ⌝ }
+    ensures { λ r. ⌜ r ≡ referenceBy newest start ⌝ }
 {
     if newest == NULL_FRAME {
         return NULL_FRAME;

@@ -9,7 +9,7 @@ use Rattle.frame.specs.Bias.{bias32, bias16, nullFrame}
 use Rattle.packing.specs.Packing.{xors, framesOf, unpack, pack, decodableLength, decodable}
 use Rattle.packing.specs.Pad.{zeros, padded}
 use Rattle.pending.specs.Pending.{dropTo, lastTo, room}
-use Rattle.history.specs.History.{blank, highest, newestOf, foundIn, atLine, above, numbered, packetOf, takenIn}
+use Rattle.history.specs.History.{blank, highest, newestOf, foundIn, referenceFrame, atLine, above, numbered, packetOf, takenIn}
 use Rattle.nonces.specs.Nonces.{issued, fits}
 use Rattle.status.specs.Status.{defaultStatus, reported, merged}
 use Rattle.status.specs.Statuses.{mergedAll, fresh as freshStatuses}
@@ -31,7 +31,7 @@ use Rattle.protocol.specs.Did.{Did, refused, decided, queueWire, done}
 use Rattle.protocol.specs.Room.{bufferFull, isFull}
 use Rattle.protocol.specs.Handshake.{nonceIssued, request, started, synchronized, counted, running, replied, onSyncReply}
 use Rattle.protocol.specs.Sending.{droppedTo, acknowledged, pendingQueued}
-use Rattle.protocol.specs.Receiving.{referenceFrame, taken, receivedIf, receive, announcedEach, discarded, packetOverflows, statusesMerged, informed, gotten, inputTaken, inputUnless, onInput}
+use Rattle.protocol.specs.Receiving.{taken, receivedIf, receive, announcedEach, discarded, packetOverflows, statusesMerged, informed, gotten, inputTaken, inputUnless, onInput}
 use Rattle.protocol.specs.Act.{resent, reported as actReported, keptAlive, interrupted, timedOut, acted}
 use Rattle.quality.specs.Quality.{clamped, roundTrip}
 use Rattle.quality.specs.Advantage.{advantageOf, advantageOverflows}

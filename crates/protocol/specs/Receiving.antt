@@ -1,14 +1,14 @@
 -- Receiving an Input or an InputAck.
 use mathlib.Core.Bool.{Bool, true, false, not, _&&_, _||_}
 use mathlib.Core.List.{List, [], _∷_, _++_, map}
-use Prim.Native.Nat.{ℕ, _+_, _-_, _*_, _^_}
+use Prim.Native.Nat.{ℕ, _+_, _*_, _^_}
 use lib.Dec.{ltb, eqb}
 use lib.ListN.{length, take}
 use Rattle.base.specs.Pick.{pick}
-use Rattle.frame.specs.Bias.{bias32, nullFrame}
+use Rattle.frame.specs.Bias.{bias32}
 use Rattle.packing.specs.Packing.{frameCount, decodable}
 use Rattle.packing.specs.declared.input_bytes.InputBytes.{InputBytes}
-use Rattle.history.specs.History.{newestOf, Found, foundIn, above, packetOf, takenIn}
+use Rattle.history.specs.History.{newestOf, Found, foundIn, referenceFrame, above, packetOf, takenIn}
 use Rattle.status.specs.Status.{reported}
 use Rattle.status.specs.Statuses.{mergedAll}
 use Rattle.codec.specs.declared.StatusReport.{StatusReport}
@@ -31,10 +31,7 @@ pub record Got : Type 0 where
   pub acks : List ℕ
   pub receiver : Receiver
 
--- the reference is NULL_FRAME while nothing is received, else frame start_frame - 1
-unfoldable pub referenceFrame : ℕ → List InputBytes → ℕ
-referenceFrame start history = pick (eqb (newestOf history) nullFrame) nullFrame (start - 1)
-
+-- the reference, if it is held
 abbrev pub reference : ℕ → Receiver → Found
 reference start r = foundIn (referenceFrame start (r .history)) (r .history)
 

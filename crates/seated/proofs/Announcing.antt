@@ -13,7 +13,7 @@ use Rattle.base.specs.Keyed.{kept}
 use Rattle.frame.specs.Bias.{nullFrame}
 use Rattle.packing.specs.Packing.{unpack, decodable}
 use Rattle.packing.specs.declared.input_bytes.InputBytes.{InputBytes}
-use Rattle.history.specs.History.{newestOf, Found, foundIn, packetOf, newestAfter}
+use Rattle.history.specs.History.{newestOf, Found, foundIn, referenceFrame, packetOf, newestAfter}
 use Rattle.history.proofs.Laws.{found-frame}
 use Rattle.history.proofs.TakenIn.{newest-taken}
 use Rattle.status.specs.declared.ConnectionStatus.{ConnectionStatus}
@@ -28,7 +28,7 @@ use Rattle.protocol.specs.Seen.{Seen, Receiver}
 use Rattle.protocol.specs.Did.{Did, Effect, refused, begin, done}
 use Rattle.protocol.specs.Handshake.{synchronized}
 use Rattle.protocol.specs.Act.{acted}
-use Rattle.protocol.specs.Receiving.{referenceFrame, reference, taken, receivedIf, receive, announcedEach, discarded, inputTaken, inputUnless, onInput, onInputAck}
+use Rattle.protocol.specs.Receiving.{reference, taken, receivedIf, receive, announcedEach, discarded, inputTaken, inputUnless, onInput, onInputAck}
 use Rattle.protocol.specs.Step.{changed, heard, onBody, synchronizeStep, messageStep, datagramStep, actStep, statsStep, takeStep}
 use Rattle.sound.specs.Each.{Each}
 use Rattle.sound.specs.Sound.{Sound, SoundReceiver}

@@ -12,7 +12,7 @@ use Rattle.frame.specs.Bias.{nullFrame}
 use Rattle.packing.specs.Packing.{xors, framesOf, unpack, pack, decodableLength, decodable}
 use Rattle.packing.specs.Pad.{zeros, padded}
 use Rattle.pending.specs.Pending.{dropTo, lastTo, room}
-use Rattle.history.specs.History.{blank, highest, newestOf, foundIn, atLine, above, numbered, packetOf, takenIn}
+use Rattle.history.specs.History.{blank, highest, newestOf, foundIn, referenceFrame, atLine, above, numbered, packetOf, takenIn}
 use Rattle.nonces.specs.Nonces.{issued, fits}
 use Rattle.status.specs.Status.{defaultStatus, reported, merged}
 use Rattle.status.specs.Statuses.{held, mergedAll, fresh as freshStatuses}
@@ -29,7 +29,7 @@ use Rattle.protocol.specs.Seen.{Seen, made}
 use Rattle.protocol.specs.Did.{refused, decided, queueWire, done}
 use Rattle.protocol.specs.Room.{bufferFull, isFull}
 use Rattle.protocol.specs.Sending.{newest, droppedTo, acknowledged}
-use Rattle.protocol.specs.Receiving.{referenceFrame, taken, receivedIf, receive, announcedEach, discarded, packetOverflows, statusesMerged, informed, gotten, inputTaken, inputUnless, onInput}
+use Rattle.protocol.specs.Receiving.{taken, receivedIf, receive, announcedEach, discarded, packetOverflows, statusesMerged, informed, gotten, inputTaken, inputUnless, onInput}
 use Rattle.protocol.specs.Call.{Call}
 use Rattle.protocol.specs.Step.{fresh, filtered, ignored, resumed, heard, onBody, messageStep, disconnectStep, step}
 use Rattle.protocol.proofs.Bouts.{setupWith, new, fr, wire, none, P3, P5}

@@ -1,6 +1,5 @@
 use mathlib.Core.Path.{_≡_}
-use Rattle.history.specs.History.{received, newestOf, foundIn, lookedAt}
-use Rattle.protocol.specs.Receiving.{referenceFrame}
+use Rattle.history.specs.History.{received, newestOf, foundIn, referenceFrame, lookedAt}
 use borrow.Author.Needs.{needs}
 use Rattle.endpoint.proofs.packet.open.Statement.{statement}
 use Rattle.endpoint.proofs.packet.open.Tie as tie
@@ -28,7 +27,7 @@ overflows-requires c κs = search needs
 
 found : (c : tie.After-look) → record { held = c .look .result .held; input = c .look .result .input }
     ≡ foundIn (referenceFrame (c .before .before .args .start-frame) (received (c .before .before .args .history))) (received (c .before .before .args .history))
-unfolding referenceFrame lookedAt
+unfolding lookedAt
 found c = rw (c .look .ensures)
 
 newest : (c : tie.After-look) → c .look .result .newest ≡ newestOf (received (c .before .before .args .history))

@@ -9,7 +9,7 @@ use lib.ListN.{length, drop}
 use Rattle.base.proofs.Arrays.{unmap}
 use Rattle.packing.specs.declared.input_bytes.InputBytes.{InputBytes}
 use Rattle.packing.specs.Pad.{zeros}
-use Rattle.history.specs.History.{received, blank, highest, newestOf, foundIn, beside, lookedAt}
+use Rattle.history.specs.History.{received, blank, highest, newestOf, foundIn, referenceFrame, beside, lookedAt}
 use Rattle.history.proofs.Laws.{received-le, received-at, highest-turn, highest-end, newest-is, found-turn, found-stop, found-end, looked-none}
 use Rattle.history.proofs.History.look.Statement.{statement}
 use Rattle.history.proofs.History.look.Tie as tie
@@ -86,7 +86,7 @@ newest c =
     omega arith
 
 loop2-holds : tie.Need-loop2-holds Inv-loop μ-loop Inv-loop2 μ-loop2
-unfolding lookedAt
+unfolding lookedAt referenceFrame
 loop2-holds c =
     let i = c .before .before .loop .inv in
     (omega arith, i .1, i .3, rw (c .reference-frame .ensures, newest (c .before)))
