@@ -142,7 +142,7 @@ impl History {
         let mut k = 0;
         while k < n {
             let x = self.slots[k];
-            if x.frame > newest {
+            if newest < x.frame {
                 newest = x.frame;
             }
             k += 1;
