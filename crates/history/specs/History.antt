@@ -117,7 +117,7 @@ again : takenIn 1 (input 10 ∷ input 11 ∷ []) (input 10 ∷ input 11 ∷ []) 
 unfolding takenIn atLine above kept newestOf highest input
 again = refl
 
--- worked: a packet from frame 12 on after 10 and 11 is packed against 11, a first one against the blank frame
+-- worked: a packet from frame 12 on after 10 and 11 is packed against 11, a first one against the blank frame; one from 13 on against 12, which is not held
 looks : lookedAt 12 (input 10 ∷ input 11 ∷ []) ≡ record { input = input 11; held = true; newest = 11 }
 unfolding lookedAt referenceFrame foundIn newestOf highest input
 looks = refl
@@ -125,3 +125,7 @@ looks = refl
 looks-first : lookedAt 12 (blank ∷ []) ≡ record { input = blank; held = true; newest = nullFrame }
 unfolding lookedAt referenceFrame foundIn newestOf highest blank
 looks-first = refl
+
+looks-in-vain : lookedAt 13 (input 10 ∷ input 11 ∷ []) ≡ record { input = blank; held = false; newest = 11 }
+unfolding lookedAt referenceFrame foundIn newestOf highest input
+looks-in-vain = refl
