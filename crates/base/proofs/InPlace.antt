@@ -5,10 +5,11 @@ use mathlib.Core.Path.{_≡_, refl, sym, _∙_}
 use Prim.Native.Nat.{ℕ, _+_, _≤_, _<_}
 use native.Mathlib.Omega.{arith}
 use native.Mathlib.Nat.{add-zero}
-use lib.ListN.{length, take, drop, set, getD}
-use lib.Seq.{getD-drop, drop-set-lt, drop-drop}
+use lib.ListN.{length, take, drop, set, getD, take-append-drop}
+use lib.Seq.{getD-drop, drop-set-lt, drop-drop, length-take-le}
 use Rattle.base.specs.Keyed.{kept}
-use Rattle.base.proofs.Kept.{keep-turn, leave-turn, keep-end}
+use Rattle.base.proofs.Arrays.{take-count}
+use Rattle.base.proofs.Kept.{keep-turn, leave-turn, keep-end, kept-whole}
 
 module _ {X : Type 0} (p : X → Bool) (u : ℕ) (L : List X) where
   -- at the i-th of the first u of the array L, which is l by now and has w that stayed at its front
@@ -42,3 +43,13 @@ module _ {X : Type 0} (p : X → Bool) (u : ℕ) (L : List X) where
 
     pub keeping-end : length (take u L) ≤ i → take w l ≡ kept p (take u L)
     keeping-end h = keep-end p u L l w i h (g .view)
+
+  -- where as many stayed as there were, each was written where it stood: the array is as it was
+  pub keeping-all : (l : List X) (w i : ℕ) → take w l ≡ kept p (take u L) → drop i l ≡ drop i L → length (take u L) ≤ i → i ≤ w → w ≤ length l → l ≡ L
+  keeping-all l w i front past b a r =
+      let m : length (take w l) ≡ w = length-take-le w l r in
+      let k : take w l ≡ take u L = front ∙ kept-whole p (take u L) (omega (arith, rw front at m)) in
+      let e : w ≡ i = omega (arith, rw k at m) in
+      let c : length (take u L) ≡ i = omega (arith, rw k at m) in
+      let q : take i l ≡ take i L = rw e at k ∙ take-count u L ∙ rw c in
+      sym (take-append-drop i l) ∙ rw (q, past) (take-append-drop i L)

@@ -52,6 +52,15 @@ module _ {X : Type 0} where
         let n = kept-length xs in
         elim (p x) as (λ b. length (pick b (x ∷ kept p xs) (kept p xs)) ≤ suc (length xs)) [ true ↦ omega arith | false ↦ omega arith ]
 
+    -- as many are kept as there were: so all
+    pub kept-whole : (l : List X) → length l ≤ length (kept p l) → kept p l ≡ l
+    unfolding kept
+    kept-whole [] h = refl
+    kept-whole (x ∷ xs) h =
+        elim (p x) as (λ b. suc (length xs) ≤ length (pick b (x ∷ kept p xs) (kept p xs)) → pick b (x ∷ kept p xs) (kept p xs) ≡ x ∷ xs)
+        [ true ↦ λ g. ap (λ (r : List X). x ∷ r) (kept-whole xs (omega arith)) | false ↦ λ g. absurd (omega (arith, kept-length xs)) ]
+        h
+
     pub kept-append : (l m : List X) → kept p (l ++ m) ≡ kept p l ++ kept p m
     unfolding kept
     kept-append [] m = refl

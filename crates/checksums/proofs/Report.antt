@@ -1,19 +1,18 @@
--- The loop of a report, on lists alone: what it keeps in place, and the place of the frame among those kept. Then the ways out of `report`.
+-- The loop of a report, on lists alone: the place of the frame among those that it keeps. Then the ways out of `report`.
 use borrow.Author.Tests.{lt-ltb, le-ltb, ltb-true, ltb-false, le-leb, lt-leb}
 use mathlib.Core.Bool.{Bool, true, false}
 use mathlib.Core.List.{List, [], _∷_, _++_}
-use mathlib.Core.Path.{_≡_, refl, sym, _∙_, ap}
+use mathlib.Core.Path.{_≡_, refl, sym, _∙_}
 use Prim.Native.Nat.{ℕ, zero, suc, _-_, _+_, _*_, _≤_, _<_}
 use native.Mathlib.Omega.{arith}
 use native.Mathlib.Numerals.{add-one}
 use lib.Dec.{leb, ltb, eqb}
-use lib.ListN.{length, take, set, take-append-drop}
+use lib.ListN.{length, take, set}
 use lib.Seq.{length-take-le, take-suc-set, take-set-lt}
 use Rattle.base.specs.Pick.{pick}
 use Rattle.base.specs.Keyed.{kept, has, place}
-use Rattle.base.proofs.Arrays.{take-count, store-end}
-use Rattle.base.proofs.Kept.{kept-length}
-use Rattle.base.proofs.InPlace.{Keeping, keeping-end}
+use Rattle.base.proofs.Arrays.{store-end}
+use Rattle.base.proofs.InPlace.{Keeping, keeping-end, keeping-all}
 use Rattle.base.proofs.Removal.{has-place, place-le, put-held, put-new}
 use Rattle.checksums.specs.declared.Checksum.{Checksum}
 use Rattle.checksums.specs.declared.Checksums.{Checksums}
@@ -25,24 +24,6 @@ module _ {X : Type 0} (p : X → Bool) where
   unfolding kept
   kept-all h [] = refl
   kept-all h (x ∷ xs) = rw (h x, kept-all h xs)
-
-  -- as many are kept as there were: so all
-  kept-whole : (l : List X) → length l ≤ length (kept p l) → kept p l ≡ l
-  unfolding kept
-  kept-whole [] h = refl
-  kept-whole (x ∷ xs) h =
-      elim (p x) as (λ b. suc (length xs) ≤ length (pick b (x ∷ kept p xs) (kept p xs)) → pick b (x ∷ kept p xs) (kept p xs) ≡ x ∷ xs)
-      [ true ↦ λ g. ap (λ (r : List X). x ∷ r) (kept-whole xs (omega arith)) | false ↦ λ g. absurd (omega (arith, kept-length p xs)) ]
-      h
-
-  -- a loop that kept all wrote each where it stood: the array is as it was
-  pub keeping-all : (u : ℕ) (L l : List X) (w i : ℕ) → Keeping p u L l w i → i ≡ length (take u L) → w ≡ i → w ≤ length l → l ≡ L
-  keeping-all u L l w i g e a b =
-      let f : take w l ≡ kept p (take u L) = keeping-end p u L l w i g (omega arith) in
-      let m : length (take w l) ≡ w = length-take-le w l b in
-      let k : kept p (take u L) ≡ take u L = kept-whole (take u L) (omega (arith, rw f at m)) in
-      let q : take i l ≡ take i L = rw a at f ∙ k ∙ take-count u L ∙ rw (← e) in
-      sym (take-append-drop i l) ∙ rw (q, g .ahead) (take-append-drop i L)
 
 -- the place of a key among the first w of an array, with one more written behind them
 module _ {X : Type 0} (key : X → ℕ) (k : ℕ) where
@@ -97,12 +78,13 @@ pub swept : (s : Checksums) (frame interval line : ℕ) (l : List Checksum) (w a
 unfolding stored
 swept s frame interval line l w at i el g ea all fewer bound size =
     let p : Checksum → Bool = λ x. leb line (x .frame) in
+    let front = keeping-end p (s .used) (s .entries) l w i g (omega arith) in
     record {
-      front = keeping-end p (s .used) (s .entries) l w i g (omega arith) ∙ rw (el, cleaned-line frame interval (stored s));
+      front = front ∙ rw (el, cleaned-line frame interval (stored s));
       placed = ea;
       few = omega arith;
       long = size;
-      whole = λ e. keeping-all p (s .used) (s .entries) l w i g all (omega arith) (omega arith);
+      whole = λ e. keeping-all p (s .used) (s .entries) l w i front (g .ahead) (omega arith) (omega arith) (omega arith);
     }
 
 -- the ways out of `report`

@@ -1,15 +1,16 @@
 -- What `keep_others` leaves of a store makes what spending and issuing give: where all nonces stay the array is as it was.
 use borrow.Author.Tests.{lt-ltb, le-ltb}
-use mathlib.Core.Bool.{Bool, true, false}
+use mathlib.Core.Bool.{Bool, true, false, not}
 use mathlib.Core.List.{List}
 use mathlib.Core.Path.{_≡_, refl, sym, _∙_}
 use Prim.Native.Nat.{ℕ, _+_, _≤_, _<_}
 use native.Mathlib.Omega.{arith}
-use lib.Dec.{ltb}
-use lib.ListN.{length, take, set, take-append-drop}
+use lib.Dec.{ltb, eqb}
+use lib.ListN.{length, take, set}
 use lib.Seq.{length-take-le}
+use Rattle.base.specs.Keyed.{without}
 use Rattle.base.proofs.Arrays.{take-count, view-le, store-end}
-use Rattle.base.proofs.Removal.{without-none}
+use Rattle.base.proofs.InPlace.{keeping-all}
 use Rattle.nonces.specs.declared.Nonces.{Nonces}
 use Rattle.nonces.specs.Nonces.{outstanding, isOutstanding, spent, issued, fits, renewed, KeptAs, IssuedAs, SpentAs}
 use Rattle.nonces.proofs.Laws.{spent-fewer, fits-after-spent}
@@ -37,19 +38,12 @@ module _ (s : Nonces) (long : length (s .list) ≡ 256) (n : ℕ) (counted : n �
     fewer : ltb kept n ≡ isOutstanding nonce (outstanding s)
     fewer = rw (many, counted) (spent-fewer nonce (outstanding s))
 
-    -- as many stay as there were: so none went, each stands where it stood, and past them nothing was written
-    module _ (all : n ≤ kept) where
-      none-gone : spent nonce (outstanding s) ≡ outstanding s
-      none-gone = without-none (λ x. x) nonce (outstanding s) (sym fewer ∙ le-ltb kept n all)
-
-      unchanged : l ≡ s .list
-      unchanged =
-          let e : kept ≡ n = omega (arith, k .fewer) in
-          let f : take n l ≡ take n (s .list) = rw e at front ∙ none-gone ∙ sym first in
-          sym (take-append-drop n l) ∙ rw (f, k .past) (take-append-drop n (s .list))
-
-      same-store : _≡_ {A = Nonces} (record { list = l; used = s .used }) s
-      same-store = rw unchanged
+    -- as many stay as there were: so none went
+    same-store : n ≤ kept → _≡_ {A = Nonces} (record { list = l; used = s .used }) s
+    unfolding without
+    same-store all =
+        let seen = length-take-le n (s .list) (omega (arith, count-le)) in
+        rw (keeping-all (λ x. not (eqb nonce x)) n (s .list) l kept n (k .front) (k .past) (omega arith) all (omega (arith, count-le, k .long, k .fewer)))
 
     -- each law takes the answer's flag, and what its test says of the numbers
     module _ (goesOn : Bool) (next : ℕ) where
