@@ -75,10 +75,18 @@ spent-absent : spent 9 (4 ∷ 7 ∷ []) ≡ 4 ∷ 7 ∷ []
 unfolding without kept
 spent-absent = refl
 
--- worked: with the next one issued in its place; one that is not outstanding brings none
+-- worked: with the next one issued at the end, also where that is outstanding or the one spent; one that is not outstanding brings none
 renewed-example : renewed 4 true 9 (4 ∷ 7 ∷ []) ≡ 7 ∷ 9 ∷ []
 unfolding renewed issued has without kept
 renewed-example = refl
+
+renewed-among : renewed 4 true 7 (4 ∷ 7 ∷ 9 ∷ []) ≡ 9 ∷ 7 ∷ []
+unfolding renewed issued has without kept
+renewed-among = refl
+
+renewed-same : renewed 4 true 4 (4 ∷ 7 ∷ []) ≡ 7 ∷ 4 ∷ []
+unfolding renewed issued has without kept
+renewed-same = refl
 
 renewed-last : renewed 4 false 9 (4 ∷ 7 ∷ []) ≡ 7 ∷ []
 unfolding renewed issued has without kept
