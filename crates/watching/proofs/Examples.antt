@@ -1,7 +1,7 @@
 -- Worked examples of a session, computed from `step` on a fresh one: what the source does, with the changes that document 01 states.
 use mathlib.Core.Bool.{Bool, true, false}
 use mathlib.Core.List.{List, [], _∷_}
-use mathlib.Core.Path.{_≡_, refl}
+use mathlib.Core.Path.{_≡_, refl, ap, _∙_}
 use Prim.Native.Nat.{ℕ, _+_, _-_, _^_}
 use lib.ListN.{length, replicate}
 use Rattle.base.specs.Keyed.{kept, has, without}
@@ -25,7 +25,7 @@ use Rattle.timers.specs.Timers.{madeAt}
 use Rattle.protocol.specs.declared.Phase.the-variants as Phase
 use Rattle.setup.specs.declared.DesyncDetection.the-variants.{Off}
 use Rattle.setup.specs.Setup.{badSetup, anyAbove, anyTwice, inserted, sorted, termsWith}
-use Rattle.protocol.specs.Seen.{Seen, made, withEvents as withHostEvents, withQuality, withQueued}
+use Rattle.protocol.specs.Seen.{Seen, made, withPhase, withSync, withEvents as withHostEvents, withQuality, withQueued}
 use Rattle.outbox.specs.Outbox.{sizes}
 use Rattle.protocol.specs.Did.{refused as hostRefused, decided as hostDecided, queueWire, done}
 use Rattle.protocol.specs.Room.{bufferFull, isFull}
@@ -201,6 +201,24 @@ setups = (refl, refl, refl, refl, refl, refl, refl, refl, refl, refl, refl, refl
 
 -- ---- handshake
 
+-- the session after the request and two of the replies: each half of the handshake is computed from a state that is written out
+abbrev halfway : Watch
+halfway =
+    let w : Watch = synced 4 8 2 1 in
+    let h : Seen = w .host in
+    withHost (withPhase Phase.Synchronizing (withSync (record { remaining = 3; nonces = 3 ∷ []; remoteMagic = 0 }) (withHostEvents (plain (Event.Synchronizing 5 1) ∷ plain (Event.Synchronizing 5 2) ∷ []) (withQueued 30 h)))) w
+
+half : after (Call.synchronize 1000 (epochAt 1000) 1 65536 ∷ reply 1 2 ∷ reply 2 3 ∷ []) (new 4 8 2 1) ≡ halfway
+unfolding kept has without xors framesOf unpack pack decodableLength decodable zeros padded dropTo lastTo room blank highest newestOf foundIn atLine above numbered packetOf takenIn issued fits defaultStatus reported merged mergedAll freshStatuses hasRoom inputOf inputEntry announced badSetup anyAbove anyTwice inserted sorted termsWith made hostRefused hostDecided queueWire sizes done bufferFull isFull nonceIssued request started synchronized counted running replied onSyncReply droppedTo acknowledged pendingQueued referenceFrame taken receivedIf receive announcedEach discarded packetOverflows statusesMerged informed gotten inputTaken inputUnless onInput resent actReported keptAlive interrupted timedOut acted clamped reportQueued roundTrip roundTripNoted onQualityReply advantageOf advantageOverflows localAdvantage advantageUpdated synchronizeStep filtered ignored resumed heard onBody messageStep actStep advantageStep takeStep statsOf filledPart hostSetup badLimits badSession madeWatch blankInput freshInputs inputStored inputAt lastOf toldTo tell inputHandled handled handledAll framesToAdvance framesRefusal syncedAt requestAt requestsFrom requestsOf advanceRefusal fresh refused decided byHost hostActs hostTakes pollRefusal polled pollStep advanceStep framesBehindStep step valueOf
+half = refl
+
+rest : after (reply 3 4 ∷ reply 4 5 ∷ reply 5 6 ∷ []) halfway ≡ synced 4 8 2 1
+unfolding kept has without xors framesOf unpack pack decodableLength decodable zeros padded dropTo lastTo room blank highest newestOf foundIn atLine above numbered packetOf takenIn issued fits defaultStatus reported merged mergedAll freshStatuses hasRoom inputOf inputEntry announced badSetup anyAbove anyTwice inserted sorted termsWith made hostRefused hostDecided queueWire sizes done bufferFull isFull nonceIssued request started synchronized counted running replied onSyncReply droppedTo acknowledged pendingQueued referenceFrame taken receivedIf receive announcedEach discarded packetOverflows statusesMerged informed gotten inputTaken inputUnless onInput resent actReported keptAlive interrupted timedOut acted clamped reportQueued roundTrip roundTripNoted onQualityReply advantageOf advantageOverflows localAdvantage advantageUpdated synchronizeStep filtered ignored resumed heard onBody messageStep actStep advantageStep takeStep statsOf filledPart hostSetup badLimits badSession madeWatch blankInput freshInputs inputStored inputAt lastOf toldTo tell inputHandled handled handledAll framesToAdvance framesRefusal syncedAt requestAt requestsFrom requestsOf advanceRefusal fresh refused decided byHost hostActs hostTakes pollRefusal polled pollStep advanceStep framesBehindStep step valueOf
+rest = refl
+
+shaken : after handshake (new 4 8 2 1) ≡ synced 4 8 2 1
+shaken = ap (after (reply 3 4 ∷ reply 4 5 ∷ reply 5 6 ∷ [])) half ∙ rest
+
 -- Running comes with the poll that handles Synchronized, not with the fifth reply; each event has the host's peer number
 handshakes :
     (step Call.advanceFrame (new 4 8 2 1) .answer ≡ 14)
@@ -223,7 +241,7 @@ handshakes :
     × (step (Call.synchronize 1000 (epochAt 1000) 1 65536) (ready 4 8 2 1) .answer ≡ 2)
     × (step (Call.synchronize 1000 (epochAt 1000) 1 9) (new 4 8 2 1) ≡ record { answer = 5; after = new 4 8 2 1; out = [] })
 unfolding kept has without xors framesOf unpack pack decodableLength decodable zeros padded dropTo lastTo room blank highest newestOf foundIn atLine above numbered packetOf takenIn issued fits defaultStatus reported merged mergedAll freshStatuses hasRoom inputOf inputEntry announced badSetup anyAbove anyTwice inserted sorted termsWith made hostRefused hostDecided queueWire sizes done bufferFull isFull nonceIssued request started synchronized counted running replied onSyncReply droppedTo acknowledged pendingQueued referenceFrame taken receivedIf receive announcedEach discarded packetOverflows statusesMerged informed gotten inputTaken inputUnless onInput resent actReported keptAlive interrupted timedOut acted clamped reportQueued roundTrip roundTripNoted onQualityReply advantageOf advantageOverflows localAdvantage advantageUpdated synchronizeStep filtered ignored resumed heard onBody messageStep actStep advantageStep takeStep statsOf filledPart hostSetup badLimits badSession madeWatch blankInput freshInputs inputStored inputAt lastOf toldTo tell inputHandled handled handledAll framesToAdvance framesRefusal syncedAt requestAt requestsFrom requestsOf advanceRefusal fresh refused decided byHost hostActs hostTakes pollRefusal polled pollStep advanceStep framesBehindStep step valueOf
-handshakes = (refl, refl, refl, refl, refl, refl, refl, refl, refl)
+handshakes = (refl, shaken, refl, refl, refl, refl, refl, refl, refl)
 
 -- ---- inputs
 
@@ -342,8 +360,28 @@ abbrev slowly : Watch
 slowly = after (two ∷ poll ∷ []) slow
 
 -- and after an advantage of 3
+abbrev slowed : Watch → Watch
+slowed w = after (packet (fr 2) none (1 ∷ 1 ∷ []) ∷ poll ∷ []) (withHost (withQuality (tripNoted 71582790 (w .host .quality)) (w .host)) w)
+
 abbrev slower : Watch
-slower = after (packet (fr 2) none (1 ∷ 1 ∷ []) ∷ poll ∷ []) (withHost (withQuality (tripNoted 71582790 (paced .host .quality)) (paced .host)) paced)
+slower = slowed paced
+
+-- `paced` written out, and what is computed from it
+abbrev pacedAs : Watch
+pacedAs =
+    let h : Seen = stored .host in
+    withHost (withQuality (record { «local_frame_advantage» = bias32 + 3; «remote_frame_advantage» = bias32; «round_trip_time» = 100; «stats_start_time» = epochAt 1000 }) h) stored
+
+paced-is : paced ≡ pacedAs
+unfolding kept has without xors framesOf unpack pack decodableLength decodable zeros padded dropTo lastTo room blank highest newestOf foundIn atLine above numbered packetOf takenIn issued fits defaultStatus reported merged mergedAll freshStatuses hasRoom inputOf inputEntry announced badSetup anyAbove anyTwice inserted sorted termsWith made hostRefused hostDecided queueWire sizes done bufferFull isFull nonceIssued request started synchronized counted running replied onSyncReply droppedTo acknowledged pendingQueued referenceFrame taken receivedIf receive announcedEach discarded packetOverflows statusesMerged informed gotten inputTaken inputUnless onInput resent actReported keptAlive interrupted timedOut acted clamped reportQueued roundTrip roundTripNoted onQualityReply advantageOf advantageOverflows localAdvantage advantageUpdated synchronizeStep filtered ignored resumed heard onBody messageStep actStep advantageStep takeStep statsOf filledPart hostSetup badLimits badSession madeWatch blankInput freshInputs inputStored inputAt lastOf toldTo tell inputHandled handled handledAll framesToAdvance framesRefusal syncedAt requestAt requestsFrom requestsOf advanceRefusal fresh refused decided byHost hostActs hostTakes pollRefusal polled pollStep advanceStep framesBehindStep step valueOf
+paced-is = refl
+
+slowed-is : (slowed pacedAs .host .quality .«local_frame_advantage» ≡ bias32 + 3) × (slowed pacedAs .newest ≡ fr 2)
+unfolding kept has without xors framesOf unpack pack decodableLength decodable zeros padded dropTo lastTo room blank highest newestOf foundIn atLine above numbered packetOf takenIn issued fits defaultStatus reported merged mergedAll freshStatuses hasRoom inputOf inputEntry announced badSetup anyAbove anyTwice inserted sorted termsWith made hostRefused hostDecided queueWire sizes done bufferFull isFull nonceIssued request started synchronized counted running replied onSyncReply droppedTo acknowledged pendingQueued referenceFrame taken receivedIf receive announcedEach discarded packetOverflows statusesMerged informed gotten inputTaken inputUnless onInput resent actReported keptAlive interrupted timedOut acted clamped reportQueued roundTrip roundTripNoted onQualityReply advantageOf advantageOverflows localAdvantage advantageUpdated synchronizeStep filtered ignored resumed heard onBody messageStep actStep advantageStep takeStep statsOf filledPart hostSetup badLimits badSession madeWatch blankInput freshInputs inputStored inputAt lastOf toldTo tell inputHandled handled handledAll framesToAdvance framesRefusal syncedAt requestAt requestsFrom requestsOf advanceRefusal fresh refused decided byHost hostActs hostTakes pollRefusal polled pollStep advanceStep framesBehindStep step valueOf
+slowed-is = (refl, refl)
+
+slower-is : (slower .host .quality .«local_frame_advantage» ≡ bias32 + 3) × (slower .newest ≡ fr 2)
+slower-is = (ap (λ (w : Watch). slowed w .host .quality .«local_frame_advantage») paced-is ∙ slowed-is .0, ap (λ (w : Watch). slowed w .newest) paced-is ∙ slowed-is .1)
 
 overflows :
     -- i32 max less -1
@@ -362,7 +400,7 @@ overflows :
     × (slowly .statuses ≡ stored .statuses)
     × (slowly .inputs ≡ stored .inputs)
 unfolding kept has without xors framesOf unpack pack decodableLength decodable zeros padded dropTo lastTo room blank highest newestOf foundIn atLine above numbered packetOf takenIn issued fits defaultStatus reported merged mergedAll freshStatuses hasRoom inputOf inputEntry announced badSetup anyAbove anyTwice inserted sorted termsWith made hostRefused hostDecided queueWire sizes done bufferFull isFull nonceIssued request started synchronized counted running replied onSyncReply droppedTo acknowledged pendingQueued referenceFrame taken receivedIf receive announcedEach discarded packetOverflows statusesMerged informed gotten inputTaken inputUnless onInput resent actReported keptAlive interrupted timedOut acted clamped reportQueued roundTrip roundTripNoted onQualityReply advantageOf advantageOverflows localAdvantage advantageUpdated synchronizeStep filtered ignored resumed heard onBody messageStep actStep advantageStep takeStep statsOf filledPart hostSetup badLimits badSession madeWatch blankInput freshInputs inputStored inputAt lastOf toldTo tell inputHandled handled handledAll framesToAdvance framesRefusal syncedAt requestAt requestsFrom requestsOf advanceRefusal fresh refused decided byHost hostActs hostTakes pollRefusal polled pollStep advanceStep framesBehindStep step valueOf
-overflows = (refl, refl, refl, refl, refl, refl, refl, refl, refl, refl, refl)
+overflows = (refl, refl, refl, refl, refl, refl, slower-is .0, slower-is .1, refl, refl, refl)
 
 -- ---- the poll's refusals
 
