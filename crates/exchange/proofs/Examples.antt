@@ -35,7 +35,7 @@ use Rattle.setup.specs.declared.Setup.{Setup}
 use Rattle.setup.specs.declared.DesyncDetection.the-variants.{Off}
 use Rattle.setup.specs.Setup.{badSetup, anyAbove, anyTwice, inserted, sorted, termsWith}
 use Rattle.outbox.specs.Outbox.{sizes, reportOf, pendingInput}
-use Rattle.protocol.specs.declared.Phase.the-variants.{Running}
+use Rattle.protocol.specs.declared.Phase.the-variants.{Synchronizing, Running}
 use Rattle.protocol.specs.Seen.{Seen, Sender, made, withCarried, withPhase, withSync, withQuality, withEvents, withQueued, sentAt, heardAt, inputAt}
 use Rattle.protocol.specs.Did.{refused, decided, queueWire, done}
 use Rattle.protocol.specs.Room.{bufferFull, isFull}
@@ -167,13 +167,47 @@ ready g magic other =
       accepted = [];
     }
 
-a-ready : nexts (greeting 9) a0 ≡ ready wide 7 9
+-- the handshake by halves, each computed from a state that is written out: after the request and two of the replies
+abbrev first-half : (magic : ℕ) → List Call
+first-half magic = starting ∷ reply magic 1 ∷ reply magic 2 ∷ []
+
+abbrev second-half : (magic : ℕ) → List Call
+second-half magic = reply magic 3 ∷ reply magic 4 ∷ reply magic 5 ∷ []
+
+abbrev halfway : Setup → (magic : ℕ) → End
+halfway g magic =
+    record {
+      state =
+          withPhase Synchronizing
+          (withSync (record { remaining = 3; nonces = 3 ∷ []; remoteMagic = 0 })
+          (withQuality (startedAt 71000 freshQuality)
+          (withEvents (happened (Event.Synchronizing 5 1) ∷ happened (Event.Synchronizing 5 2) ∷ []) (withQueued 30 (fresh g 1000 .1)))));
+      queued = plain magic (SyncRequest 1) ∷ plain magic (SyncRequest 2) ∷ plain magic (SyncRequest 3) ∷ [];
+      taken = [];
+      accepted = [];
+    }
+
+a-half : nexts (first-half 9) a0 ≡ halfway wide 7
 unfolding kept has without xors framesOf unpack pack decodableLength decodable zeros padded dropTo lastTo room firstFrame lastFrame payload blank highest newestOf foundIn atLine above numbered packetOf takenIn issued fits defaultStatus reported merged mergedAll freshStatuses hasRoom inputOf inputEntry announced badSetup anyAbove anyTwice inserted sorted termsWith made refused decided queueWire sizes reportOf pendingInput done bufferFull isFull nonceIssued request started synchronized counted running replied onSyncReply droppedTo acknowledged badFrame pendingQueued accepted tooMany inputSent referenceFrame taken receivedIf receive announcedEach discarded packetOverflows statusesMerged informed gotten inputTaken inputUnless onInput onInputAck fresh synchronizeStep filtered ignored resumed heard onBody messageStep sendStep step joined announcedIn
-a-ready = refl
+a-half = refl
+
+a-rest : nexts (second-half 9) (halfway wide 7) ≡ ready wide 7 9
+unfolding kept has without xors framesOf unpack pack decodableLength decodable zeros padded dropTo lastTo room firstFrame lastFrame payload blank highest newestOf foundIn atLine above numbered packetOf takenIn issued fits defaultStatus reported merged mergedAll freshStatuses hasRoom inputOf inputEntry announced badSetup anyAbove anyTwice inserted sorted termsWith made refused decided queueWire sizes reportOf pendingInput done bufferFull isFull nonceIssued request started synchronized counted running replied onSyncReply droppedTo acknowledged badFrame pendingQueued accepted tooMany inputSent referenceFrame taken receivedIf receive announcedEach discarded packetOverflows statusesMerged informed gotten inputTaken inputUnless onInput onInputAck fresh synchronizeStep filtered ignored resumed heard onBody messageStep sendStep step joined announcedIn
+a-rest = refl
+
+a-ready : nexts (greeting 9) a0 ≡ ready wide 7 9
+a-ready = ap (nexts (second-half 9)) a-half ∙ a-rest
+
+b-half : nexts (first-half 7) b0 ≡ halfway narrow 9
+unfolding kept has without xors framesOf unpack pack decodableLength decodable zeros padded dropTo lastTo room firstFrame lastFrame payload blank highest newestOf foundIn atLine above numbered packetOf takenIn issued fits defaultStatus reported merged mergedAll freshStatuses hasRoom inputOf inputEntry announced badSetup anyAbove anyTwice inserted sorted termsWith made refused decided queueWire sizes reportOf pendingInput done bufferFull isFull nonceIssued request started synchronized counted running replied onSyncReply droppedTo acknowledged badFrame pendingQueued accepted tooMany inputSent referenceFrame taken receivedIf receive announcedEach discarded packetOverflows statusesMerged informed gotten inputTaken inputUnless onInput onInputAck fresh synchronizeStep filtered ignored resumed heard onBody messageStep sendStep step joined announcedIn
+b-half = refl
+
+b-rest : nexts (second-half 7) (halfway narrow 9) ≡ ready narrow 9 7
+unfolding kept has without xors framesOf unpack pack decodableLength decodable zeros padded dropTo lastTo room firstFrame lastFrame payload blank highest newestOf foundIn atLine above numbered packetOf takenIn issued fits defaultStatus reported merged mergedAll freshStatuses hasRoom inputOf inputEntry announced badSetup anyAbove anyTwice inserted sorted termsWith made refused decided queueWire sizes reportOf pendingInput done bufferFull isFull nonceIssued request started synchronized counted running replied onSyncReply droppedTo acknowledged badFrame pendingQueued accepted tooMany inputSent referenceFrame taken receivedIf receive announcedEach discarded packetOverflows statusesMerged informed gotten inputTaken inputUnless onInput onInputAck fresh synchronizeStep filtered ignored resumed heard onBody messageStep sendStep step joined announcedIn
+b-rest = refl
 
 b-ready : nexts (greeting 7) b0 ≡ ready narrow 9 7
-unfolding kept has without xors framesOf unpack pack decodableLength decodable zeros padded dropTo lastTo room firstFrame lastFrame payload blank highest newestOf foundIn atLine above numbered packetOf takenIn issued fits defaultStatus reported merged mergedAll freshStatuses hasRoom inputOf inputEntry announced badSetup anyAbove anyTwice inserted sorted termsWith made refused decided queueWire sizes reportOf pendingInput done bufferFull isFull nonceIssued request started synchronized counted running replied onSyncReply droppedTo acknowledged badFrame pendingQueued accepted tooMany inputSent referenceFrame taken receivedIf receive announcedEach discarded packetOverflows statusesMerged informed gotten inputTaken inputUnless onInput onInputAck fresh synchronizeStep filtered ignored resumed heard onBody messageStep sendStep step joined announcedIn
-b-ready = refl
+b-ready = ap (nexts (second-half 7)) b-half ∙ b-rest
 
 -- ---- the exchange, with the ends as they stand midway
 
@@ -205,9 +239,28 @@ b2 =
       accepted = frame 0 1 2 ∷ frame 1 3 4 ∷ [];
     }
 
-b2-is : nexts (send 0 1 2 ∷ send 1 3 4 ∷ []) b1 ≡ b2
+-- what it sends from, written out
+abbrev b1-as : End
+b1-as =
+    record {
+      state =
+          playing narrow 7 (record { pending = []; acked = blank }) (blank ∷ entry 0 5 7 ∷ entry 1 6 8 ∷ []) 2002 2002 2002
+          (synchronizing ++ inputEntry (fr 0) 0 (5 ∷ []) ∷ inputEntry (fr 0) 1 (7 ∷ []) ∷ inputEntry (fr 1) 0 (6 ∷ []) ∷ inputEntry (fr 1) 1 (8 ∷ []) ∷ []) 80;
+      queued = requests 9 (ack 9 1 ∷ ack 9 1 ∷ ack 9 1 ∷ []);
+      taken = [];
+      accepted = [];
+    }
+
+b1-is : b1 ≡ b1-as
 unfolding kept has without xors framesOf unpack pack decodableLength decodable zeros padded dropTo lastTo room firstFrame lastFrame payload blank highest newestOf foundIn atLine above numbered packetOf takenIn issued fits defaultStatus reported merged mergedAll freshStatuses hasRoom inputOf inputEntry announced badSetup anyAbove anyTwice inserted sorted termsWith made refused decided queueWire sizes reportOf pendingInput done bufferFull isFull nonceIssued request started synchronized counted running replied onSyncReply droppedTo acknowledged badFrame pendingQueued accepted tooMany inputSent referenceFrame taken receivedIf receive announcedEach discarded packetOverflows statusesMerged informed gotten inputTaken inputUnless onInput onInputAck fresh synchronizeStep filtered ignored resumed heard onBody messageStep sendStep step joined announcedIn
-b2-is = refl
+b1-is = refl
+
+b2-from : nexts (send 0 1 2 ∷ send 1 3 4 ∷ []) b1-as ≡ b2
+unfolding kept has without xors framesOf unpack pack decodableLength decodable zeros padded dropTo lastTo room firstFrame lastFrame payload blank highest newestOf foundIn atLine above numbered packetOf takenIn issued fits defaultStatus reported merged mergedAll freshStatuses hasRoom inputOf inputEntry announced badSetup anyAbove anyTwice inserted sorted termsWith made refused decided queueWire sizes reportOf pendingInput done bufferFull isFull nonceIssued request started synchronized counted running replied onSyncReply droppedTo acknowledged badFrame pendingQueued accepted tooMany inputSent referenceFrame taken receivedIf receive announcedEach discarded packetOverflows statusesMerged informed gotten inputTaken inputUnless onInput onInputAck fresh synchronizeStep filtered ignored resumed heard onBody messageStep sendStep step joined announcedIn
+b2-from = refl
+
+b2-is : nexts (send 0 1 2 ∷ send 1 3 4 ∷ []) b1 ≡ b2
+b2-is = ap (nexts (send 0 1 2 ∷ send 1 3 4 ∷ [])) b1-is ∙ b2-from
 
 abbrev a2 : End
 a2 = next (hand J1 2003 0) a1
