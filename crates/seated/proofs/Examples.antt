@@ -23,7 +23,7 @@ use Rattle.events.specs.Events.{hasRoom, inputOf, inputEntry, announced}
 use Rattle.setup.specs.Setup.{badSetup, anyAbove, anyTwice, inserted, sorted, termsWith}
 use Rattle.quality.specs.Advantage.{advantageOf, advantageOverflows}
 use Rattle.outbox.specs.Outbox.{sizes}
-use Rattle.protocol.specs.Seen.{made, withEvents, withQueued}
+use Rattle.protocol.specs.Seen.{made}
 use Rattle.protocol.specs.Did.{refused as hostRefused, decided as hostDecided, queueWire, done}
 use Rattle.protocol.specs.Room.{bufferFull, isFull}
 use Rattle.protocol.specs.Handshake.{nonceIssued, request, started, synchronized, counted, running, replied, onSyncReply}
@@ -34,17 +34,16 @@ use Rattle.protocol.specs.Advantage.{localAdvantage, advantageUpdated}
 use Rattle.protocol.specs.Step.{synchronizeStep, filtered, ignored, resumed, heard, onBody, messageStep, actStep, advantageStep, takeStep}
 use Rattle.sound.specs.Each.{Each}
 use Rattle.watching.specs.declared.InputStatus.the-variants.{Confirmed}
-use Rattle.watching.specs.declared.SessionState.the-variants.{Synchronizing}
 use Rattle.watching.specs.declared.SyncedInput.{SyncedInput}
 use Rattle.watching.specs.declared.SessionSetup.{SessionSetup}
 use Rattle.watching.specs.Setup.{hostSetup, badLimits, badSession}
-use Rattle.watching.specs.Watch.{Watch, madeWatch, withHost, withState}
+use Rattle.watching.specs.Watch.{Watch, madeWatch}
 use Rattle.watching.specs.Inputs.{blankInput, freshInputs, inputStored, inputAt}
 use Rattle.watching.specs.Handling.{lastOf, toldTo, tell, inputHandled, handled, handledAll}
 use Rattle.watching.specs.Advance.{framesToAdvance, framesRefusal, syncedAt, requestAt, requestsFrom, requestsOf, advanceRefusal, heldAt, frameRefusal}
 use Rattle.watching.specs.Call.{Call}
 use Rattle.watching.specs.Step.{fresh, refused, decided, byHost, hostActs, hostTakes, pollRefusal, polled, pollStep, advanceStep, step}
-use Rattle.watching.proofs.Examples.{setupWith, new, ready, fr, none, reply, packet, poll, handshake}
+use Rattle.watching.proofs.Examples.{setupWith, new, ready, plain, synced, shaken, fr, none, reply, packet, poll, handshake}
 use Rattle.seated.specs.Typed.{Typed, TypedSession}
 use Rattle.seated.specs.Seated.{Rising, Seated, ran}
 use Rattle.seated.specs.Told.{allHandled, inputEvent}
@@ -174,19 +173,16 @@ calls-typed = (
 abbrev reached : Watch
 reached = ran calls (new 4 8 2 2)
 
-abbrev plain : Event → Entry
-plain event = record { event = event; input = replicate 16 0 }
-
 abbrev greetings : List Entry
 greetings = plain (Event.Synchronizing 5 1) ∷ plain (Event.Synchronizing 5 2) ∷ plain (Event.Synchronizing 5 3) ∷ plain (Event.Synchronizing 5 4) ∷ plain Event.Synchronized ∷ []
 
 -- after the handshake the host holds its events, and five requests are queued
 abbrev greeted : Watch
-greeted = let w : Watch = ready 4 8 2 2 in withState Synchronizing (withHost (withEvents greetings (withQueued 50 (w .host))) w)
+greeted = synced 4 8 2 2
 
 greeted-is : ran handshake (new 4 8 2 2) ≡ greeted
-unfolding kept has without blank issued fits defaultStatus freshStatuses hasRoom inserted sorted termsWith made hostRefused hostDecided queueWire sizes done bufferFull isFull nonceIssued request started synchronized counted running replied onSyncReply synchronizeStep filtered ignored resumed heard onBody messageStep hostSetup madeWatch freshInputs fresh byHost step ran
-greeted-is = refl
+unfolding ran
+greeted-is = shaken 4 8 2 2
 
 running-is : ran (poll ∷ Call.events ∷ []) greeted ≡ ready 4 8 2 2
 unfolding kept hasRoom hostDecided sizes done bufferFull isFull resent actReported keptAlive interrupted timedOut acted actStep takeStep lastOf toldTo tell handled handledAll decided hostActs hostTakes pollRefusal polled pollStep step ran

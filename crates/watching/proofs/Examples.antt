@@ -154,10 +154,10 @@ ready slots events behind speed =
     }
 
 -- the session before that poll: the host holds its events, and five requests are queued
-abbrev plain : Event → Entry
+abbrev pub plain : Event → Entry
 plain event = record { event = event; input = replicate 16 0 }
 
-abbrev synced : (slots events behind speed : ℕ) → Watch
+abbrev pub synced : (slots events behind speed : ℕ) → Watch
 synced slots events behind speed =
     let w : Watch = ready slots events behind speed in
     withState Synchronizing (withHost (withHostEvents (plain (Event.Synchronizing 5 1) ∷ plain (Event.Synchronizing 5 2) ∷ plain (Event.Synchronizing 5 3) ∷ plain (Event.Synchronizing 5 4) ∷ plain Event.Synchronized ∷ []) (withQueued 50 (w .host))) w)
@@ -202,22 +202,26 @@ setups = (refl, refl, refl, refl, refl, refl, refl, refl, refl, refl, refl, refl
 -- ---- handshake
 
 -- the session after the request and two of the replies: each half of the handshake is computed from a state that is written out
-abbrev halfway : Watch
-halfway =
-    let w : Watch = synced 4 8 2 1 in
-    let h : Seen = w .host in
-    withHost (withPhase Phase.Synchronizing (withSync (record { remaining = 3; nonces = 3 ∷ []; remoteMagic = 0 }) (withHostEvents (plain (Event.Synchronizing 5 1) ∷ plain (Event.Synchronizing 5 2) ∷ []) (withQueued 30 h)))) w
+abbrev halfway : (slots events behind speed : ℕ) → Watch
+halfway slots events behind speed =
+    let w : Watch = ready slots events behind speed in
+    withState Synchronizing
+    (withHost
+    (withPhase Phase.Synchronizing
+    (withSync (record { remaining = 3; nonces = 3 ∷ []; remoteMagic = 0 })
+    (withHostEvents (plain (Event.Synchronizing 5 1) ∷ plain (Event.Synchronizing 5 2) ∷ []) (withQueued 30 (w .host)))))
+    w)
 
-half : after (Call.synchronize 1000 (epochAt 1000) 1 65536 ∷ reply 1 2 ∷ reply 2 3 ∷ []) (new 4 8 2 1) ≡ halfway
+half : (slots events behind speed : ℕ) → after (Call.synchronize 1000 (epochAt 1000) 1 65536 ∷ reply 1 2 ∷ reply 2 3 ∷ []) (new slots events behind speed) ≡ halfway slots events behind speed
 unfolding kept has without xors framesOf unpack pack decodableLength decodable zeros padded dropTo lastTo room blank highest newestOf foundIn atLine above numbered packetOf takenIn issued fits defaultStatus reported merged mergedAll freshStatuses hasRoom inputOf inputEntry announced badSetup anyAbove anyTwice inserted sorted termsWith made hostRefused hostDecided queueWire sizes done bufferFull isFull nonceIssued request started synchronized counted running replied onSyncReply droppedTo acknowledged pendingQueued referenceFrame taken receivedIf receive announcedEach discarded packetOverflows statusesMerged informed gotten inputTaken inputUnless onInput resent actReported keptAlive interrupted timedOut acted clamped reportQueued roundTrip roundTripNoted onQualityReply advantageOf advantageOverflows localAdvantage advantageUpdated synchronizeStep filtered ignored resumed heard onBody messageStep actStep advantageStep takeStep statsOf filledPart hostSetup badLimits badSession madeWatch blankInput freshInputs inputStored inputAt lastOf toldTo tell inputHandled handled handledAll framesToAdvance framesRefusal syncedAt requestAt requestsFrom requestsOf advanceRefusal fresh refused decided byHost hostActs hostTakes pollRefusal polled pollStep advanceStep framesBehindStep step valueOf
-half = refl
+half slots events behind speed = refl
 
-rest : after (reply 3 4 ∷ reply 4 5 ∷ reply 5 6 ∷ []) halfway ≡ synced 4 8 2 1
+rest : (slots events behind speed : ℕ) → after (reply 3 4 ∷ reply 4 5 ∷ reply 5 6 ∷ []) (halfway slots events behind speed) ≡ synced slots events behind speed
 unfolding kept has without xors framesOf unpack pack decodableLength decodable zeros padded dropTo lastTo room blank highest newestOf foundIn atLine above numbered packetOf takenIn issued fits defaultStatus reported merged mergedAll freshStatuses hasRoom inputOf inputEntry announced badSetup anyAbove anyTwice inserted sorted termsWith made hostRefused hostDecided queueWire sizes done bufferFull isFull nonceIssued request started synchronized counted running replied onSyncReply droppedTo acknowledged pendingQueued referenceFrame taken receivedIf receive announcedEach discarded packetOverflows statusesMerged informed gotten inputTaken inputUnless onInput resent actReported keptAlive interrupted timedOut acted clamped reportQueued roundTrip roundTripNoted onQualityReply advantageOf advantageOverflows localAdvantage advantageUpdated synchronizeStep filtered ignored resumed heard onBody messageStep actStep advantageStep takeStep statsOf filledPart hostSetup badLimits badSession madeWatch blankInput freshInputs inputStored inputAt lastOf toldTo tell inputHandled handled handledAll framesToAdvance framesRefusal syncedAt requestAt requestsFrom requestsOf advanceRefusal fresh refused decided byHost hostActs hostTakes pollRefusal polled pollStep advanceStep framesBehindStep step valueOf
-rest = refl
+rest slots events behind speed = refl
 
-shaken : after handshake (new 4 8 2 1) ≡ synced 4 8 2 1
-shaken = ap (after (reply 3 4 ∷ reply 4 5 ∷ reply 5 6 ∷ [])) half ∙ rest
+pub shaken : (slots events behind speed : ℕ) → after handshake (new slots events behind speed) ≡ synced slots events behind speed
+shaken slots events behind speed = ap (after (reply 3 4 ∷ reply 4 5 ∷ reply 5 6 ∷ [])) (half slots events behind speed) ∙ rest slots events behind speed
 
 -- Running comes with the poll that handles Synchronized, not with the fifth reply; each event has the host's peer number
 handshakes :
@@ -241,7 +245,7 @@ handshakes :
     × (step (Call.synchronize 1000 (epochAt 1000) 1 65536) (ready 4 8 2 1) .answer ≡ 2)
     × (step (Call.synchronize 1000 (epochAt 1000) 1 9) (new 4 8 2 1) ≡ record { answer = 5; after = new 4 8 2 1; out = [] })
 unfolding kept has without xors framesOf unpack pack decodableLength decodable zeros padded dropTo lastTo room blank highest newestOf foundIn atLine above numbered packetOf takenIn issued fits defaultStatus reported merged mergedAll freshStatuses hasRoom inputOf inputEntry announced badSetup anyAbove anyTwice inserted sorted termsWith made hostRefused hostDecided queueWire sizes done bufferFull isFull nonceIssued request started synchronized counted running replied onSyncReply droppedTo acknowledged pendingQueued referenceFrame taken receivedIf receive announcedEach discarded packetOverflows statusesMerged informed gotten inputTaken inputUnless onInput resent actReported keptAlive interrupted timedOut acted clamped reportQueued roundTrip roundTripNoted onQualityReply advantageOf advantageOverflows localAdvantage advantageUpdated synchronizeStep filtered ignored resumed heard onBody messageStep actStep advantageStep takeStep statsOf filledPart hostSetup badLimits badSession madeWatch blankInput freshInputs inputStored inputAt lastOf toldTo tell inputHandled handled handledAll framesToAdvance framesRefusal syncedAt requestAt requestsFrom requestsOf advanceRefusal fresh refused decided byHost hostActs hostTakes pollRefusal polled pollStep advanceStep framesBehindStep step valueOf
-handshakes = (refl, shaken, refl, refl, refl, refl, refl, refl, refl)
+handshakes = (refl, shaken 4 8 2 1, refl, refl, refl, refl, refl, refl, refl)
 
 -- ---- inputs
 
