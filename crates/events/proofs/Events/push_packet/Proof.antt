@@ -6,7 +6,7 @@ use mathlib.Core.Bool.{true}
 use mathlib.Core.List.{[], _∷_, _++_, append-nil, append-assoc}
 use mathlib.Core.Logic.{⊎-elim}
 use mathlib.Core.Path.{_≡_, refl, sym, _∙_}
-use Prim.Native.Nat.{_+_, _-_, _*_, _^_, _<_, _≤_}
+use Prim.Native.Nat.{ℕ, _+_, _-_, _*_, _^_, _<_, _≤_, min}
 use native.Mathlib.Omega.{arith}
 use native.Mathlib.Nat.{add-zero, sub-zero}
 use lib.Dec.{leb}
@@ -42,6 +42,39 @@ Inv-frames resumed disconnected frame count payload at width reference handle-co
 
 abbrev μ-frames : tie.MeasureT-frames
 μ-frames resumed disconnected frame count payload at width reference handle-count size self₀ handles players used ok end to₀ from₀ k₀ self to from k = count - k
+
+-- ---- the numbers of a turn, apart from all else that is known there
+
+least-of : (x y z : ℕ) → z ≡ min x y → z ≤ y
+least-of x y z e = omega arith
+
+below : (i x y z : ℕ) → i < z → z ≡ min x y → i < x
+below i x y z h e = omega arith
+
+next : (i n : ℕ) → i < n → i + 1 ≤ n
+next i n h = omega arith
+
+less : (i n : ℕ) → i < n → n - (i + 1) < n - i
+less i n h = omega arith
+
+within : (to room : ℕ) → to ≤ 640 → room ≡ 640 → to ≤ room
+within to room h e = omega arith
+
+-- the players, and as many handles
+as-many : (n given there all : ℕ) → n ≡ min given 4 → there ≡ 4 → all ≡ min given there → (n ≤ 4) × (n ≡ all)
+as-many n given there all e f g = omega arith
+
+-- one handle further
+further : (i n to room all : ℕ) → i < n → to + (n - i) ≤ 640 → room ≡ 640 → n ≡ all → (i + 1 ≤ n) × (to + 1 + (n - (i + 1)) ≤ 640) × (to < room) × (i < all)
+further i n to room all h f r e = omega arith
+
+-- a frame's first handle
+opening : (frame count k to n all len most : ℕ) → k < count → frame + count ≤ 2 ^ 32 → n ≡ all → len ≡ to → len + all ≤ most → most ≤ 640 → (0 ≤ n) × (0 ≤ 64) × (to + (n - 0) ≤ 640) × (frame + k < 2 ^ 32)
+opening frame count k to n all len most h f e g r m = omega arith
+
+-- and its last
+closing : (i n to all width : ℕ) → n ≤ i → to + (n - i) ≤ 640 → n ≡ all → width ≡ 64 → (to ≤ 640) × (all ≤ i) × (width ≤ 64)
+closing i n to all width h f e w = omega arith
 
 long : (c : tie.Start Inv-handles μ-handles Inv-frames μ-frames) → length (c .args .t1 .entries) ≡ 640
 long c = search (unmap, needs)
@@ -167,13 +200,14 @@ frames-holds c =
     let t = length-take (a .handle-count) (a .t10) in
     let f = fit (c .before .before .before) in
     let fs = framesOf (a .width) (a .reference) (a .count) (drop (a .at) (a .payload .now)) in
+    let n = as-many _ (a .handle-count) _ _ p (w .0) t in
     let k = packet-length (a .frame) (a .size) (a .width) (a .reference) hs (drop (a .at) (a .payload .now)) (a .count) in (
       omega arith,
-      omega (arith, c .least2 .ensures),
+      least-of _ _ _ (c .least2 .ensures),
       refl,
-      omega arith,
+      n .0,
       omega (arith, b .place),
-      omega arith,
+      n .1,
       w .0,
       w .1,
       f .0,
@@ -190,9 +224,10 @@ handles-holds c =
     let a = c .before .before .before .before .before .before .before .before .before .before .before .before .before .args in
     let f = c .before .before .frames in
     let hs = take (a .handle-count) (a .t10) in
-    let r = packet-room (a .frame) (a .size) (a .width) (a .reference) hs (a .payload .now) (a .count) (f .k) (take (f .to) (f .self .entries)) _ (drop (f .from) (a .payload .now)) (f .inv .11) (omega arith) in
-    let t = length-take-le (f .to) (f .self .entries) (omega arith) in
-    (omega arith, omega arith, f .inv .3, omega arith, f .inv .5, f .inv .6, rw (c .frame-at .ensures) (padded-length _), f .inv .9, omega arith, refl)
+    let r = packet-room (a .frame) (a .size) (a .width) (a .reference) hs (a .payload .now) (a .count) (f .k) (take (f .to) (f .self .entries)) _ (drop (f .from) (a .payload .now)) (f .inv .11) (c .before .frames-test .taken) in
+    let t = length-take-le (f .to) (f .self .entries) (within (f .to) _ (f .inv .4) (f .inv .9)) in
+    let n = opening (a .frame) (a .count) (f .k) (f .to) _ _ _ _ (c .before .frames-test .taken) (f .inv .8) (f .inv .5) t r (f .inv .10) in
+    (n .0, n .1, f .inv .3, n .2, f .inv .5, f .inv .6, rw (c .frame-at .ensures) (padded-length _), f .inv .9, n .3, refl)
 
 add-input-entry : tie.Need-add-input-entry Inv-handles μ-handles Inv-frames μ-frames
 add-input-entry c = omega arith
@@ -222,24 +257,25 @@ add-i : tie.Need-add-i Inv-handles μ-handles Inv-frames μ-frames
 add-i c = omega arith
 
 handles-less : tie.Need-handles-less Inv-handles μ-handles Inv-frames μ-frames
-handles-less c = omega arith
+handles-less c = less (c .before .before .before .before .handles .i) _ (c .before .before .before .handles-test .taken)
 
 handles-again : tie.Need-handles-again Inv-handles μ-handles Inv-frames μ-frames
 handles-again c =
     let l = c .before .before .before .before .handles in
     let a = c .before .before .before .before .before .before .before .before .before .before .before .before .before .before .before .before .before .before .args in
     let k = c .before .before .before .before .before .before .before .frames .k in
-    let g = getD-take (a .handle-count) (a .t10) (l .i) 0 (omega (arith, length-take (a .handle-count) (a .t10))) in (
-      omega arith,
-      omega arith,
+    let n = further (l .i) _ (l .to) _ _ (c .before .before .before .handles-test .taken) (l .inv .3) (l .inv .7) (l .inv .4) in
+    let g = getD-take (a .handle-count) (a .t10) (l .i) 0 (below (l .i) _ _ _ (n .3) (length-take (a .handle-count) (a .t10))) in (
+      n .0,
+      least-of _ 64 _ (c .onward .ensures),
       l .inv .2,
-      omega arith,
+      n .1,
       l .inv .4,
       l .inv .5,
       l .inv .6,
       rw length-set (l .inv .7),
       l .inv .8,
-      frame-turn (a .frame + k) (a .size) (c .before .before .before .before .before .frame-at .result) (take (a .handle-count) (a .t10)) (l .i) (l .self .entries) _ (l .to) (l .part) (c .onward .result) _ (omega arith) (omega arith) (rw g (c .before .before .input-entry .ensures)) (rw (l .inv .6) (c .onward .ensures)) (l .inv .9),
+      frame-turn (a .frame + k) (a .size) (c .before .before .before .before .before .frame-at .result) (take (a .handle-count) (a .t10)) (l .i) (l .self .entries) _ (l .to) (l .part) (c .onward .result) _ (n .2) (n .3) (rw g (c .before .before .input-entry .ensures)) (rw (l .inv .6) (c .onward .ensures)) (l .inv .9),
     )
 
 onward-requires-2 : tie.Need-onward-requires-2 Inv-handles μ-handles Inv-frames μ-frames
@@ -249,26 +285,28 @@ add-k : tie.Need-add-k Inv-handles μ-handles Inv-frames μ-frames
 add-k c = omega arith
 
 frames-less : tie.Need-frames-less Inv-handles μ-handles Inv-frames μ-frames
-frames-less c = omega arith
+frames-less c = less (c .before .before .before .before .before .frames .k) _ (c .before .before .before .before .frames-test .taken)
 
 frames-again : tie.Need-frames-again Inv-handles μ-handles Inv-frames μ-frames
 frames-again c =
     let h = c .before .before .handles in
     let f = c .before .before .before .before .before .frames in
     let a = c .before .before .before .before .before .before .before .before .before .before .before .before .before .before .before .before .args in
-    let hs = take (a .handle-count) (a .t10) in (
-      omega arith,
-      omega (arith, c .onward2 .ensures),
+    let hs = take (a .handle-count) (a .t10) in
+    let t = c .before .before .before .before .frames-test .taken in
+    let n = closing (h .i) _ (h .to) _ _ (c .before .handles-test .left) (h .inv .3) (h .inv .4) (f .inv .7) in (
+      next (f .k) _ t,
+      least-of _ _ _ (c .onward2 .ensures),
       f .inv .2,
       f .inv .3,
-      omega arith,
+      n .0,
       f .inv .5,
       f .inv .6,
       f .inv .7,
       f .inv .8,
       h .inv .7,
       f .inv .10,
-      packet-turn (a .frame) (a .size) (a .width) (a .reference) hs (a .payload .now) (a .count) (f .k) (take (f .to) (f .self .entries)) _ (take (h .to) (h .self .entries)) (c .before .before .before .frame-at .result) (f .from) (c .onward2 .result) (omega arith) (omega arith) (c .onward2 .ensures) (c .before .before .before .frame-at .ensures) (frame-end (a .frame + f .k) (a .size) (drop (h .part) (c .before .before .before .frame-at .result)) hs (h .i) _ _ (omega arith) (h .inv .9)) (f .inv .11),
+      packet-turn (a .frame) (a .size) (a .width) (a .reference) hs (a .payload .now) (a .count) (f .k) (take (f .to) (f .self .entries)) _ (take (h .to) (h .self .entries)) (c .before .before .before .frame-at .result) (f .from) (c .onward2 .result) t (n .2) (c .onward2 .ensures) (c .before .before .before .frame-at .ensures) (frame-end (a .frame + f .k) (a .size) (drop (h .part) (c .before .before .before .frame-at .result)) hs (h .i) _ _ (n .1) (h .inv .9)) (f .inv .11),
     )
 
 returns : tie.Need-returns Inv-handles μ-handles Inv-frames μ-frames
@@ -278,7 +316,7 @@ returns c =
     let a = c .before .before .before .before .before .before .before .before .before .before .before .before .args in
     let t = able (c .before .before .before .before .before .before) in
     let h = t ∙ c .before .before .before .before .before .if1 .taken in
-    let e = packet-end (a .frame) (a .size) (a .width) (a .reference) (take (a .handle-count) (a .t10)) (a .payload .now) (a .count) (f .k) _ _ (drop (f .from) (a .payload .now)) (f .inv .11) (omega arith) in
+    let e = packet-end (a .frame) (a .size) (a .width) (a .reference) (take (a .handle-count) (a .t10)) (a .payload .now) (a .count) (f .k) _ _ (drop (f .from) (a .payload .now)) (f .inv .11) (c .frames-test .left) in
     record { ok = sym t; view = rw h (e ∙ rw (after-both (c .before .before .before) .view, append-assoc)); same = λ e. cc }
 
 returns-2 : tie.Need-returns-2 Inv-handles μ-handles Inv-frames μ-frames
