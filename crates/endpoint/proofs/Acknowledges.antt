@@ -1,4 +1,4 @@
--- The ways out of an InputAck.
+-- What an ack drops, and the ways out of an InputAck.
 use mathlib.Core.Bool.{true, false}
 use mathlib.Core.Path.{_≡_, refl}
 use Prim.Native.Nat.{ℕ}
@@ -25,9 +25,24 @@ module _ (pending : Pending) (acked : InputBytes) (ack : ℕ) where
   dropped-sent d h = rw (h .view, h .last)
 
   -- where none is dropped
-  pub kept-sent : drops ack (waiting pending) ≡ false → sent pending acked ≡ droppedTo ack (sent pending acked)
+  kept-sent : drops ack (waiting pending) ≡ false → sent pending acked ≡ droppedTo ack (sent pending acked)
   unfolding droppedTo
   kept-sent h = rw (dropped-same ack (waiting pending) h, last-same ack acked (waiting pending) h)
+
+-- an endpoint after the pending inputs that an ack drops: only they and the last acknowledged one are others
+pub record Drops (ack : ℕ) (s t : Endpoint) : Type 0 where
+  pub pending : Pending
+  pub acked : InputBytes
+  pub rest : t ≡ remade s pending acked (s .history) (s .sync) (s .nonces) (s .clocks) (s .flags) (s .quality) (s .statuses) (s .checksums) (s .events) (s .queued)
+  pub left : sent pending acked ≡ droppedTo ack (sent (s .pending) (s .acked))
+
+module _ (ack : ℕ) (s t : Endpoint) where
+  pub drops-some : (d : Dropped) → DroppedAs (s .pending) ack (s .acked) d
+      → t ≡ remade s (d .pending) (d .last) (s .history) (s .sync) (s .nonces) (s .clocks) (s .flags) (s .quality) (s .statuses) (s .checksums) (s .events) (s .queued) → Drops ack s t
+  drops-some d h et = record { pending = d .pending; acked = d .last; rest = et; left = dropped-sent (s .pending) (s .acked) ack d h }
+
+  pub drops-none : drops ack (waiting (s .pending)) ≡ false → t ≡ s → Drops ack s t
+  drops-none h et = record { pending = s .pending; acked = s .acked; rest = et; left = kept-sent (s .pending) (s .acked) ack h }
 
 module _ (e : Endpoint) (ack now : ℕ) (x : Ears) (ex : HeardAs e (heard now (seen e)) x) where
   abbrev Acked : Endpoint → Answer → Type 0

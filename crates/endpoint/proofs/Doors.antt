@@ -1,4 +1,4 @@
--- The door of a message: what is known where it is open, and the way out where it is shut.
+-- The doors of a message: what is known where one is open, and the way out where it is shut.
 use borrow.Author.Tests.{eqb-true, eqb-false, not-false}
 use mathlib.Core.Bool.{Bool, true, false, not, _||_}
 use mathlib.Core.List.{List}
@@ -7,6 +7,7 @@ use Prim.Native.Nat.{ℕ}
 use Rattle.base.proofs.Bools.{neither}
 use Rattle.answer.specs.Number.{numberOf}
 use Rattle.answer.specs.declared.Answer.{Answer}
+use Rattle.answer.specs.declared.Answer.the-variants.{Full, Overflow, TooLong}
 use Rattle.codec.specs.declared.Message.{Message}
 use Rattle.timers.specs.Timers.{badClock}
 use Rattle.protocol.specs.Did.{Did, decided}
@@ -14,7 +15,7 @@ use Rattle.endpoint.specs.declared.Endpoint.{Endpoint}
 use Rattle.endpoint.specs.declared.Ended.{Ended}
 use Rattle.endpoint.specs.declared.admitting.Door.{Door}
 use Rattle.endpoint.specs.Endpoint.{seen, DidAs}
-use Rattle.endpoint.specs.Filter.{ignoredBy, isRead, AdmittedAs}
+use Rattle.endpoint.specs.Filter.{ignoredBy, isRead, AdmittedAs, WeighedAs}
 use Rattle.endpoint.proofs.Asks.{false-true}
 use Rattle.endpoint.proofs.Datagrams.{decided-refused}
 use Rattle.endpoint.proofs.Ends.{refused-did}
@@ -62,3 +63,18 @@ module _ (e : Endpoint) (r : Answer) (from : ℕ) (m : Message) (p : List ℕ) (
 
   pub turned-away : (d : Door) → AdmittedAs r Late Ignores d → d .shut ≡ true → Shuts (d .answer)
   turned-away d ed h = shuts (isRead r) Late Ignores refl refl refl (sym (ed .shut) ∙ h) d ed
+
+-- the door after that: 12, 6, 5
+pub let-in : (long overflows full : Bool) (d : Door) → WeighedAs long overflows full d → d .shut ≡ false → (long ≡ false) × (overflows ≡ false) × (full ≡ false)
+let-in long overflows full d ed h =
+    let n = neither (long || overflows) full (sym (ed .shut) ∙ h) in
+    let m = neither long overflows (n .0) in
+    (m .0, m .1, n .1)
+
+-- T: how the call ends with an answer
+pub kept-out : (T : Answer → Type 0) (long overflows full : Bool) → (long ≡ true → T TooLong) → (long ≡ false → overflows ≡ true → T Overflow)
+    → (long ≡ false → overflows ≡ false → full ≡ true → T Full) → (d : Door) → WeighedAs long overflows full d → d .shut ≡ true → T (d .answer)
+kept-out T true overflows full a b c d ed h = rw (ed .answer) (a refl)
+kept-out T false true full a b c d ed h = rw (ed .answer) (b refl refl)
+kept-out T false false true a b c d ed h = rw (ed .answer) (c refl refl refl)
+kept-out T false false false a b c d ed h = absurd (false-true (sym (ed .shut) ∙ h))

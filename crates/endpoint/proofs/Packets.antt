@@ -122,3 +122,12 @@ no-news g newest start reference payload w ew hr within r er none =
     rw (← ew)
     (news-are start w (frameCount w (length payload)) reference payload refl within newest (skipped newest start w (length payload)) refl (g .«input_size») (listed (g .handles)) (r .count) (r .first) (er .count) (er .first) hr
     ∙ rw none)
+
+-- what is pushed of no frames is what is told ahead
+pub nothing-pushed : (e : Events) (A : List Entry) (size w : ℕ) (hs reference payload : List ℕ) (q : Pushed)
+    → PushedAs e (packetFits (held e ++ A) 0 0 hs) (A ++ announcedAll 0 size hs (framesOf w reference 0 (drop 0 payload))) q
+    → PushedAs e (hasRoom (held e) (length (A ++ []))) (A ++ []) q
+unfolding hasRoom announcedAll framesOf
+nothing-pushed e A size w hs reference payload q a =
+    let total : length (held e ++ A) + 0 * length hs ≡ length (held e) + length (A ++ []) = omega (arith, length-append (held e) A, length-append A []) in
+    rw (← total) (rw (packet-fits (held e ++ A) 0 0 hs (omega arith)) at a)

@@ -10,6 +10,8 @@ use lib.ListN.{length}
 use lib.Seq.{take-length}
 use Rattle.answer.specs.declared.Answer.{Answer}
 use Rattle.answer.specs.declared.Answer.the-variants.{Done, Full, Overflow}
+use Rattle.base.specs.Pick.{pick}
+use Rattle.base.proofs.Bools.{both, neither}
 use Rattle.codec.specs.Message.{listed, kindOf}
 use Rattle.codec.specs.declared.Wide.{Wide}
 use Rattle.codec.specs.declared.Message.{Message}
@@ -37,17 +39,20 @@ use Rattle.protocol.specs.Checksum.{checksumOf}
 use Rattle.protocol.specs.Step.{heard, reacted}
 use Rattle.endpoint.specs.declared.Endpoint.{Endpoint}
 use Rattle.endpoint.specs.declared.Ended.{Ended}
+use Rattle.endpoint.specs.declared.admitting.Door.{Door}
+use Rattle.endpoint.specs.declared.handshake.Counted.{Counted}
 use Rattle.endpoint.specs.declared.handshake.Requested.{Requested}
 use Rattle.endpoint.specs.declared.packet.Opened.{Opened}
 use Rattle.endpoint.specs.declared.reacting.Reacted.{Reacted}
 use Rattle.endpoint.specs.Endpoint.{seen, DidAs, DoneAs}
-use Rattle.endpoint.specs.Filter.{ignoredBy}
-use Rattle.endpoint.specs.Handshaking.{RequestedAs}
+use Rattle.endpoint.specs.Filter.{ignoredBy, WeighedAs}
+use Rattle.endpoint.specs.Handshaking.{RequestedAs, progressOf, CountedAs}
 use Rattle.endpoint.specs.Heard.{resumedFlags}
 use Rattle.endpoint.specs.Opened.{OpenedAs}
 use Rattle.endpoint.specs.Reacted.{ReactedAs}
 use Rattle.endpoint.proofs.Hears.{Ears, HeardAs}
-use Rattle.endpoint.proofs.Crowds.{one-crowds, one-fits}
+use Rattle.endpoint.proofs.Asks.{false-true}
+use Rattle.endpoint.proofs.Doors.{let-in, kept-out}
 use Rattle.endpoint.proofs.Ears.{heardWith, ears-full, ears-quiet, ears-told}
 use Rattle.endpoint.proofs.Ends.{remade}
 use Rattle.endpoint.proofs.Quiets.{only-full, only-heard}
@@ -119,29 +124,46 @@ module _ (e : Endpoint) (from : ℕ) (m : Message) (p : List ℕ) (now epoch non
       unfolding renewed
       none-issued none = ey .view ∙ rw (outstood, le-ltb 0 l none)
 
-      -- n: how many events there are, f: whether no other can be told
-      module _ (n : ℕ) (en : n ≡ length (held (e .events))) (f : Bool) (ef : f ≡ leb 640 n) where
-        pub reply-untold : f ≡ true → Ends e Full buffer
-        reply-untold h = untold (ltb 1 (e .sync .remaining)) refl (one-crowds (e .events) n en (sym ef ∙ h))
+      -- q: the events with what is told of it, g: what it leaves
+      module _ (x : Entry) (ex : x ≡ plain (progressOf l)) (q : Pushed) (eq : PushedAs (e .events) (hasRoom (held (e .events)) 1) (x ∷ []) q) (g : Counted) (b′ : List ℕ)
+          (eg : CountedAs (q .ok) (e .sync) l (m .magic) (e .clocks) (e .setup .magic) now nonce buffer (e .queued) g b′) where
+        abbrev Gone : Requested
+        Gone = record { clocks = g .clocks; end = g .end; ok = g .ok }
 
-        module _ (told : f ≡ false) (c : Clocks) (ec : c ≡ heardAt now (e .clocks)) where
-          room : hasRoom (held (e .events)) 1 ≡ true
-          room = one-fits (e .events) n en (sym ef ∙ told)
+        asked : 0 < l → q .ok ≡ true → RequestedAs true (heardAt now (e .clocks)) (e .setup .magic) now nonce buffer (e .queued) Gone b′
+        asked more told = rw told at (eg .more more)
 
-          module _ (more : 0 < l) (g : Requested) (b′ : List ℕ) (eg : RequestedAs true c (e .setup .magic) now nonce buffer (e .queued) g b′) where
-            pub reply-choked : g .ok ≡ false → Ends e Full b′
-            reply-choked k =
-                early (omega (arith, more, el)) _ b′ (early-choked e now nonce (m .magic) reply without without-is l el buffer c ec next (next-issued more) g b′ eg k)
+        untold-so : q .ok ≡ false → Ends e Full buffer
+        untold-so k = untold (ltb 1 (e .sync .remaining)) refl (sym (eq .ok) ∙ k)
 
-            pub reply-goes-on : (x : Entry) → x ≡ plain (Event.Synchronizing 5 (5 - l)) → (q : Pushed) → PushedAs (e .events) (hasRoom (held (e .events)) 1) (x ∷ []) q → g .ok ≡ true
-                → Ends (remade e (e .pending) (e .acked) (e .history) (record { phase = e .sync .phase; remaining = l; «remote_magic» = e .sync .«remote_magic» }) (y .nonces) (g .clocks) (e .flags) (e .quality) (e .statuses) (e .checksums) (q .events) (g .end)) Done b′
-            reply-goes-on x ex q eq k =
-                early (omega (arith, more, el)) _ b′ (early-done e now nonce (m .magic) reply without without-is l el buffer c ec next (next-issued more) g b′ eg q room (rw ex at eq) k)
+        choked : (more told : Bool) → ltb 0 l ≡ more → q .ok ≡ told → g .ok ≡ false → Ends e Full b′
+        choked true true h told k =
+            let more = ltb-true 0 l h in
+            early (omega (arith, more, el)) _ b′ (early-choked e now nonce (m .magic) reply without without-is l el buffer _ refl next (next-issued more) Gone b′ (asked more told) k)
+        choked true false h told k = rw (eg .more (ltb-true 0 l h) .same k) (untold-so told)
+        choked false true h told k = absurd (false-true (sym k ∙ eg .over (ltb-false 0 l h) .2 ∙ told))
+        choked false false h told k = rw (eg .over (ltb-false 0 l h) .3) (untold-so told)
 
-          pub reply-over : l ≤ 0 → (x : Entry) → x ≡ plain Event.Synchronized → (q : Pushed) → PushedAs (e .events) (hasRoom (held (e .events)) 1) (x ∷ []) q
-              → Ends (remade e (e .pending) (e .acked) (e .history) (record { phase = Running; remaining = l; «remote_magic» = m .magic }) (y .nonces) c (e .flags) (e .quality) (e .statuses) (e .checksums) (q .events) (e .queued)) Done buffer
-          reply-over none x ex q eq =
-              last (omega (arith, none, el)) _ (last-done e now nonce (m .magic) reply (y .nonces) (none-issued none) l el c q room ec (rw ex at eq))
+        pub reply-choked : g .ok ≡ false → Ends e Full b′
+        reply-choked = choked (ltb 0 l) (q .ok) refl refl
+
+        counted : (more : Bool) → ltb 0 l ≡ more → g .ok ≡ true
+            → Ends (remade e (e .pending) (e .acked) (e .history) (pick more (record { phase = e .sync .phase; remaining = l; «remote_magic» = e .sync .«remote_magic» }) (record { phase = Running; remaining = l; «remote_magic» = m .magic })) (y .nonces) (g .clocks) (e .flags) (e .quality) (e .statuses) (e .checksums) (q .events) (g .end)) Done b′
+        counted true h k =
+            let more = ltb-true 0 l h in
+            let told = both (q .ok) _ (sym (eg .more more .ok) ∙ k) .0 in
+            early (omega (arith, more, el)) _ b′
+            (early-done e now nonce (m .magic) reply without without-is l el buffer _ refl next (next-issued more) Gone b′ (asked more told) q (sym (eq .ok) ∙ told) (rw (ex, h) at eq) k)
+        counted false h k =
+            let none = ltb-false 0 l h in
+            let over = eg .over none in
+            rw (over .1, over .3)
+            (last (omega (arith, none, el)) _
+            (last-done e now nonce (m .magic) reply (y .nonces) (none-issued none) l el (g .clocks) q (sym (eq .ok) ∙ sym (over .2) ∙ k) (over .0) (rw (ex, h) at eq)))
+
+        pub reply-counted : g .ok ≡ true
+            → Ends (remade e (e .pending) (e .acked) (e .history) (g .sync) (y .nonces) (g .clocks) (e .flags) (e .quality) (e .statuses) (e .checksums) (q .events) (g .end)) Done b′
+        reply-counted k = rw (eg .sync) (counted (ltb 0 l) refl k)
 
   -- an Input that is discarded
   pub input-passes : (d : Bool) (start ack : ℕ) → m .body ≡ Input d start ack → (o : Opened) → OpenedAs (e .history) (e .setup) d start (m .reports .count) (length p) o
@@ -192,27 +214,35 @@ module _ (e : Endpoint) (from : ℕ) (m : Message) (p : List ℕ) (now epoch non
     -- a ChecksumReport; i: the interval, y: the store with it
     module _ (checksum : Wide) (frame : ℕ) (eb : m .body ≡ ChecksumReport checksum frame) (i : ℕ) (ei : i ≡ intervalOf (e .setup .choices .«desync_detection»)) (y : Reported)
         (ey : ReportedAs (e .checksums) (checksumOf frame checksum) i y) where
-      pub report-overflows : y .overflow ≡ true → Ends e Overflow buffer
-      report-overflows h = checksum-reported e from m p now epoch nonce buffer good heeded _ checksum frame eb (checksum-overflows e checksum frame now i ei y ey h)
+      abbrev Refused : Answer → Type 0
+      Refused a = Ends e a buffer
 
-      module _ (within : y .overflow ≡ false) where
-        pub report-crowded : f ≡ true → Ends e Full buffer
-        report-crowded h =
-            checksum-reported e from m p now epoch nonce buffer good heeded _ checksum frame eb
-            (checksum-untold e checksum frame now i ei y ey within Unheard (ears-full e now r er n en f ef h) refl)
+      overflowing : y .overflow ≡ true → Refused Overflow
+      overflowing h = checksum-reported e from m p now epoch nonce buffer good heeded _ checksum frame eb (checksum-overflows e checksum frame now i ei y ey h)
 
-        pub report-choked : y .full ≡ true → Ends e Full buffer
-        report-choked h = checksum-reported e from m p now epoch nonce buffer good heeded _ checksum frame eb (checksum-choked e checksum frame now i ei y ey within h)
+      -- in either case
+      choking : y .overflow ≡ false → (untold : Bool) → f ≡ untold → (untold || y .full) ≡ true → Refused Full
+      choking within true h k =
+          checksum-reported e from m p now epoch nonce buffer good heeded _ checksum frame eb
+          (checksum-untold e checksum frame now i ei y ey within Unheard (ears-full e now r er n en f ef h) refl)
+      choking within false h k = checksum-reported e from m p now epoch nonce buffer good heeded _ checksum frame eb (checksum-choked e checksum frame now i ei y ey within k)
 
-        pub report-left : f ≡ false → y .full ≡ false
+      module _ (door : Door) (weighed : WeighedAs false (y .overflow) (f || y .full) door) where
+        pub report-refused : door .shut ≡ true → Refused (door .answer)
+        report-refused h =
+            kept-out Refused false (y .overflow) (f || y .full) (λ z. absurd (false-true z)) (λ z. overflowing) (λ z within. choking within f refl) door weighed h
+
+        pub report-left : door .shut ≡ false
             → Left (remade e (e .pending) (e .acked) (e .history) (e .sync) (e .nonces) (e .clocks) (e .flags) (e .quality) (e .statuses) (y .checksums) (e .events) (e .queued)) buffer
-        report-left h c =
+        report-left h =
+            let z = let-in false (y .overflow) (f || y .full) door weighed h in
+            let roomy = neither f (y .full) (z .2) in
             record {
-              room = h;
+              room = roomy .0;
               events = refl;
               ends = λ t k.
                   checksum-reported e from m p now epoch nonce buffer good heeded _ checksum frame eb
-                  (checksum-done e checksum frame now i ei y ey within (heardWith e now r er n en f ef true t) k c refl);
+                  (checksum-done e checksum frame now i ei y ey (z .1) (heardWith e now r er n en f ef true t) k (roomy .1) refl);
             }
 
     -- one of the other kinds; k: its kind's number

@@ -1,4 +1,5 @@
 -- What a packet announces: each frame above the newest, once per handle.
+use mathlib.Core.Bool.{Bool, true, false}
 use mathlib.Core.List.{List}
 use mathlib.Core.Path.{_≡_}
 use Prim.Native.Nat.{ℕ, suc, _+_, _-_, _*_, min}
@@ -24,3 +25,8 @@ pub record NewsAs (newest start width length : ℕ) (r : News) : Type 0 where
   pub count : r .count ≡ frameCount width length - skipped newest start width length
   pub first : r .first ≡ pick (ltb 0 (r .count)) (start + skipped newest start width length) start
   pub at : r .at ≡ skipped newest start width length * width
+
+-- inputs that cannot be read have none
+pub record NewsIf (readable : Bool) (newest start width length : ℕ) (r : News) : Type 0 where
+  pub some : readable ≡ true → NewsAs newest start width length r
+  pub none : readable ≡ false → r ≡ record { first = 0; count = 0; at = 0 }

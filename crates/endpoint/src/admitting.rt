@@ -1,8 +1,8 @@
-// Whether a message is let in, before anything of it is looked at but its magic.
+// Whether a message is let in, before anything of it is looked at but its magic, and whether it is refused then.
 ghost use mathlib.Core.Path.{_≡_};
 ghost use mathlib.Core.Bool.{_||_};
 ghost use Rattle.timers.specs.Timers.{badClock};
-ghost use Rattle.endpoint.specs.Filter.{ignoredBy, AdmittedAs};
+ghost use Rattle.endpoint.specs.Filter.{ignoredBy, AdmittedAs, WeighedAs};
 use answer::Answer;
 use protocol::Phase;
 
@@ -40,6 +40,34 @@ pub(crate) fn admit(reading: Answer, now: u64, epoch: u64, ignored: bool) -> Doo
     }
     Door {
         shut: ignored,
+        answer: Answer::Done,
+    }
+}
+
+// What is refused of a message that is let in, in document 01's order.
+pub(crate) fn weigh(too_long: bool, overflows: bool, full: bool) -> Door
+    ensures { λ r. ⌜ WeighedAs «too_long» overflows full r ⌝ }
+{
+    if too_long {
+        return Door {
+            shut: true,
+            answer: Answer::TooLong,
+        };
+    }
+    if overflows {
+        return Door {
+            shut: true,
+            answer: Answer::Overflow,
+        };
+    }
+    if full {
+        return Door {
+            shut: true,
+            answer: Answer::Full,
+        };
+    }
+    Door {
+        shut: false,
         answer: Answer::Done,
     }
 }

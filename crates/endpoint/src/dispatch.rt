@@ -7,10 +7,9 @@ ghost use Rattle.endpoint.specs.Arrived.{callOf};
 ghost use Rattle.endpoint.specs.Endpoint.{seen, DidAs};
 use crate::Ended;
 use crate::Endpoint;
-use crate::Sync;
 use crate::admitting;
 use crate::arriving;
-use crate::batch;
+use crate::bodies;
 use crate::handshake;
 use crate::hearing;
 use crate::informing;
@@ -20,14 +19,12 @@ use crate::telling;
 use answer::Answer;
 use codec::Message;
 use codec::MessageBody;
-use codec::SIZES;
 use protocol::Phase;
 
 impl Endpoint {
-    // What arrives is read first, and a reader's refusal is the call's. A message goes by the number of its kind; each arm's `else`, and a number above 7,
-    // cannot be reached, since a kind's number tells its body. All of it stands in this one function, since an endpoint that is passed on to another is
-    // copied: what is decided stands in functions over the plain parts, and what changes a store is that store's. A refusal comes before the first
-    // change.
+    // What arrives is read first, and a reader's refusal is the call's. A message goes by the number of its kind, and one above 7, which no body has, is
+    // refused. All of it stands in this one function, since an endpoint that is passed on to another is copied: what is decided stands in functions over
+    // the plain parts, and what changes a store is that store's. A refusal comes before the first change.
     fn handle_message(
         mut self,
         is_datagram: bool,
@@ -68,67 +65,41 @@ impl Endpoint {
         let body = message.body;
         let kind = codec::kind_of(body);
         match kind {
+            // One that counts is told, and another request goes out or the handshake is over.
             1 => {
-                let MessageBody::SyncReply { random_reply } = body else {
-                    return Ended {
-                        endpoint: self,
-                        answer: Answer::BadKind,
-                    };
-                };
-                // One that counts is told, and another request goes out or the handshake is over: from then on the filter asks for its magic.
+                let reply = bodies::reply_of(body);
                 if let Phase::Synchronizing = phase {
                     let remaining = handshake::less(self.sync.remaining, 1);
-                    let spent = self.nonces.spend(random_reply, 0 < remaining, nonce);
+                    let spent = self.nonces.spend(reply, 0 < remaining, nonce);
                     if spent.found {
-                        if telling::is_crowded(true, self.events.count()) {
+                        let told = self.events.push(handshake::progress(remaining));
+                        let counted = handshake::count_reply(
+                            told.ok,
+                            sync,
+                            remaining,
+                            magic,
+                            self.clocks,
+                            self.setup.magic,
+                            now,
+                            nonce,
+                            out,
+                            self.queued,
+                        );
+                        if !counted.ok {
                             return Ended {
                                 endpoint: self,
                                 answer: Answer::Full,
                             };
                         }
-                        let heard = self.clocks.heard(now);
-                        if 0 < remaining {
-                            let requested = handshake::request(
-                                true,
-                                heard,
-                                self.setup.magic,
-                                now,
-                                nonce,
-                                out,
-                                self.queued,
-                            );
-                            if !requested.ok {
-                                return Ended {
-                                    endpoint: self,
-                                    answer: Answer::Full,
-                                };
-                            }
-                            let told = self.events.push(handshake::progress(remaining));
-                            let events = told.events;
-                            let nonces = spent.nonces;
-                            let clocks = requested.clocks;
-                            self.sync.remaining = remaining;
-                            self.nonces = nonces;
-                            self.clocks = clocks;
-                            self.events = events;
-                            self.queued = requested.end;
-                            return Ended {
-                                endpoint: self,
-                                answer: Answer::Done,
-                            };
-                        }
-                        let told = self.events.push(handshake::completion());
-                        let events = told.events;
+                        let sync = counted.sync;
                         let nonces = spent.nonces;
-                        let sync = Sync {
-                            phase: Phase::Running,
-                            remaining,
-                            remote_magic: magic,
-                        };
+                        let clocks = counted.clocks;
+                        let events = told.events;
                         self.sync = sync;
                         self.nonces = nonces;
-                        self.clocks = heard;
+                        self.clocks = clocks;
                         self.events = events;
+                        self.queued = counted.end;
                         return Ended {
                             endpoint: self,
                             answer: Answer::Done,
@@ -142,99 +113,90 @@ impl Endpoint {
                     };
                 }
             }
+            // One that is discarded is only heard.
             2 => {
-                let MessageBody::Input {
-                    disconnect_requested,
-                    start_frame,
-                    ack_frame,
-                } = body
-                else {
-                    return Ended {
-                        endpoint: self,
-                        answer: Answer::BadKind,
-                    };
-                };
+                let head = bodies::input_of(body);
                 let reports = message.reports;
                 let opened = packet::open(
                     self.history,
                     self.setup,
-                    disconnect_requested,
-                    start_frame,
+                    head.disconnect_requested,
+                    head.start_frame,
                     reports.count,
                     payload.len(),
                 );
-                // A discarded one is only heard.
                 if !opened.discarded {
-                    if opened.too_long {
-                        return Ended {
-                            endpoint: self,
-                            answer: Answer::TooLong,
-                        };
-                    }
-                    if opened.readable & opened.overflows {
-                        return Ended {
-                            endpoint: self,
-                            answer: Answer::Overflow,
-                        };
-                    }
                     let informed = informing::inform(
                         phase,
                         self.clocks,
                         self.flags,
                         self.statuses,
-                        disconnect_requested,
+                        head.disconnect_requested,
                         reports,
                         now,
                     );
-                    let flags = informed.flags;
-                    let statuses = informed.statuses;
-                    // Inputs that can be read: those above the newest are announced, and the newest is acknowledged.
-                    if opened.readable {
-                        let input = opened.input;
-                        let reference = input.bytes;
-                        let width = self.setup.receiving_width();
-                        let news = packet::news_of(
-                            opened.newest,
-                            start_frame,
-                            payload.len(),
-                            width,
-                        );
+                    let door = packet::admit(opened, out.len(), self.queued);
+                    if door.shut {
+                        let answer = door.answer;
+                        return Ended {
+                            endpoint: self,
+                            answer,
+                        };
+                    }
+                    let input = opened.input;
+                    let reference = input.bytes;
+                    let width = self.setup.receiving_width();
+                    let news = packet::news_of(
+                        opened.readable,
+                        opened.newest,
+                        head.start_frame,
+                        payload.len(),
+                        width,
+                    );
+                    // A store that nothing is told to or dropped from is left alone: to pass it is to copy it.
+                    if informed.resumes | informed.tells | (0 < news.count) {
                         let handles = self.setup.handles;
                         let list = handles.list;
-                        // The InputAck must fit before anything changes.
-                        if batch::is_full(out.len(), self.queued, SIZES[3]) {
+                        let told = self.events.push_packet(
+                            informed.resumes,
+                            informed.tells,
+                            news.first,
+                            news.count,
+                            payload,
+                            news.at,
+                            width,
+                            reference,
+                            list,
+                            handles.count,
+                            self.setup.input_size as usize,
+                        );
+                        if !told.ok {
                             return Ended {
                                 endpoint: self,
                                 answer: Answer::Full,
                             };
                         }
-                        // A store that nothing is told to or dropped from is left alone: to pass it is to copy it.
-                        if informed.resumes | informed.tells | (0 < news.count) {
-                            let told = self.events.push_packet(
-                                informed.resumes,
-                                informed.tells,
-                                news.first,
-                                news.count,
-                                payload,
-                                news.at,
-                                width,
-                                reference,
-                                list,
-                                handles.count,
-                                self.setup.input_size as usize,
-                            );
-                            if !told.ok {
-                                return Ended {
-                                    endpoint: self,
-                                    answer: Answer::Full,
-                                };
-                            }
-                            let events = told.events;
-                            self.events = events;
-                        }
+                        let events = told.events;
+                        self.events = events;
+                    }
+                    if self.pending.drops(head.ack_frame) {
+                        let dropped = self.pending.drop_to(head.ack_frame, self.acked);
+                        let pending = dropped.pending;
+                        let acked = dropped.last;
+                        self.pending = pending;
+                        self.acked = acked;
+                    }
+                    let clocks = packet::noted(informed.clocks, opened.held, opened.readable, now);
+                    let flags = informed.flags;
+                    let statuses = informed.statuses;
+                    self.clocks = clocks;
+                    self.flags = flags;
+                    self.statuses = statuses;
+                    // Inputs that can be read are kept, and the newest is acknowledged.
+                    if opened.readable {
                         let history = self.history.take_in(
                             payload,
-                            start_frame,
+                            head.start_frame,
                             width,
                             input,
                             opened.newest,
@@ -248,51 +210,8 @@ impl Endpoint {
                                 ack_frame: history.newest(),
                             },
                         );
-                        let clocks = informed.clocks.input_received(now).sent(now);
                         self.history = history;
-                        self.clocks = clocks;
-                        self.flags = flags;
-                        self.statuses = statuses;
                         self.queued = queued.end;
-                        if self.pending.drops(ack_frame) {
-                            let dropped = self.pending.drop_to(ack_frame, self.acked);
-                            let pending = dropped.pending;
-                            let acked = dropped.last;
-                            self.pending = pending;
-                            self.acked = acked;
-                        }
-                        return Ended {
-                            endpoint: self,
-                            answer: Answer::Done,
-                        };
-                    }
-                    // Inputs that cannot; with a reference that is held their time is noted all the same.
-                    if informed.resumes | informed.tells {
-                        let told = self.events.push_both(
-                            informed.resumes,
-                            hearing::resumption(),
-                            informed.tells,
-                            informing::disconnection(),
-                        );
-                        if !told.ok {
-                            return Ended {
-                                endpoint: self,
-                                answer: Answer::Full,
-                            };
-                        }
-                        let events = told.events;
-                        self.events = events;
-                    }
-                    let clocks = packet::noted(informed.clocks, opened.held, now);
-                    self.clocks = clocks;
-                    self.flags = flags;
-                    self.statuses = statuses;
-                    if self.pending.drops(ack_frame) {
-                        let dropped = self.pending.drop_to(ack_frame, self.acked);
-                        let pending = dropped.pending;
-                        let acked = dropped.last;
-                        self.pending = pending;
-                        self.acked = acked;
                     }
                     return Ended {
                         endpoint: self,
@@ -307,12 +226,7 @@ impl Endpoint {
                 }
             }
             3 => {
-                let MessageBody::InputAck { ack_frame } = body else {
-                    return Ended {
-                        endpoint: self,
-                        answer: Answer::BadKind,
-                    };
-                };
+                let ack_frame = bodies::ack_of(body);
                 if full {
                     return Ended {
                         endpoint: self,
@@ -326,36 +240,25 @@ impl Endpoint {
                 self.acked = acked;
             }
             6 => {
-                let MessageBody::ChecksumReport { checksum, frame } = body else {
+                let checksum = bodies::checksum_of(body);
+                let reported = self.checksums.report(
+                    checksum.frame,
+                    checksum.low,
+                    checksum.high,
+                    self.setup.interval(),
+                );
+                let door = admitting::weigh(false, reported.overflow, full | reported.full);
+                if door.shut {
+                    let answer = door.answer;
                     return Ended {
                         endpoint: self,
-                        answer: Answer::BadKind,
-                    };
-                };
-                let reported = self.checksums
-                    .report(frame, checksum.low, checksum.high, self.setup.interval());
-                if reported.overflow {
-                    return Ended {
-                        endpoint: self,
-                        answer: Answer::Overflow,
-                    };
-                }
-                if full || reported.full {
-                    return Ended {
-                        endpoint: self,
-                        answer: Answer::Full,
+                        answer,
                     };
                 }
                 let checksums = reported.checksums;
                 self.checksums = checksums;
             }
-            _ => {
-                if 7 < kind {
-                    return Ended {
-                        endpoint: self,
-                        answer: Answer::BadKind,
-                    };
-                }
+            0 | 4 | 5 | 7 => {
                 let reacted = reacting::react(
                     body,
                     full,
@@ -377,6 +280,12 @@ impl Endpoint {
                 self.quality.round_trip_time = reacted.quality.round_trip_time;
                 self.clocks.last_send_time = reacted.last_send_time;
                 self.queued = reacted.end;
+            }
+            _ => {
+                return Ended {
+                    endpoint: self,
+                    answer: Answer::BadKind,
+                };
             }
         }
         // What is left of every other message is that it was heard.

@@ -3,11 +3,10 @@ ghost use mathlib.Core.Path.{_≡_};
 ghost use Prim.Native.Nat.{_-_};
 ghost use lib.ListN.{length};
 ghost use Rattle.events.specs.Events.{plain};
-ghost use Rattle.events.specs.declared.Event.the-variants.{Synchronizing, Synchronized};
 ghost use Rattle.protocol.specs.Call.{Call};
 ghost use Rattle.protocol.specs.Step.{step};
 ghost use Rattle.endpoint.specs.Endpoint.{seen, DidAs};
-ghost use Rattle.endpoint.specs.Handshaking.{RequestedAs};
+ghost use Rattle.endpoint.specs.Handshaking.{RequestedAs, progressOf, CountedAs};
 use crate::Ended;
 use crate::Endpoint;
 use crate::NUM_SYNC_PACKETS;
@@ -26,6 +25,14 @@ pub struct Requested {
     pub ok: bool,
 }
 
+// The plain parts of an endpoint after a reply that counts, and where the queue ends; where what it brings does not fit, told so.
+pub struct Counted {
+    pub sync: Sync,
+    pub clocks: Clocks,
+    pub end: usize,
+    pub ok: bool,
+}
+
 // The difference, or 0 where it would be negative.
 pub(crate) fn less(a: u32, b: u32) -> u32
     ensures { λ r. ⌜ r ≡ a - b ⌝ }
@@ -36,9 +43,9 @@ pub(crate) fn less(a: u32, b: u32) -> u32
     a - b
 }
 
-// A request whose nonce was issued, or was not for want of room: written where both fit, and then the times are noted.
+// A request, where what goes with it had room, its nonce or the event of a reply: written where it fits too, and then the times are noted.
 pub(crate) fn request(
-    issued: bool,
+    roomy: bool,
     clocks: Clocks,
     magic: u16,
     now: u64,
@@ -46,9 +53,9 @@ pub(crate) fn request(
     out: &mut [u8],
     queued: usize,
 ) -> Requested
-    ensures { λ r. ⌜ RequestedAs issued clocks magic now nonce (out .entry .now) queued r (out .exit .now) ⌝ }
+    ensures { λ r. ⌜ RequestedAs roomy clocks magic now nonce (out .entry .now) queued r (out .exit .now) ⌝ }
 {
-    if !issued {
+    if !roomy {
         return Requested {
             clocks,
             end: queued,
@@ -79,26 +86,60 @@ pub(crate) fn request(
     }
 }
 
-// How far the handshake is, as it is told.
+// How far the handshake is, as it is told; with no reply to come it is over.
 pub(crate) fn progress(remaining: u32) -> Entry
-    ensures { λ r. ⌜ r ≡ plain (Synchronizing 5 (5 - remaining)) ⌝ }
+    ensures { λ r. ⌜ r ≡ plain (progressOf remaining) ⌝ }
 {
+    if 0 < remaining {
+        return Entry {
+            event: Event::Synchronizing {
+                total: NUM_SYNC_PACKETS,
+                count: less(NUM_SYNC_PACKETS, remaining),
+            },
+            input: [0u8; 16],
+        };
+    }
     Entry {
-        event: Event::Synchronizing {
-            total: NUM_SYNC_PACKETS,
-            count: less(NUM_SYNC_PACKETS, remaining),
-        },
+        event: Event::Synchronized,
         input: [0u8; 16],
     }
 }
 
-// That it is over.
-pub(crate) fn completion() -> Entry
-    ensures { λ r. ⌜ r ≡ plain Synchronized ⌝ }
+// With replies to come the next request goes out; the last reply's magic is what the filter asks for from then on. `told`: the event had room.
+pub(crate) fn count_reply(
+    told: bool,
+    sync: Sync,
+    remaining: u32,
+    remote_magic: u16,
+    clocks: Clocks,
+    magic: u16,
+    now: u64,
+    nonce: u32,
+    out: &mut [u8],
+    queued: usize,
+) -> Counted
+    ensures { λ r. ⌜ CountedAs told sync remaining «remote_magic» clocks magic now nonce (out .entry .now) queued r (out .exit .now) ⌝ }
 {
-    Entry {
-        event: Event::Synchronized,
-        input: [0u8; 16],
+    let heard = clocks.heard(now);
+    if 0 < remaining {
+        let requested = request(told, heard, magic, now, nonce, out, queued);
+        let clocks = requested.clocks;
+        return Counted {
+            sync: Sync { remaining, ..sync },
+            clocks,
+            end: requested.end,
+            ok: requested.ok,
+        };
+    }
+    Counted {
+        sync: Sync {
+            phase: Phase::Running,
+            remaining,
+            remote_magic,
+        },
+        clocks: heard,
+        end: queued,
+        ok: told,
     }
 }
 

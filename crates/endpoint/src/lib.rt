@@ -4,6 +4,7 @@ mod acting;
 mod admitting;
 mod arriving;
 mod batch;
+mod bodies;
 mod closing;
 mod dispatch;
 mod getters;

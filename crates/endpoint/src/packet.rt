@@ -1,15 +1,22 @@
 // The packet of an Input: the reference that it is packed against, whether it can be read, and its frames that are news.
 ghost use mathlib.Core.Path.{_≡_};
-ghost use mathlib.Core.Bool.{not, _&&_, _||_};
+ghost use mathlib.Core.Bool.{true, not, _&&_, _||_};
 ghost use Prim.Native.Nat.{suc, _+_, _-_, _*_, _^_, _<_, _≤_, min};
 ghost use lib.Dec.{ltb, eqb};
 ghost use Rattle.base.specs.Pick.{pick};
 ghost use Rattle.frame.specs.Bias.{bias32};
-ghost use Rattle.timers.specs.Timers.{inputAt};
+ghost use Rattle.timers.specs.Timers.{inputAt, sentAt};
 ghost use Rattle.packing.specs.Packing.{frameCount, decodableLength};
 ghost use Rattle.setup.specs.Setup.{termsOf, receivingWidth};
-ghost use Rattle.endpoint.specs.News.{NewsAs};
+ghost use Rattle.protocol.specs.Room.{bufferFull};
+ghost use Rattle.endpoint.specs.Filter.{WeighedAs};
+ghost use Rattle.endpoint.specs.News.{NewsIf};
 ghost use Rattle.endpoint.specs.Opened.{OpenedAs};
+use crate::admitting;
+use crate::admitting::Door;
+use crate::batch;
+use crate::plan;
+use codec::SIZES;
 use frame::BIAS32;
 use history::History;
 use packing::InputBytes;
@@ -117,10 +124,24 @@ fn first_new(start_frame: u32, skip: u32, count: u32) -> u32
     start_frame
 }
 
-pub(crate) fn news_of(newest: u32, start_frame: u32, length: usize, width: usize) -> News
-    requires { ⌜ (0 < «start_frame») × («start_frame» + frameCount width length ≤ 2 ^ 32) ⌝ }
-    ensures { λ r. ⌜ NewsAs newest «start_frame» width length r ⌝ }
+// None of inputs that cannot be read.
+pub(crate) fn news_of(
+    readable: bool,
+    newest: u32,
+    start_frame: u32,
+    length: usize,
+    width: usize,
+) -> News
+    requires { ⌜ (readable ≡ true → (0 < «start_frame») × («start_frame» + frameCount width length ≤ 2 ^ 32)) ⌝ }
+    ensures { λ r. ⌜ NewsIf readable newest «start_frame» width length r ⌝ }
 {
+    if !readable {
+        return News {
+            first: 0,
+            count: 0,
+            at: 0,
+        };
+    }
     let count = packing::frame_count(length, width);
     let skip = known(newest, start_frame, count as u32);
     let more = count as u32 - skip;
@@ -131,10 +152,22 @@ pub(crate) fn news_of(newest: u32, start_frame: u32, length: usize, width: usize
     }
 }
 
-// The input time is noted where the reference is held.
-pub(crate) fn noted(clocks: Clocks, held: bool, now: u64) -> Clocks
-    ensures { λ r. ⌜ r ≡ pick held (inputAt now clocks) clocks ⌝ }
+// What refuses a packet before its inputs are announced: the InputAck of one that can be read must fit.
+pub(crate) fn admit(opened: Opened, len: usize, queued: usize) -> Door
+    ensures { λ r. ⌜ WeighedAs (opened .«too_long») (opened .readable && opened .overflows) (bufferFull len queued (pick (opened .readable) 10 0)) r ⌝ }
 {
+    let size = plan::count_if(opened.readable, SIZES[3]);
+    let full = batch::is_full(len, queued, size);
+    admitting::weigh(opened.too_long, opened.readable & opened.overflows, full)
+}
+
+// The input time is noted where the reference is held, and the send time of the InputAck.
+pub(crate) fn noted(clocks: Clocks, held: bool, readable: bool, now: u64) -> Clocks
+    ensures { λ r. ⌜ r ≡ pick readable (sentAt now (inputAt now clocks)) (pick held (inputAt now clocks) clocks) ⌝ }
+{
+    if readable {
+        return clocks.input_received(now).sent(now);
+    }
     if held {
         return clocks.input_received(now);
     }

@@ -1,3 +1,4 @@
+use borrow.Author.Tests.{lt-ltb, le-ltb}
 use borrow.Author.Needs.{needs}
 use Rattle.endpoint.proofs.handshake.progress.Statement.{statement}
 use Rattle.endpoint.proofs.handshake.progress.Tie as tie
@@ -6,7 +7,10 @@ less-requires : tie.Need-less-requires
 less-requires c κs = search needs
 
 returns : tie.Need-returns
-returns c = rw (c .less .ensures)
+returns c = rw (lt-ltb _ _ (c .before .if1 .taken), c .less .ensures)
+
+returns-2 : tie.Need-returns-2
+returns-2 c = rw (le-ltb _ _ (c .if1 .left))
 
 pub progress-spec : {M : Type 1} → statement M
-progress-spec = tie.close (tie.spec less-requires returns)
+progress-spec = tie.close (tie.spec less-requires returns returns-2)

@@ -9,7 +9,7 @@ use Rattle.endpoint.proofs.handshake.request.Tie as tie
 returns : tie.Need-returns
 returns c =
     let a = c .before .before .args in
-    ask-choked (a .clocks) (a .magic) (a .now) (a .nonce) (a .out .now) (a .queued) (a .issued) (not-true _ (c .if1 .taken))
+    ask-choked (a .clocks) (a .magic) (a .now) (a .nonce) (a .out .now) (a .queued) (a .roomy) (not-true _ (c .if1 .taken))
 
 plain-requires : tie.Need-plain-requires
 plain-requires c κs = search needs
@@ -21,7 +21,7 @@ returns-2 : tie.Need-returns-2
 returns-2 c =
     let a = c .before .before .before .before .before .before .before .before .args in
     let q = c .before .before .before .before .plain in
-    ask-full (a .clocks) (a .magic) (a .now) (a .nonce) (a .out .now) (a .queued) (a .issued) (not-false _ (c .before .before .before .before .before .before .if1 .left)) (q .result) (q .last .0) (q .ensures) (not-true _ (c .if2 .taken))
+    ask-full (a .clocks) (a .magic) (a .now) (a .nonce) (a .out .now) (a .queued) (a .roomy) (not-false _ (c .before .before .before .before .before .before .if1 .left)) (q .result) (q .last .0) (q .ensures) (not-true _ (c .if2 .taken))
 
 requested-requires : tie.Need-requested-requires
 requested-requires c κs = search needs
@@ -36,7 +36,7 @@ returns-3 : tie.Need-returns-3
 returns-3 c =
     let a = c .before .before .before .before .before .before .before .before .before .before .args in
     let q = c .before .before .before .before .before .before .plain in
-    ask-done (a .clocks) (a .magic) (a .now) (a .nonce) (a .out .now) (a .queued) (a .issued) (not-false _ (c .before .before .before .before .before .before .before .before .if1 .left)) (q .result) (q .last .0) (q .ensures)
+    ask-done (a .clocks) (a .magic) (a .now) (a .nonce) (a .out .now) (a .queued) (a .roomy) (not-false _ (c .before .before .before .before .before .before .before .before .if1 .left)) (q .result) (q .last .0) (q .ensures)
     (c .sent .result) (not-false _ (c .before .before .if2 .left)) (c .sent .ensures ∙ ap (sentAt _) (c .before .requested .ensures))
 
 pub request-spec : {M : Type 1} → statement M
