@@ -1,4 +1,4 @@
--- Two answers that a contract allows are equal, by name for each public function: lists up to what their array holds past the count.
+-- Two answers that a contract allows are equal, by name for each public function: of a store what is held and the count, so that what its array holds past the count alone is open.
 use mathlib.Core.Bool.{Bool}
 use mathlib.Core.List.{List}
 use mathlib.Core.Path.{_≡_}
@@ -8,7 +8,7 @@ use Rattle.base.proofs.Settled.{settled}
 use Rattle.status.specs.declared.ConnectionStatus.{ConnectionStatus}
 use Rattle.status.specs.declared.list.Statuses.{Statuses}
 use Rattle.status.specs.Status.{defaultStatus, reported, merged}
-use Rattle.status.specs.Statuses.{held, CopiedAs, fresh, mergedAt, mergedAll}
+use Rattle.status.specs.Statuses.{held, HeldAs, CopiedAs, fresh, mergedAt, mergedAll}
 
 pub default-settled : (r s : ConnectionStatus) → r ≡ defaultStatus → s ≡ defaultStatus → r ≡ s
 default-settled = settled (λ r. r) defaultStatus
@@ -19,8 +19,12 @@ reported-settled d f = settled (λ r. r) (reported d f)
 pub connection-status-merge-settled : (x y r s : ConnectionStatus) → r ≡ merged x y → s ≡ merged x y → r ≡ s
 connection-status-merge-settled x y = settled (λ r. r) (merged x y)
 
-pub new-settled : (players : ℕ) (r s : Statuses) → held r ≡ fresh players → held s ≡ fresh players → held r ≡ held s
-new-settled players = settled held (fresh players)
+-- a store that holds a list with a count: both are determined
+held-as-settled : (l : List ConnectionStatus) (n : ℕ) (r s : Statuses) → HeldAs l n r → HeldAs l n s → (held r ≡ held s) × (r .count ≡ s .count)
+held-as-settled l n r s p q = (settled held l r s (p .0) (q .0), settled (λ (x : Statuses). x .count) n r s (p .1) (q .1))
+
+pub new-settled : (players : ℕ) (r s : Statuses) → HeldAs (fresh players) (min players 4) r → HeldAs (fresh players) (min players 4) s → (held r ≡ held s) × (r .count ≡ s .count)
+new-settled players = held-as-settled (fresh players) (min players 4)
 
 module _ (l : Statuses) where
   pub count-settled : (r s : ℕ) → r ≡ length (held l) → s ≡ length (held l) → r ≡ s
@@ -29,18 +33,19 @@ module _ (l : Statuses) where
   pub get-settled : (at : ℕ) (r s : ConnectionStatus) → r ≡ getD (held l) at defaultStatus → s ≡ getD (held l) at defaultStatus → r ≡ s
   get-settled at = settled (λ r. r) (getD (held l) at defaultStatus)
 
-  pub merge-at-settled : (at : ℕ) (x : ConnectionStatus) (r s : Statuses) → held r ≡ mergedAt at x (held l) → held s ≡ mergedAt at x (held l) → held r ≡ held s
-  merge-at-settled at x = settled held (mergedAt at x (held l))
+  pub merge-at-settled : (at : ℕ) (x : ConnectionStatus) (r s : Statuses) → HeldAs (mergedAt at x (held l)) (l .count) r → HeldAs (mergedAt at x (held l)) (l .count) s
+      → (held r ≡ held s) × (r .count ≡ s .count)
+  merge-at-settled at x = held-as-settled (mergedAt at x (held l)) (l .count)
 
-  pub merge-report-settled : (at : ℕ) (d : Bool) (f : ℕ) (r s : Statuses) → held r ≡ mergedAt at (reported d f) (held l) → held s ≡ mergedAt at (reported d f) (held l) → held r ≡ held s
+  pub merge-report-settled : (at : ℕ) (d : Bool) (f : ℕ) (r s : Statuses) → HeldAs (mergedAt at (reported d f) (held l)) (l .count) r → HeldAs (mergedAt at (reported d f) (held l)) (l .count) s
+      → (held r ≡ held s) × (r .count ≡ s .count)
   merge-report-settled at d f = merge-at-settled at (reported d f)
 
-  pub statuses-merge-settled : (m r s : Statuses) → held r ≡ mergedAll (held l) (held m) → held s ≡ mergedAll (held l) (held m) → held r ≡ held s
-  statuses-merge-settled m = settled held (mergedAll (held l) (held m))
+  pub statuses-merge-settled : (m r s : Statuses) → HeldAs (mergedAll (held l) (held m)) (l .count) r → HeldAs (mergedAll (held l) (held m)) (l .count) s → (held r ≡ held s) × (r .count ≡ s .count)
+  statuses-merge-settled m = held-as-settled (mergedAll (held l) (held m)) (l .count)
 
-  pub lent-settled : (r s : Statuses) → (held r ≡ held l) × (r .count ≡ length (held l)) → (held s ≡ held l) × (s .count ≡ length (held l))
-      → (held r ≡ held s) × (r .count ≡ s .count)
-  lent-settled r s p q = (settled held (held l) r s (p .0) (q .0), settled (λ (x : Statuses). x .count) (length (held l)) r s (p .1) (q .1))
+  pub lent-settled : (r s : Statuses) → HeldAs (held l) (length (held l)) r → HeldAs (held l) (length (held l)) s → (held r ≡ held s) × (r .count ≡ s .count)
+  lent-settled = held-as-settled (held l) (length (held l))
 
 pub copied-settled : (l : List ConnectionStatus) (r s : Statuses) → CopiedAs l r → CopiedAs l s → (held r ≡ held s) × (r .count ≡ s .count)
-copied-settled l r s p q = (settled held (take 4 l) r s (p .0) (q .0), settled (λ (x : Statuses). x .count) (min (length l) 4) r s (p .1) (q .1))
+copied-settled l = held-as-settled (take 4 l) (min (length l) 4)

@@ -12,9 +12,13 @@ use Rattle.status.specs.Status.{defaultStatus, merged, reported}
 unfoldable pub held : Statuses → List ConnectionStatus
 held s = take (s .count) (s .list)
 
+-- a store that holds a list, with this count; what its array holds past the count is left open
+abbrev pub HeldAs : List ConnectionStatus → ℕ → Statuses → Type 0
+HeldAs l n r = (held r ≡ l) × (r .count ≡ n)
+
 -- a list of any length copied into a store: its first four, and how many they are
 abbrev pub CopiedAs : List ConnectionStatus → Statuses → Type 0
-CopiedAs l r = (held r ≡ take 4 l) × (r .count ≡ min (length l) 4)
+CopiedAs l = HeldAs (take 4 l) (min (length l) 4)
 
 -- the default for each player, of whom there are at most 4
 unfoldable pub fresh : ℕ → List ConnectionStatus

@@ -4,7 +4,7 @@ ghost use mathlib.Core.List.{[], _∷_};
 ghost use Prim.Native.Nat.{_≤_, min};
 ghost use lib.ListN.{length, take, getD};
 ghost use Rattle.status.specs.Status.{defaultStatus};
-ghost use Rattle.status.specs.Statuses.{held, CopiedAs};
+ghost use Rattle.status.specs.Statuses.{held, HeldAs, CopiedAs};
 use crate::ConnectionStatus;
 use crate::Statuses;
 use crate::list::at_most_four;
@@ -26,7 +26,7 @@ fn packed(
     d: ConnectionStatus,
     n: usize,
 ) -> Statuses
-    ensures { λ r. ⌜ (held r ≡ take n (a ∷ b ∷ c ∷ d ∷ [])) × (r .count ≡ min n 4) ⌝ }
+    ensures { λ r. ⌜ HeldAs (take n (a ∷ b ∷ c ∷ d ∷ [])) (min n 4) r ⌝ }
 {
     let list = [a, b, c, d];
     Statuses {
@@ -59,7 +59,7 @@ fn lend(list: [ConnectionStatus; 4], n: usize) -> Statuses
 impl Statuses {
     // The copy of the list of those held, one record per player, which is lent for it.
     pub fn lent(self) -> Statuses
-        ensures { λ r. ⌜ (held r ≡ held self) × (r .count ≡ length (held self)) ⌝ }
+        ensures { λ r. ⌜ HeldAs (held self) (length (held self)) r ⌝ }
     {
         let list = self.list;
         lend(list, self.count())

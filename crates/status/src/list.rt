@@ -3,7 +3,7 @@ ghost use mathlib.Core.Path.{_≡_};
 ghost use Prim.Native.Nat.{min};
 ghost use lib.ListN.{length, getD};
 ghost use Rattle.status.specs.Status.{defaultStatus, reported};
-ghost use Rattle.status.specs.Statuses.{held, fresh, mergedAt, mergedAll};
+ghost use Rattle.status.specs.Statuses.{held, HeldAs, fresh, mergedAt, mergedAll};
 use crate::ConnectionStatus;
 
 pub struct Statuses {
@@ -14,7 +14,7 @@ pub struct Statuses {
 impl Statuses {
     // One for each player, at most 4.
     pub fn new(players: usize) -> Statuses
-        ensures { λ r. ⌜ held r ≡ fresh players ⌝ }
+        ensures { λ r. ⌜ HeldAs (fresh players) (min players 4) r ⌝ }
     {
         let status = ConnectionStatus::default();
         let list = [status; 4];
@@ -40,9 +40,9 @@ impl Statuses {
         ConnectionStatus::default()
     }
 
-    // One place merged with a status; nothing changes where there is no such place.
+    // One place merged with a status; nothing changes where there is no such place. The count stays, beyond the array too.
     pub fn merge_at(self, at: usize, other: ConnectionStatus) -> Statuses
-        ensures { λ r. ⌜ held r ≡ mergedAt at other (held self) ⌝ }
+        ensures { λ r. ⌜ HeldAs (mergedAt at other (held self)) (self .count) r ⌝ }
     {
         let mut next = self;
         if at < self.count() {
@@ -53,14 +53,14 @@ impl Statuses {
 
     // The same for a report as it travels.
     pub fn merge_report(self, at: usize, disconnected: bool, last_frame: u32) -> Statuses
-        ensures { λ r. ⌜ held r ≡ mergedAt at (reported disconnected «last_frame») (held self) ⌝ }
+        ensures { λ r. ⌜ HeldAs (mergedAt at (reported disconnected «last_frame») (held self)) (self .count) r ⌝ }
     {
         self.merge_at(at, ConnectionStatus::reported(disconnected, last_frame))
     }
 
     // Each place merged with the same place of the other, where it has one.
     pub fn merge(self, other: Statuses) -> Statuses
-        ensures { λ r. ⌜ held r ≡ mergedAll (held self) (held other) ⌝ }
+        ensures { λ r. ⌜ HeldAs (mergedAll (held self) (held other)) (self .count) r ⌝ }
     {
         let n = other.count();
         let mut next = self;

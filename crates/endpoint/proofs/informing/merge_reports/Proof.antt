@@ -46,7 +46,7 @@ loop-again c =
       omega arith,
       omega (arith, ltb-true),
       l .inv .2,
-      c .merge-report .ensures ∙ rw (l .inv .3) (sym (reports-turn (held (a .statuses)) (a .t2) (l .i) _ (omega (arith, ltb-true, l .inv .2, length-take (a .t2 .count) (a .t2 .list))))),
+      c .merge-report .ensures .0 ∙ rw (l .inv .3) (sym (reports-turn (held (a .statuses)) (a .t2) (l .i) _ (omega (arith, ltb-true, l .inv .2, length-take (a .t2 .count) (a .t2 .list))))),
     )
 
 returns : tie.Need-returns Inv-loop μ-loop

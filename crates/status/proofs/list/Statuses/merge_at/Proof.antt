@@ -1,7 +1,7 @@
 -- `merge_at` sets one place below the count, which is a place of the view.
 use borrow.Author.Needs.{needs}
 use Rattle.base.proofs.Arrays.{unmap, view-le}
-use mathlib.Core.Path.{_≡_, sym}
+use mathlib.Core.Path.{_≡_, refl, sym}
 use Prim.Native.Nat.{_<_}
 use native.Mathlib.Omega.{arith}
 use lib.ListN.{length, length-take}
@@ -38,18 +38,20 @@ returns : tie.Need-returns
 unfolding held mergedAt
 returns c =
     let a = c .before .before .before .before .args in
-    let n = c .before .before .before .count .ensures in
-    rw (
-      take-set-lt (a .self .count) (a .self .list) (a .at) (c .merge .result) (omega (arith, c .before .before .if1 .taken, n, length-take (a .self .count) (a .self .list))),
-      c .merge .ensures,
-      c .before .get .ensures,
+    let n = c .before .before .before .count .ensures in (
+      rw (
+        take-set-lt (a .self .count) (a .self .list) (a .at) (c .merge .result) (omega (arith, c .before .before .if1 .taken, n, length-take (a .self .count) (a .self .list))),
+        c .merge .ensures,
+        c .before .get .ensures,
+      ),
+      refl,
     )
 
 returns-2 : tie.Need-returns-2
 unfolding mergedAt
 returns-2 c =
     let a = c .before .before .args in
-    sym (set-out (held (a .self)) (a .at) _ (omega (arith, c .if1 .left, c .before .count .ensures)))
+    (sym (set-out (held (a .self)) (a .at) _ (omega (arith, c .if1 .left, c .before .count .ensures))), refl)
 
 pub merge-at-spec : {M : Type 1} → statement M
 merge-at-spec =

@@ -11,7 +11,7 @@ merge-at-requires : tie.Need-merge-at-requires
 merge-at-requires c κs = search needs
 
 returns : tie.Need-returns
-returns c = c .merge-at .ensures ∙ rw (c .before .reported .ensures)
+returns c = (c .merge-at .ensures .0 ∙ rw (c .before .reported .ensures), c .merge-at .ensures .1)
 
 pub merge-report-spec : {M : Type 1} → statement M
 merge-report-spec = tie.close (tie.spec reported-requires merge-at-requires returns)

@@ -16,9 +16,11 @@ at-most-four-requires c κs = search needs
 
 returns : tie.Need-returns
 unfolding held fresh
-returns c =
-    rw (c .before .default .ensures, c .at-most-four .ensures)
-    (take-replicate (min (c .before .before .args .players) 4) 4 defaultStatus (omega arith))
+returns c = (
+  rw (c .before .default .ensures, c .at-most-four .ensures)
+      (take-replicate (min (c .before .before .args .players) 4) 4 defaultStatus (omega arith)),
+  c .at-most-four .ensures,
+)
 
 pub new-spec : {M : Type 1} → statement M
 new-spec = tie.close (tie.spec default-requires at-most-four-requires returns)
