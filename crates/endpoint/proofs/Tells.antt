@@ -4,7 +4,8 @@ use mathlib.Core.Bool.{Bool, true, false, not, _||_}
 use mathlib.Core.Path.{_≡_, refl, sym, _∙_, ap}
 use Prim.Native.Nat.{ℕ, _-_, _≤_, _<_}
 use lib.Dec.{ltb, eqb}
-use lib.ListN.{length, getD}
+use lib.ListN.{length, take, getD}
+use Rattle.base.proofs.Arrays.{take-count}
 use Rattle.answer.specs.Number.{number-tells}
 use Rattle.answer.specs.declared.Answer.the-variants.{BadClock, NotSynchronized, NotEnoughData}
 use Rattle.pending.specs.Pending.{waiting}
@@ -30,12 +31,14 @@ use Rattle.endpoint.specs.declared.getters.StatusResult.the-variants.{St
 use Rattle.endpoint.specs.declared.getters.StatsResult.{StatsResult}
 use Rattle.endpoint.specs.declared.getters.StatsResult.the-variants.{Stats, Refused}
 use Rattle.endpoint.specs.Endpoint.{seen}
-use Rattle.endpoint.specs.Told.{told, shownStatus, shownStats}
+use Rattle.endpoint.specs.Told.{told, HandlesAs, shownStatus, shownStats}
 
 module _ (e : Endpoint) where
-  pub tells-handles : Value.numbers (listed (e .setup .handles)) ≡ valueOf Call.handles (seen e)
+  pub tells-handles : (n : ℕ) → n ≡ length (listed (e .setup .handles)) → HandlesAs (seen e) (record { list = e .setup .handles .list; count = n })
   unfolding valueOf seen termsWith
-  tells-handles = refl
+  tells-handles n h =
+      let same : take n (e .setup .handles .list) ≡ listed (e .setup .handles) = rw h (sym (take-count (e .setup .handles .count) (e .setup .handles .list))) in
+      (ap Value.numbers same, h ∙ ap length (sym same))
 
   pub tells-synchronized : (b : Bool) → b ≡ synchronizedIn (e .sync .phase) → Value.flag b ≡ valueOf Call.isSynchronized (seen e)
   unfolding valueOf seen
@@ -112,8 +115,8 @@ same-stats (Refused a) (Stats b) h = let v : Value.nothing ≡ Value.stats b = a
 same-stats (Refused a) (Refused b) h = ap Refused (number-tells a b (ap (λ (t : ℕ × Value). t .0) h))
 
 module _ (e : Endpoint) where
-  pub handles-settled : (r s : Handles) → Value.numbers (listed r) ≡ valueOf Call.handles (seen e) → Value.numbers (listed s) ≡ valueOf Call.handles (seen e) → listed r ≡ listed s
-  handles-settled r s a b = cc
+  pub handles-settled : (r s : Handles) → HandlesAs (seen e) r → HandlesAs (seen e) s → (listed r ≡ listed s) × (r .count ≡ s .count)
+  handles-settled r s a b = let same : listed r ≡ listed s = let n : Value.numbers (listed r) ≡ Value.numbers (listed s) = a .0 ∙ sym (b .0) in cc in (same, a .1 ∙ ap length same ∙ sym (b .1))
 
   pub is-synchronized-settled : (r s : Bool) → Value.flag r ≡ valueOf Call.isSynchronized (seen e) → Value.flag s ≡ valueOf Call.isSynchronized (seen e) → r ≡ s
   is-synchronized-settled r s a b = cc

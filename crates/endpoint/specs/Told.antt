@@ -1,8 +1,12 @@
 -- What a call that changes nothing tells: its number, and its value where that is 0; and how the two answers that may be refused show both.
+use mathlib.Core.Path.{_≡_}
 use Prim.Native.Nat.{ℕ}
 use lib.Dec.{eqb}
+use lib.ListN.{length}
 use Rattle.base.specs.Pick.{pick}
 use Rattle.answer.specs.Number.{numberOf}
+use Rattle.setup.specs.declared.Handles.{Handles}
+use Rattle.setup.specs.Setup.{listed}
 use Rattle.protocol.specs.Seen.{Seen}
 use Rattle.protocol.specs.Call.{Call}
 use Rattle.protocol.specs.Step.{step}
@@ -14,6 +18,10 @@ use Rattle.endpoint.specs.declared.getters.StatsResult.the-variants.{Sta
 
 unfoldable pub told : Call → Seen → ℕ × Value
 told c s = (step c s .answer, pick (eqb (step c s .answer) 0) (valueOf c s) Value.nothing)
+
+-- the handles, with a count that is their number
+abbrev pub HandlesAs : Seen → Handles → Type 0
+HandlesAs s r = (Value.numbers (listed r) ≡ valueOf Call.handles s) × (r .count ≡ length (listed r))
 
 abbrev pub shownStatus : StatusResult → ℕ × Value
 shownStatus (Status status) = (0, Value.status status)

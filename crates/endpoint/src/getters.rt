@@ -4,12 +4,11 @@ ghost use mathlib.Core.Path.{_≡_};
 ghost use Prim.Native.Nat.{_-_};
 ghost use lib.Dec.{ltb};
 ghost use Rattle.checksums.specs.Checksums.{stored};
-ghost use Rattle.setup.specs.Setup.{listed};
 ghost use Rattle.protocol.specs.Seen.{isSynchronizing, isRunning};
 ghost use Rattle.protocol.specs.Call.{Call};
 ghost use Rattle.protocol.specs.Value.{Value, valueOf, synchronizedIn};
 ghost use Rattle.endpoint.specs.Endpoint.{seen};
-ghost use Rattle.endpoint.specs.Told.{told, shownStatus, shownStats};
+ghost use Rattle.endpoint.specs.Told.{told, HandlesAs, shownStatus, shownStats};
 use crate::Endpoint;
 use answer::Answer;
 use checksums::Checksums;
@@ -66,11 +65,16 @@ fn is_early(start: u64, epoch: u64) -> bool
 }
 
 impl Endpoint {
-    // Ascending.
+    // Ascending, with a count that is their number.
     pub fn handles(self) -> Handles
-        ensures { λ r. ⌜ Value.numbers (listed r) ≡ valueOf Call.handles (seen self) ⌝ }
+        ensures { λ r. ⌜ HandlesAs (seen self) r ⌝ }
     {
-        self.setup.handles
+        let handles = self.setup.handles;
+        let list = handles.list;
+        Handles {
+            list,
+            count: handles.count(),
+        }
     }
 
     // Also after the end.

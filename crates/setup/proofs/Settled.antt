@@ -1,20 +1,23 @@
--- Two answers that a contract allows are equal, by name for each public function: a setup up to what its array of handles holds past the count.
+-- Two answers that a contract allows are equal, by name for each public function: of a setup its terms and the count of its handles, so that what their array holds past the count alone is open.
 use mathlib.Core.Bool.{Bool}
 use mathlib.Core.Path.{_≡_}
 use Prim.Native.Nat.{ℕ}
+use lib.ListN.{length}
 use Rattle.base.proofs.Settled.{settled}
+use Rattle.setup.specs.declared.Handles.{Handles}
 use Rattle.setup.specs.declared.Setup.{Setup}
-use Rattle.setup.specs.Setup.{Terms, badSetup, sorted, listed, termsOf, termsWith, receivingWidth, sendingWidth, intervalOf}
+use Rattle.setup.specs.Setup.{badSetup, sorted, listed, termsOf, termsWith, SortedAs, receivingWidth, sendingWidth, intervalOf}
+
+pub count-settled : (h : Handles) (r s : ℕ) → r ≡ length (listed h) → s ≡ length (listed h) → r ≡ s
+count-settled h = settled (λ r. r) (length (listed h))
 
 module _ (g : Setup) where
   pub is-bad-settled : (r s : Bool) → r ≡ badSetup g → s ≡ badSetup g → r ≡ s
   is-bad-settled = settled (λ r. r) (badSetup g)
 
-  abbrev pub sortedTerms : Terms
-  sortedTerms = termsWith (sorted (listed (g .handles))) g
-
-  pub sorted-settled : (r s : Setup) → termsOf r ≡ sortedTerms → termsOf s ≡ sortedTerms → termsOf r ≡ termsOf s
-  sorted-settled = settled termsOf sortedTerms
+  pub sorted-settled : (r s : Setup) → SortedAs g r → SortedAs g s → (termsOf r ≡ termsOf s) × (r .handles .count ≡ s .handles .count)
+  sorted-settled r s p q =
+      (settled termsOf (termsWith (sorted (listed (g .handles))) g) r s (p .0) (q .0), settled (λ (x : Setup). x .handles .count) (g .handles .count) r s (p .1) (q .1))
 
   pub receiving-width-settled : (r s : ℕ) → r ≡ receivingWidth (termsOf g) → s ≡ receivingWidth (termsOf g) → r ≡ s
   receiving-width-settled = settled (λ r. r) (receivingWidth (termsOf g))

@@ -55,6 +55,10 @@ anyOf (t ∷ ts) = pick t true (anyOf ts)
 abbrev pub listed : Handles → List ℕ
 listed h = take (h .count) (h .list)
 
+-- handles that list these, with this count; what their array holds past the count is left open
+abbrev pub ListedAs : List ℕ → ℕ → Handles → Type 0
+ListedAs hs n r = (listed r ≡ hs) × (r .count ≡ n)
+
 -- handles 1 to 4, distinct, each at most 65,535
 abbrev pub badHandles : Handles → Bool
 badHandles h = anyOf (outside 1 4 (h .count) ∷ anyTwice (listed h) ∷ anyAbove 65535 (listed h) ∷ [])
@@ -115,6 +119,10 @@ termsWith handles g =
 -- the terms of a setup as given
 abbrev pub termsOf : Setup → Terms
 termsOf g = termsWith (listed (g .handles)) g
+
+-- a setup with its handles sorted, and their count as it was, beyond 4 too
+abbrev pub SortedAs : Setup → Setup → Type 0
+SortedAs g r = (termsOf r ≡ termsWith (sorted (listed (g .handles))) g) × (r .handles .count ≡ g .handles .count)
 
 -- off counts as interval 1
 abbrev pub intervalOf : DesyncDetection → ℕ

@@ -1,6 +1,6 @@
 // The setup of an endpoint: what is given to `new`, whether it keeps the ceilings, and what an endpoint reads of it.
 ghost use mathlib.Core.Path.{_≡_};
-ghost use Rattle.setup.specs.Setup.{termsOf, termsWith, badSetup, badDesync, sorted, listed, outside, intervalOf, receivingWidth, sendingWidth};
+ghost use Rattle.setup.specs.Setup.{termsOf, SortedAs, badSetup, badDesync, outside, intervalOf, receivingWidth, sendingWidth};
 
 mod list;
 
@@ -77,9 +77,9 @@ impl Setup {
             | desync
     }
 
-    // The handles ascending, all else as it was.
+    // The handles ascending, all else as it was, the count too.
     pub fn sorted(self) -> Setup
-        ensures { λ r. ⌜ termsOf r ≡ termsWith (sorted (listed (self .handles))) self ⌝ }
+        ensures { λ r. ⌜ SortedAs self r ⌝ }
     {
         let handles = self.handles.sorted();
         Setup { handles, ..self }

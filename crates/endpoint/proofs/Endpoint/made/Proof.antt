@@ -37,7 +37,7 @@ returns : tie.Need-returns
 returns c =
     makes (c .before .before .before .before .before .before .before .before .before .before .args .setup) (c .before .before .before .before .before .before .before .before .before .before .args .now)
     (c .before .before .before .before .before .before .before .sorted .result) (c .before .before .before .before .before .before .new2 .result) (c .before .before .before .before .before .new3 .result) (c .before .before .before .before .new4 .result) (c .before .before .before .new5 .result) (c .before .before .new6 .result) (c .before .before .before .before .before .before .before .before .new .result) (c .before .new7 .result) (c .new8 .result)
-    (c .before .before .before .before .before .before .before .sorted .ensures) (c .before .before .before .before .before .before .new2 .ensures) (c .before .before .before .before .before .new3 .ensures) (c .before .before .before .before .new4 .ensures) (c .before .before .before .new5 .ensures) (c .before .before .new6 .ensures) (c .before .before .before .before .before .before .before .before .new .ensures .0) (c .before .new7 .ensures) (c .new8 .ensures)
+    (c .before .before .before .before .before .before .before .sorted .ensures .0) (c .before .before .before .before .before .before .new2 .ensures) (c .before .before .before .before .before .new3 .ensures) (c .before .before .before .before .new4 .ensures) (c .before .before .before .new5 .ensures) (c .before .before .new6 .ensures) (c .before .before .before .before .before .before .before .before .new .ensures .0) (c .before .new7 .ensures) (c .new8 .ensures)
 
 pub made-spec : {M : Type 1} → statement M
 made-spec =
