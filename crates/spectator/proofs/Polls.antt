@@ -41,7 +41,7 @@ use Rattle.watching.specs.Handling.{handledAll}
 use Rattle.watching.specs.Call.{Call}
 use Rattle.watching.specs.Step.{step, refused, decided, hostActs, hostTakes, pollRefusal, polled, pollStep}
 use Rattle.status.specs.declared.list.Statuses.{Statuses}
-use Rattle.status.specs.Statuses.{held as heldStatuses}
+use Rattle.status.specs.Statuses.{held as heldStatuses, HeldAs}
 use Rattle.spectator.specs.declared.SpectatorSession.{SpectatorSession}
 use Rattle.spectator.specs.declared.polling.Polled.{Polled}
 use Rattle.spectator.specs.Session.{seen, hosted}
@@ -256,7 +256,7 @@ module _ (s : SpectatorSession) (now epoch nonce : ℕ) (buffer buffer′ : List
         same = λ _. es;
       })
 
-  module _ (old : TakenEvents) (eo : TakenAs (s .host) old) (c : Statuses) (ec : (heldStatuses c ≡ heldStatuses (s .statuses)) × (c .count ≡ length (heldStatuses (s .statuses)))) (acts : HostEnded)
+  module _ (old : TakenEvents) (eo : TakenAs (s .host) old) (c : Statuses) (ec : HeldAs (heldStatuses (s .statuses)) (length (heldStatuses (s .statuses))) c) (acts : HostEnded)
       (ea : HostDidAs (old .endpoint) (hostStep (HostCall.act (c .count) (heldStatuses c) now epoch nonce (length buffer)) (seenHost (old .endpoint))) buffer acts buffer′) where
     olds : held (old .events) ≡ seen s .host .events
     unfolding hostValueOf seen

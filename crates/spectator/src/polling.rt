@@ -1,7 +1,6 @@
 // Polling: the host acts, all its events are handled, its messages are taken.
 ghost use mathlib.Core.Path.{_≡_};
 ghost use lib.ListN.{length};
-ghost use Rattle.status.specs.Statuses.{held as heldStatuses};
 ghost use Rattle.events.specs.Events.{held};
 ghost use Rattle.watching.specs.Call.{Call};
 ghost use Rattle.watching.specs.Handling.{handledAll};
@@ -16,24 +15,12 @@ use crate::handling::Terms;
 use answer::Answer;
 use endpoint::Endpoint;
 use events::Events;
-use status::Statuses;
 
 // What a poll answers, with the session after it, and how many bytes from the buffer's start are handed back.
 pub struct Polled {
     pub answer: Answer,
     pub session: SpectatorSession,
     pub filled: usize,
-}
-
-// The statuses with a count that is their own.
-fn counted(statuses: Statuses) -> Statuses
-    ensures { λ r. ⌜ (heldStatuses r ≡ heldStatuses statuses) × (r .count ≡ length (heldStatuses statuses)) ⌝ }
-{
-    let list = statuses.list;
-    Statuses {
-        list,
-        count: statuses.count(),
-    }
 }
 
 impl SpectatorSession {
@@ -138,7 +125,7 @@ impl SpectatorSession {
     {
         let old = self.host.take_events();
         let host = old.endpoint;
-        let acted = host.act(counted(self.statuses), now, epoch, nonce, out);
+        let acted = host.act(self.statuses.lent(), now, epoch, nonce, out);
         let answer = acted.answer;
         let Answer::Done = answer else {
             return self.refused(answer);

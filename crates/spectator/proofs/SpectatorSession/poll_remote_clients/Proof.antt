@@ -8,8 +8,8 @@ use Rattle.spectator.proofs.SpectatorSession.poll_remote_clients.Tie as
 take-events-requires : tie.Need-take-events-requires
 take-events-requires c κs = search needs
 
-counted-requires : tie.Need-counted-requires
-counted-requires c κs = search needs
+lent-requires : tie.Need-lent-requires
+lent-requires c κs = search needs
 
 act-requires : tie.Need-act-requires
 act-requires c κs = search needs
@@ -27,7 +27,7 @@ returns : tie.Need-returns
 returns c =
     let a = c .before .before .before .before .before .before .before .before .before .before .args in
     let o = c .before .before .before .before .before .before .before .before .take-events in
-    let t = c .before .before .before .before .before .before .counted in
+    let t = c .before .before .before .before .before .before .lent in
     let e = c .before .before .before .before .act in
     act-refuses (a .self) (a .now) (a .epoch) (a .nonce) (a .out .now) _ (o .result) (o .ensures) (t .result) (t .ensures) (e .result) (e .ensures) (not-done (e .result .answer) (c .before .match .keys2)) (c .refused .result) (c .refused .ensures)
 
@@ -41,10 +41,10 @@ returns-2 : tie.Need-returns-2
 returns-2 c =
     let a = c .before .before .before .before .before .before .before .before .before .before .before .before .args in
     let o = c .before .before .before .before .before .before .before .before .before .before .take-events in
-    let t = c .before .before .before .before .before .before .before .before .counted in
+    let t = c .before .before .before .before .before .before .before .before .lent in
     let e = c .before .before .before .before .before .before .act in
     act-done-polls (a .self) (a .now) (a .epoch) (a .nonce) (a .out .now) _ (o .result) (o .ensures) (t .result) (t .ensures) (e .result) (e .ensures) (c .before .before .enum-told .given .1) (e .kept .1 .1 .1 .1 .1 .0) (c .take-in .result) (c .take-in .ensures)
 
 pub poll-remote-clients-spec : {M : Type 1} → statement M
 poll-remote-clients-spec =
-    tie.close (tie.spec take-events-requires counted-requires act-requires enum-told refused-requires same-length returns take-in-requires same-length-2 returns-2)
+    tie.close (tie.spec take-events-requires lent-requires act-requires enum-told refused-requires same-length returns take-in-requires same-length-2 returns-2)
