@@ -7,14 +7,10 @@ ghost use Rattle.status.specs.Status.{reported};
 ghost use Rattle.status.specs.Statuses.{held, mergedAll};
 ghost use Rattle.codec.specs.Message.{listed};
 ghost use Rattle.codec.specs.declared.StatusReport.{StatusReport};
-ghost use Rattle.events.specs.Events.{plain};
-ghost use Rattle.events.specs.declared.Event.the-variants.{Disconnected};
 ghost use Rattle.protocol.specs.Seen.{isDisconnected};
 ghost use Rattle.endpoint.specs.Informed.{InformedAs};
 use crate::hearing;
 use codec::StatusReports;
-use events::Entry;
-use events::Event;
 use protocol::Flags;
 use protocol::Phase;
 use status::Statuses;
@@ -102,14 +98,5 @@ pub(crate) fn inform(
         clocks,
         flags,
         statuses: informed_statuses(statuses, disconnect_requested, reports),
-    }
-}
-
-pub(crate) fn disconnection() -> Entry
-    ensures { λ r. ⌜ r ≡ plain Disconnected ⌝ }
-{
-    Entry {
-        event: Event::Disconnected,
-        input: [0u8; 16],
     }
 }

@@ -20,14 +20,12 @@ use codec::SIZES;
 use frame::BIAS32;
 use history::History;
 use packing::InputBytes;
+use pending::MOST_PENDING;
 use setup::Setup;
 use timers::Clocks;
 
 // How many frames there are.
 const FRAMES: usize = 0x1_0000_0000;
-
-// As many inputs as may be pending at the other end.
-const MOST_FRAMES: usize = 129;
 
 // A packet that is looked into, and nothing done yet: the reference with whether it is held, and what is found of it.
 pub struct Opened {
@@ -54,11 +52,11 @@ fn is_discarded(disconnect_requested: bool, count: usize, players: u32, start_fr
     (!disconnect_requested & (count != players as usize)) | (start_frame < BIAS32)
 }
 
-// Whether a payload has more frames than that.
+// Whether a payload has more frames than may be pending at the other end.
 fn is_too_long(setup: Setup, length: usize) -> bool
     ensures { λ r. ⌜ r ≡ ltb (129 * receivingWidth (termsOf setup)) length ⌝ }
 {
-    MOST_FRAMES * setup.receiving_width() < length
+    MOST_PENDING * setup.receiving_width() < length
 }
 
 // Whether inputs can be read: their reference is held, and they are whole frames.

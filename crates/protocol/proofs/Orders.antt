@@ -30,7 +30,7 @@ use Rattle.protocol.specs.Receiving.{taken, receivedIf, receive, announc
 use Rattle.protocol.specs.Checksum.{checksumSent}
 use Rattle.protocol.specs.Call.{Call}
 use Rattle.protocol.specs.Step.{statsStep, statusStep, takeStep, checksumStep, fresh, synchronizeStep, filtered, ignored, resumed, heard, onBody, messageStep, sendStep, disconnectStep, step}
-use Rattle.protocol.proofs.Bouts.{P3, new, fr, wire, none, hand, after, starting, actAt, handshake, reply}
+use Rattle.protocol.proofs.Bouts.{P3, setupWith, new, fr, wire, none, hand, after, starting, actAt, handshake, reply}
 
 -- a clock above its ceiling
 abbrev late : ℕ
@@ -64,6 +64,9 @@ orders :
     × (step (hand (wire (Input false nullFrame nullFrame) none (replicate 130 0)) 2000 0) new .answer ≡ 0)
     -- 6 for the frame past the largest, also where nothing fits
     × (step (Call.message 3 2 (wire (Input false 0xFFFF_FFFF nullFrame) none (1 ∷ 2 ∷ [])) 2000 2000 0 0) new .answer ≡ 6)
+    -- but not for a packet that cannot be read: its reference is not held, or it is no whole frames
+    × (step (hand (wire (Input false 0xFFFF_FFFF nullFrame) none (1 ∷ 2 ∷ [])) 2000 0) (after (P3 ∷ []) new) .answer ≡ 0)
+    × (step (hand (wire (Input false 0xFFFF_FFFF nullFrame) none (1 ∷ 2 ∷ 3 ∷ [])) 2000 0) (fresh (setupWith 2) 1000 .1) .answer ≡ 0)
     -- synchronize a second time
     × (step (Call.synchronize 2000 2000 1 65536) (after handshake new) .answer ≡ 2)
     -- the handshake's events; an equal nonce counts once
@@ -94,7 +97,7 @@ orders :
     -- from then on another magic is not heard
     × (step (Call.message 3 0 (record { magic = 8; body = KeepAlive; reports = []; payload = [] }) 2000 2000 0 0) (after handshake new) .after .clocks .«last_recv_time» ≡ 1000)
 unfolding kept has without xors framesOf unpack pack decodableLength decodable zeros padded dropTo lastTo firstFrame lastFrame room payload blank highest newestOf foundIn atLine above numbered packetOf takenIn issued fits defaultStatus reported merged mergedAll freshStatuses hasRoom inputOf inputEntry announced badSetup anyAbove anyTwice inserted sorted termsWith made refused decided queueWire sizes done bufferFull isFull nonceIssued request started synchronized counted running replied onSyncReply droppedTo acknowledged badFrame reportOf pendingInput pendingQueued accepted tooMany inputSent referenceFrame taken receivedIf receive announcedEach discarded packetOverflows statusesMerged informed gotten inputTaken inputUnless onInput fresh synchronizeStep filtered ignored resumed heard onBody messageStep sendStep disconnectStep step statsStep statusStep takeStep checksumStep checksumSent
-orders = (refl, refl, refl, refl, refl, refl, refl, refl, refl, refl, refl, refl, refl, refl, refl, refl, refl, refl, refl, refl, refl, refl, refl, refl, refl, refl, refl, refl, refl, refl, refl)
+orders = (refl, refl, refl, refl, refl, refl, refl, refl, refl, refl, refl, refl, refl, refl, refl, refl, refl, refl, refl, refl, refl, refl, refl, refl, refl, refl, refl, refl, refl, refl, refl, refl, refl)
 
 -- ---- the 129th pending input
 

@@ -9,8 +9,9 @@ use Rattle.setup.specs.declared.Setup.{Setup}
 use Rattle.protocol.specs.Seen.{Seen, made}
 use Rattle.protocol.specs.Call.{Call}
 use Rattle.protocol.specs.Step.{fresh, step}
-use Rattle.sound.specs.Runs.{ran, lentTo, Lent, lentRan, allGone, allOut}
+use Rattle.sound.specs.Runs.{ran, allTold, allHanded, lentTo, Lent, lentRan, allGone, allOut}
 use Rattle.sound.proofs.Queue.{run-queues}
+use Rattle.sound.proofs.Told.{run-tells}
 use Rattle.sound.specs.Each.{Each}
 use Rattle.sound.specs.Typed.{Typed, TypedSetup}
 use Rattle.sound.specs.Sound.{Sound}
@@ -26,6 +27,11 @@ pub run-lent : (n : ℕ) (cs : List Call) → Each Typed cs → Each (λ c. lent
 unfolding Lent Each
 run-lent n [] t l s h = tt
 run-lent n (c ∷ cs) t l s h = (l .0, step-fits c (t .0) s h, run-lent n cs (t .1) (l .1) (step c s .after) (step-sound c (t .0) s h))
+
+-- of an endpoint that `new` made, events handed out and held are those that were told
+pub reached-tells : (g : Setup) (now : ℕ) (cs : List Call) → allHanded cs (fresh g now .1) ++ ran cs (fresh g now .1) .events ≡ allTold cs (fresh g now .1)
+unfolding fresh made
+reached-tells g now cs = run-tells cs (fresh g now .1)
 
 module _ (g : Setup) (now : ℕ) (t : TypedSetup g) (z : fresh g now .0 ≡ 0) (cs : List Call) (ts : Each Typed cs) where
   pub reached-sound : Sound (ran cs (fresh g now .1))
