@@ -1,14 +1,13 @@
 -- An Input that is neither refused nor ignored nor discarded brings its receiver at least to its last frame, if the receiver has none yet or still holds the
 -- frame before its first; otherwise it announces no frame.
-use mathlib.Core.Bool.{Bool, true, false, not, _&&_, _||_}
+use mathlib.Core.Bool.{Bool, true, false, not, _&&_, _||_, and-false}
 use mathlib.Core.List.{List, [], _∷_, _++_, append-nil}
 use mathlib.Core.Logic.{_⊎_, inl, inr}
 use mathlib.Core.Path.{_≡_, refl, sym, ap, _∙_}
 use Prim.Native.Nat.{ℕ, _≤_}
-use native.Mathlib.Omega.{arith}
 use lib.Dec.{eqb}
 use lib.ListN.{length}
-use borrow.Author.Tests.{le-ltb, eq-eqb, eqb-true}
+use borrow.Author.Tests.{le-ltb, eq-eqb}
 use Rattle.base.specs.First.{firstOf}
 use Rattle.base.proofs.Kept.{kept-append}
 use Rattle.frame.specs.Bias.{bias32, nullFrame}
@@ -19,14 +18,13 @@ use Rattle.codec.specs.declared.MessageBody.the-variants.{Input}
 use Rattle.events.specs.declared.Entry.{Entry}
 use Rattle.timers.specs.Timers.{badClocks}
 use Rattle.protocol.specs.Seen.{Seen}
-use Rattle.protocol.specs.Did.{Did, refused, decided, silent, done}
+use Rattle.protocol.specs.Did.{Did, decided, silent, done}
 use Rattle.protocol.specs.Handshake.{Reaction}
-use Rattle.protocol.specs.Room.{isFull}
 use Rattle.protocol.specs.Receiving.{receive, announcedEach, discarded, inputTaken, inputUnless, onInput}
 use Rattle.protocol.specs.Call.{Call}
 use Rattle.protocol.specs.Step.{filtered, ignored, heard, onBody, reactionRefusals, step, messageStep, datagramStep}
+use Rattle.protocol.proofs.Decided.{decided-done, loud}
 use Rattle.sound.specs.Each.{Each}
-use Rattle.sound.proofs.Choices.{by-pick}
 use Rattle.exchange.specs.Frames.{announcedIn, lastTold}
 use Rattle.exchange.specs.Runs.{End, next, announcedBy, Run, Heard, Heeded, Brings, EachBrings}
 use Rattle.exchange.proofs.Lists.{Mem}
@@ -42,28 +40,6 @@ any : {X : Type 0} (l : List X) → Each (λ x. (magic : ℕ) → Unit {0}) l
 unfolding Each
 any [] = tt
 any (x ∷ l) = (λ magic. tt, any l)
-
--- a call's number is 0 where no test holds, if it does not silently return
-done-if : (n : ℕ) (s : Seen) (d : Did) → (n ≡ silent → ⊥) → decided n s d .answer ≡ 0 → n ≡ 0
-unfolding decided refused
-done-if n s d k =
-    by-pick (λ (x : Did). x .answer ≡ 0 → n ≡ 0) (eqb n 0) d _ (λ e z. eqb-true n 0 e) (λ e.
-    by-pick (λ (x : Did). x .answer ≡ 0 → n ≡ 0) (eqb n silent) (refused 0 s) (refused n s) (λ f z. absurd (k (eqb-true n silent f))) (λ f z. z))
-
-not-silent : (c l o f : Bool) → firstOf ((c, 8) ∷ (false, silent) ∷ (l, 12) ∷ (o, 6) ∷ (f, 5) ∷ []) ≡ silent → ⊥
-not-silent true l o f e = omega arith
-not-silent false true o f e = omega arith
-not-silent false false true f e = omega arith
-not-silent false false false true e = omega arith
-not-silent false false false false e = omega arith
-
-decided-done : (n : ℕ) (s : Seen) (d : Did) → n ≡ 0 → decided n s d ≡ d
-unfolding decided
-decided-done n s d e = rw e
-
-and-false : (t : Bool) → t && false ≡ false
-and-false true = refl
-and-false false = refl
 
 -- ---- 01's rules, as the step tests them
 
@@ -142,10 +118,8 @@ module _ (a b : End) (t : Tied a b) where
     unfolding messageStep
     message-done peer buffer z i =
         let r : Reaction = onBody (w .body) count w now epoch nonce (heard now s) in
-        let n : ℕ = firstOf ((badClocks now epoch, 8) ∷ (ignored peer (w .magic) s, silent) ∷ reactionRefusals buffer r) in
-        let n0 : n ≡ 0 =
-        done-if n s (done (r .effect)) (λ q. not-silent (badClocks now epoch) (r .tooLong) (r .overflows) (r .storeFull || isFull buffer (r .effect)) (rw (heard-passes peer (w .magic) s i) at q)) z in
-        decided-done n s (done (r .effect)) n0 ∙ ap done effect-is
+        let l : List (Bool × ℕ) = (badClocks now epoch, 8) ∷ (ignored peer (w .magic) s, silent) ∷ reactionRefusals buffer r in
+        decided-done (firstOf l) s (done (r .effect)) (loud l (refl, (heard-passes peer (w .magic) s i, (refl, (refl, (refl, tt)))))) z ∙ ap done effect-is
 
   pub each-brings : EachBrings a b
   unfolding step datagramStep decided

@@ -6,7 +6,7 @@ use Prim.Native.Nat.{ℕ, _^_, _<_}
 use native.Mathlib.Omega.{arith}
 use lib.Dec.{eqb}
 use lib.ListN.{length}
-use borrow.Author.Tests.{eqb-true, not-false}
+use borrow.Author.Tests.{eqb-true, ne-eqb, not-false}
 use Rattle.base.specs.Pick.{pick}
 use Rattle.base.specs.First.{firstOf}
 use Rattle.base.specs.Keyed.{kept}
@@ -34,10 +34,11 @@ use Rattle.protocol.specs.Receiving.{Got, receive, announcedEach, discarded, in
 use Rattle.protocol.specs.Advantage.{bothKnown, localAdvantage, advantageUpdated}
 use Rattle.protocol.specs.Call.{Call}
 use Rattle.protocol.specs.Step.{changed, heard, onBody, step, synchronizeStep, messageStep, datagramStep, actStep, sendStep, disconnectStep, checksumStep, advantageStep, statsStep, statusStep, takeStep}
+use Rattle.protocol.proofs.Decided.{by-decided, decided-both, loud}
 use Rattle.sound.specs.Each.{Each}
 use Rattle.sound.specs.Sound.{Sound}
 use Rattle.sound.specs.Typed.{Typed}
-use Rattle.sound.proofs.Choices.{or-none, passes, by-pick}
+use Rattle.sound.proofs.Choices.{or-none, passes}
 use Rattle.sound.proofs.Eaches.{each-also}
 use Rattle.sound.proofs.Leaves.{by-cases}
 use Rattle.exchange.specs.Frames.{Frame, acceptedBy}
@@ -77,12 +78,6 @@ pub record Kept (a b : Side) (d : Did) (acc : List Frame) : Type 0 where
 
 kept-as : {a b : Side} {d : Did} {acc : List Frame} → d .after .setup ≡ a .state .setup → Both (onto a d acc) b → Kept a b d acc
 kept-as e h = record { both = h; setup = e }
-
--- a call that is refused, silently returns, or is done
-by-decided : (n : ℕ) (s : Seen) (d : Did) (Q : Did → Type 0) → (n ≡ 0 → Q d) → (n ≡ silent → Q (refused 0 s)) → (eqb n 0 ≡ false → Q (refused n s)) → Q (decided n s d)
-unfolding decided
-by-decided n s d Q f g h =
-    by-pick Q (eqb n 0) d _ (λ e. f (eqb-true n 0 e)) (λ e. by-pick Q (eqb n silent) (refused 0 s) (refused n s) (λ k. g (eqb-true n silent k)) (λ _. h e))
 
 -- both at once, of a message that an end queues
 abbrev Sent : {w v : ℕ} → (t : Tape w) → (n : ℕ) → (u : Tape v) → (m : ℕ) → Wire → Type 0
@@ -210,13 +205,13 @@ module _ (a b : Side) (both : Both a b) (meet : Meet (a .state) (b .state)) (sou
   pub message-both : (from count : ℕ) (w : Wire) (now epoch nonce buffer : ℕ) → (carries (w .body) ≡ true → Mem w (b .queued)) → Kept a b (messageStep from count w now epoch nonce buffer s) []
   unfolding messageStep
   message-both from count w now epoch nonce buffer q =
-      by-decided _ s _ (λ d. Kept a b d []) (λ _. body-done (w .magic) (w .body) (w .reports) (w .payload) q count now epoch nonce) (λ _. refuses 0) (λ _. refuses _)
+      decided-both _ s _ (λ d. Kept a b d []) refuses (λ _. body-done (w .magic) (w .body) (w .reports) (w .payload) q count now epoch nonce)
 
   pub datagram-both : (from : ℕ) (bytes : List ℕ) (now epoch nonce buffer : ℕ) → (numberIn (datagram bytes) ≡ 0 → carries (wireIn (datagram bytes) .body) ≡ true → Mem (wireIn (datagram bytes)) (b .queued))
       → Kept a b (datagramStep from bytes now epoch nonce buffer s) []
   unfolding datagramStep
   datagram-both from bytes now epoch nonce buffer q =
-      by-decided _ s _ (λ d. Kept a b d []) (λ z. message-both from (length (wireIn (datagram bytes) .reports)) (wireIn (datagram bytes)) now epoch nonce buffer (q z)) (λ _. refuses 0) (λ _. refuses _)
+      decided-both _ s _ (λ d. Kept a b d []) refuses (λ z. message-both from (length (wireIn (datagram bytes) .reports)) (wireIn (datagram bytes)) now epoch nonce buffer (q z))
 
   -- ---- the other calls
 
@@ -230,8 +225,7 @@ module _ (a b : Side) (both : Both a b) (meet : Meet (a .state) (b .state)) (sou
   act-both : (count : ℕ) (statuses : List ConnectionStatus) (now epoch nonce buffer : ℕ) → Kept a b (actStep count statuses now epoch nonce buffer s) []
   unfolding actStep
   act-both count statuses now epoch nonce buffer =
-      by-decided _ s _ (λ d. Kept a b d []) (λ _. finished (acted (s .phase) now epoch nonce statuses (begin s)) (acts Ok quiet s statuses (pending-ok statuses) (s .phase) now epoch nonce))
-      (λ _. refuses 0) (λ _. refuses _)
+      decided-both _ s _ (λ d. Kept a b d []) refuses (λ _. finished (acted (s .phase) now epoch nonce statuses (begin s)) (acts Ok quiet s statuses (pending-ok statuses) (s .phase) now epoch nonce))
 
   -- an input is accepted: the Input of all that is pending then has it
   module _ (frame : ℕ) (bytes : List ℕ) (small : frame < 2 ^ 32) (long : length bytes ≡ sendingWidth (s .setup)) (right : badFrame frame (s .carried .sender) ≡ false) where
@@ -272,31 +266,27 @@ module _ (a b : Side) (both : Both a b) (meet : Meet (a .state) (b .state)) (sou
         }))
 
   -- a send is accepted in Running if it is not refused; its number 0 alone does not tell, for outside Running it silently returns
-  not-silent : (c l f r : Bool) → firstOf ((c, 8) ∷ (l, 3) ∷ (false, silent) ∷ (f, 4) ∷ (r, 5) ∷ []) ≡ silent → ⊥
-  not-silent true l f r e = omega arith
-  not-silent false true f r e = omega arith
-  not-silent false false true r e = omega arith
-  not-silent false false false true e = omega arith
-  not-silent false false false false e = omega arith
-
   send-both : (frame : ℕ) (bytes : List ℕ) (count : ℕ) (statuses : List ConnectionStatus) (now buffer : ℕ) → frame < 2 ^ 32
       → Kept a b (sendStep frame bytes count statuses now buffer s)
       (pick (isRunning (s .phase) && eqb (sendStep frame bytes count statuses now buffer s .answer) 0) (record { number = frame; bytes = bytes } ∷ []) [])
   unfolding sendStep done refused
   send-both frame bytes count statuses now buffer small = go (isRunning (s .phase)) refl
     where
+      tests : Bool → List (Bool × ℕ)
+      tests run =
+          (badClock now, 8) ∷ (badStatuses count s || badBytes bytes s, 3) ∷ (not run, silent) ∷ (badFrame frame (s .carried .sender), 4)
+          ∷ (pendingFull s || isFull buffer (inputSent now frame bytes statuses (begin s)), 5) ∷ []
+
       number : Bool → ℕ
-      number run =
-          firstOf ((badClock now, 8) ∷ (badStatuses count s || badBytes bytes s, 3) ∷ (not run, silent) ∷ (badFrame frame (s .carried .sender), 4)
-          ∷ (pendingFull s || isFull buffer (inputSent now frame bytes statuses (begin s)), 5) ∷ [])
+      number run = firstOf (tests run)
 
       go : (run : Bool) → isRunning (s .phase) ≡ run
           → Kept a b (decided (number run) s (done (inputSent now frame bytes statuses (begin s))))
           (pick (run && eqb (decided (number run) s (done (inputSent now frame bytes statuses (begin s))) .answer) 0) (record { number = frame; bytes = bytes } ∷ []) [])
-      go false q = by-decided (number false) s (done (inputSent now frame bytes statuses (begin s))) (λ d. Kept a b d []) (λ z.
+      go false q = decided-both (number false) s (done (inputSent now frame bytes statuses (begin s))) (λ d. Kept a b d []) refuses (λ z.
           let c = passes (badClock now) 7 _ z in
           let l = passes (badStatuses count s || badBytes bytes s) 2 _ (c .1) in
-          absurd (omega (arith, l .1))) (λ _. refuses 0) (λ _. refuses (number false))
+          absurd (omega (arith, l .1)))
       go true q =
           by-decided (number true) s (done (inputSent now frame bytes statuses (begin s))) (λ d. Kept a b d (pick (eqb (d .answer) 0) (record { number = frame; bytes = bytes } ∷ []) []))
           (λ z.
@@ -305,9 +295,8 @@ module _ (a b : Side) (both : Both a b) (meet : Meet (a .state) (b .state)) (sou
           let f = passes (badFrame frame (s .carried .sender)) 3 _ (l .1) in
           let long : length bytes ≡ sendingWidth (s .setup) = eqb-true _ _ (not-false _ (or-none (badStatuses count s) _ (l .0) .1)) in
           sent-done frame bytes small long (f .0) now statuses)
-          (λ z. absurd (not-silent (badClock now) (badStatuses count s || badBytes bytes s) (badFrame frame (s .carried .sender))
-          (pendingFull s || isFull buffer (inputSent now frame bytes statuses (begin s))) z))
-          (λ z. rw z (refuses (number true)))
+          (λ z. absurd (loud (tests true) (refl, (refl, (refl, (refl, (refl, tt))))) z))
+          (λ z _. rw (ne-eqb (number true) 0 z) (refuses (number true)))
 
   updated : (f : ℕ) → Kept a b (changed (advantageUpdated f s)) []
   unfolding advantageUpdated localAdvantage
@@ -317,19 +306,19 @@ module _ (a b : Side) (both : Both a b) (meet : Meet (a .state) (b .state)) (sou
   pub call-kept : (c : Call) → Typed c → Allowed c (b .queued) → Kept a b (step c s) (acceptedBy c s)
   unfolding step synchronizeStep disconnectStep checksumStep advantageStep statsStep statusStep takeStep
   call-kept (Call.synchronize now epoch nonce buffer) t q =
-      by-decided _ s _ (λ d. Kept a b d []) (λ _. finished (synchronized now epoch nonce (begin s)) (starting Ok quiet s now epoch nonce)) (λ _. refuses 0) (λ _. refuses _)
+      decided-both _ s _ (λ d. Kept a b d []) refuses (λ _. finished (synchronized now epoch nonce (begin s)) (starting Ok quiet s now epoch nonce))
   call-kept (Call.message from count w now epoch nonce buffer) t q = message-both from count w now epoch nonce buffer q
   call-kept (Call.datagram from bytes now epoch nonce buffer) t q = datagram-both from bytes now epoch nonce buffer q
   call-kept (Call.act count statuses now epoch nonce buffer) t q = act-both count statuses now epoch nonce buffer
   call-kept (Call.sendInput frame bytes count statuses now buffer) t q = send-both frame bytes count statuses now buffer (t .0)
-  call-kept (Call.disconnect now) t q = by-decided _ s _ (λ d. Kept a b d []) (λ _. changes _ refl refl) (λ _. refuses 0) (λ _. refuses _)
+  call-kept (Call.disconnect now) t q = decided-both _ s _ (λ d. Kept a b d []) refuses (λ _. changes _ refl refl)
   call-kept (Call.sendChecksumReport frame checksum now buffer) t q =
-      by-decided _ s _ (λ d. Kept a b d []) (λ _. finished (checksumSent now frame checksum (begin s)) (checking Ok quiet s now frame checksum)) (λ _. refuses 0) (λ _. refuses _)
-  call-kept (Call.updateLocalFrameAdvantage f) t q = by-decided _ s _ (λ d. Kept a b d []) (λ _. updated f) (λ _. refuses 0) (λ _. refuses _)
-  call-kept (Call.networkStats epoch) t q = by-decided _ s _ (λ d. Kept a b d []) (λ _. changes s refl refl) (λ _. refuses 0) (λ _. refuses _)
-  call-kept (Call.peerConnectStatus handle) t q = by-decided _ s _ (λ d. Kept a b d []) (λ _. changes s refl refl) (λ _. refuses 0) (λ _. refuses _)
+      decided-both _ s _ (λ d. Kept a b d []) refuses (λ _. finished (checksumSent now frame checksum (begin s)) (checking Ok quiet s now frame checksum))
+  call-kept (Call.updateLocalFrameAdvantage f) t q = decided-both _ s _ (λ d. Kept a b d []) refuses (λ _. updated f)
+  call-kept (Call.networkStats epoch) t q = decided-both _ s _ (λ d. Kept a b d []) refuses (λ _. changes s refl refl)
+  call-kept (Call.peerConnectStatus handle) t q = decided-both _ s _ (λ d. Kept a b d []) refuses (λ _. changes s refl refl)
   call-kept Call.takeEvents t q = changes _ refl refl
-  call-kept (Call.takeMessages buffer) t q = by-decided _ s _ (λ d. Kept a b d []) (λ _. changes _ refl refl) (λ _. refuses 0) (λ _. refuses _)
+  call-kept (Call.takeMessages buffer) t q = decided-both _ s _ (λ d. Kept a b d []) refuses (λ _. changes _ refl refl)
   call-kept Call.handles t q = changes s refl refl
   call-kept Call.isSynchronized t q = changes s refl refl
   call-kept Call.isRunning t q = changes s refl refl

@@ -30,10 +30,10 @@ use Rattle.protocol.specs.Handshake.{synchronized}
 use Rattle.protocol.specs.Act.{acted}
 use Rattle.protocol.specs.Receiving.{reference, taken, receivedIf, receive, announcedEach, discarded, inputTaken, inputUnless, onInput, onInputAck}
 use Rattle.protocol.specs.Step.{changed, heard, onBody, synchronizeStep, messageStep, datagramStep, actStep, statsStep, takeStep}
+use Rattle.protocol.proofs.Decided.{decided-both}
 use Rattle.sound.specs.Each.{Each}
 use Rattle.sound.specs.Sound.{Sound, SoundReceiver}
 use Rattle.sound.proofs.Receivers.{never-full}
-use Rattle.sound.proofs.Told.{decided-both}
 use Rattle.exchange.proofs.Lists.{found-mem, newest-mem}
 use Rattle.exchange.proofs.Moves.{inputsIn}
 use Rattle.exchange.proofs.Effects.{Does, hearing, starting, acts, others, acked, taking}
@@ -120,20 +120,20 @@ module _ (s : Seen) (h : Sound s) (few : Upto (s .setup .players) 0 (s .setup .h
   pub synchronize-announces : (now epoch nonce buffer : ℕ) → Announces s (synchronizeStep now epoch nonce buffer s)
   unfolding synchronizeStep
   synchronize-announces now epoch nonce buffer =
-      decided-both _ s _ (Announces s) refuses (quiet (synchronized now epoch nonce (begin s)) (starting Any (λ m b q. tt) s now epoch nonce))
+      decided-both _ s _ (Announces s) refuses (λ _. quiet (synchronized now epoch nonce (begin s)) (starting Any (λ m b q. tt) s now epoch nonce))
 
   pub act-announces : (count : ℕ) (statuses : List ConnectionStatus) (now epoch nonce buffer : ℕ) → Announces s (actStep count statuses now epoch nonce buffer s)
   unfolding actStep
   act-announces count statuses now epoch nonce buffer =
-      decided-both _ s _ (Announces s) refuses (quiet (acted (s .phase) now epoch nonce statuses (begin s)) (acts Any (λ m b q. tt) s statuses (λ x xs q. tt) (s .phase) now epoch nonce))
+      decided-both _ s _ (Announces s) refuses (λ _. quiet (acted (s .phase) now epoch nonce statuses (begin s)) (acts Any (λ m b q. tt) s statuses (λ x xs q. tt) (s .phase) now epoch nonce))
 
   pub stats-announces : (epoch : ℕ) → Announces s (statsStep epoch s)
   unfolding statsStep
-  stats-announces epoch = decided-both _ s _ (Announces s) refuses (changes s refl refl)
+  stats-announces epoch = decided-both _ s _ (Announces s) refuses (λ _. changes s refl refl)
 
   pub take-announces : (buffer : ℕ) → Announces s (takeStep buffer s)
   unfolding takeStep
-  take-announces buffer = decided-both _ s _ (Announces s) refuses (changes _ refl refl)
+  take-announces buffer = decided-both _ s _ (Announces s) refuses (λ _. changes _ refl refl)
 
   -- ---- messages
 
@@ -165,9 +165,9 @@ module _ (s : Seen) (h : Sound s) (few : Upto (s .setup .players) 0 (s .setup .h
 
   pub message-announces : (from count : ℕ) (w : Wire) (now epoch nonce buffer : ℕ) → Announces s (messageStep from count w now epoch nonce buffer s)
   unfolding messageStep
-  message-announces from count w now epoch nonce buffer = decided-both _ s _ (Announces s) refuses (body-announces (w .body) count w now epoch nonce)
+  message-announces from count w now epoch nonce buffer = decided-both _ s _ (Announces s) refuses (λ _. body-announces (w .body) count w now epoch nonce)
 
   pub datagram-announces : (from : ℕ) (bytes : List ℕ) (now epoch nonce buffer : ℕ) → Announces s (datagramStep from bytes now epoch nonce buffer s)
   unfolding datagramStep
   datagram-announces from bytes now epoch nonce buffer =
-      decided-both _ s _ (Announces s) refuses (message-announces from (length (wireIn (datagram bytes) .reports)) (wireIn (datagram bytes)) now epoch nonce buffer)
+      decided-both _ s _ (Announces s) refuses (λ _. message-announces from (length (wireIn (datagram bytes) .reports)) (wireIn (datagram bytes)) now epoch nonce buffer)

@@ -16,11 +16,11 @@ use Rattle.protocol.specs.Did.{Did, refused}
 use Rattle.protocol.specs.Advantage.{bothKnown, localAdvantage, advantageUpdated}
 use Rattle.protocol.specs.Call as Host
 use Rattle.protocol.specs.Step.{changed, advantageStep, step}
+use Rattle.protocol.proofs.Decided.{decided-both}
 use Rattle.sound.specs.Sound.{Sound}
 use Rattle.sound.proofs.Eaches.{each-also}
 use Rattle.sound.proofs.Leaves.{by-cases}
 use Rattle.sound.proofs.Sound.{step-sound}
-use Rattle.sound.proofs.Told.{decided-both}
 use Rattle.watching.specs.declared.PlayerInput.{PlayerInput}
 use Rattle.watching.specs.declared.SessionEntry.{SessionEntry}
 use Rattle.watching.specs.declared.SessionEvent.{SessionEvent}
@@ -88,7 +88,7 @@ updated-left f s = by-cases (bothKnown f s) (Left s (changed (advantageUpdated f
 
 advantage-left : (f : ℕ) (s : Seen) → Left s (advantageStep f s)
 unfolding advantageStep refused
-advantage-left f s = decided-both _ s _ (Left s) (λ k. (refl, refl, refl)) (updated-left f s)
+advantage-left f s = decided-both _ s _ (Left s) (λ k. (refl, refl, refl)) (λ _. updated-left f s)
 
 advantage-sound : (f : ℕ) (s : Seen) → f < 2 ^ 32 → Sound s → Sound (advantageStep f s .after)
 unfolding step

@@ -20,6 +20,7 @@ use Rattle.protocol.specs.Seen.{Seen, made, withEvents}
 use Rattle.protocol.specs.Did.{Did as HostDid, refused as hostRefused}
 use Rattle.protocol.specs.Call as Host
 use Rattle.protocol.specs.Step.{fresh as hostFresh, step as hostStep, synchronizeStep, messageStep, datagramStep, statsStep, takeStep}
+use Rattle.protocol.proofs.Decided.{decided-both}
 use Rattle.sound.specs.Each.{Each}
 use Rattle.sound.specs.Typed.{TypedPlace, TypedStatuses}
 use Rattle.sound.specs.Sound.{Sound}
@@ -27,7 +28,7 @@ use Rattle.sound.proofs.Choices.{or-none, passes, by-pick}
 use Rattle.sound.proofs.Eaches.{each-replicate}
 use Rattle.sound.proofs.Parts.{events-part}
 use Rattle.sound.proofs.Sound.{fresh-sound, step-sound}
-use Rattle.sound.proofs.Told.{decided-both, step-tells}
+use Rattle.sound.proofs.Told.{step-tells}
 use Rattle.watching.specs.declared.Limits.{Limits}
 use Rattle.watching.specs.declared.PlayerInput.{PlayerInput}
 use Rattle.watching.specs.declared.SessionEntry.{SessionEntry}
@@ -175,7 +176,7 @@ module _ (w : Watch) (h : Seated w) where
 
     takes-left : Left (acts .after) (hostTakes buffer acts)
     unfolding hostTakes takeStep hostRefused
-    takes-left = decided-both _ (acts .after) _ (Left (acts .after)) (λ k. (refl, refl)) (refl, refl)
+    takes-left = decided-both _ (acts .after) _ (Left (acts .after)) (λ k. (refl, refl)) (λ _. (refl, refl))
 
     -- before the first event is handled
     abbrev pub begins : Watch

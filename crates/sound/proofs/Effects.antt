@@ -1,11 +1,10 @@
 -- What a call does, step by step, keeps the state sound and queues only what the writer takes; and how a call ends.
-use borrow.Author.Tests.{leb-true, eqb-true, not-false}
+use borrow.Author.Tests.{leb-true, not-false}
 use mathlib.Core.Bool.{false}
 use mathlib.Core.List.{List, [], _∷_, _++_}
 use mathlib.Core.Path.{_≡_, refl}
 use Prim.Native.Nat.{ℕ, _+_, _^_, _<_}
 use native.Mathlib.Omega.{arith}
-use lib.Dec.{eqb}
 use lib.ListN.{length, length-append}
 use Rattle.codec.specs.Message.{Wire, Fits, FitAll, FitsBody}
 use Rattle.codec.specs.Read.{plain}
@@ -16,10 +15,11 @@ use Rattle.events.specs.declared.Event.{Event}
 use Rattle.events.specs.Events.{hasRoom}
 use Rattle.setup.specs.Setup.{Terms, SoundSetup}
 use Rattle.protocol.specs.Seen.{Seen}
-use Rattle.protocol.specs.Did.{Did, Effect, refused, decided, silent, begin, change, queueWire, queue, announce, tell, keep, done}
+use Rattle.protocol.specs.Did.{Did, Effect, refused, decided, begin, change, queueWire, queue, announce, tell, keep, done}
 use Rattle.protocol.specs.Room.{isFull, eventsFull}
+use Rattle.protocol.proofs.Decided.{decided-both}
 use Rattle.sound.specs.Sound.{Sound}
-use Rattle.sound.proofs.Choices.{or-none, by-pick}
+use Rattle.sound.proofs.Choices.{or-none}
 use Rattle.sound.proofs.Parts.{clocks-part, events-part, queued-part}
 use Rattle.sound.proofs.Fields.{sent-clock}
 
@@ -80,10 +80,8 @@ module _ (e : Effect) (g : Good e) where
 -- ---- the end of a call
 
 pub decided-keeps : (n : ℕ) (s : Seen) (d : Did) → Sound s → (n ≡ 0 → Keeps d) → Keeps (decided n s d)
-unfolding decided refused
-decided-keeps n s d h f =
-    by-pick Keeps (eqb n 0) d _ (λ e. f (eqb-true n 0 e)) (λ _.
-    by-pick Keeps (eqb n silent) (refused 0 s) (refused n s) (λ _. record { after = h; out = tt }) (λ _. record { after = h; out = tt }))
+unfolding refused
+decided-keeps n s d h f = decided-both n s d Keeps (λ _. record { after = h; out = tt }) f
 
 pub done-keeps : (buffer : ℕ) (e : Effect) → isFull buffer e ≡ false → Good e → Keeps (done e)
 unfolding done isFull hasRoom

@@ -11,7 +11,6 @@ use borrow.Author.Tests.{ltb-false}
 use lib.Dec.{ltb, eqb}
 use lib.ListN.{length, take}
 use Rattle.base.specs.Pick.{pick}
-use Rattle.base.specs.First.{firstOf}
 use Rattle.base.specs.Lay.{laidAt}
 use Rattle.base.proofs.Lay.{laid-none, laid-front, laid-length}
 use Rattle.base.proofs.Bools.{neither}
@@ -23,7 +22,7 @@ use Rattle.events.specs.declared.Entry.{Entry}
 use Rattle.outbox.specs.Outbox.{sizes}
 use Rattle.outbox.proofs.Laws.{queue-size}
 use Rattle.protocol.specs.Seen.{Seen, isRunning, isShutdown, withPhase, withEvents, withQueued, shutdownAt}
-use Rattle.protocol.specs.Did.{Did, Effect, refused, decided, silent, begin, queueWire, done}
+use Rattle.protocol.specs.Did.{Did, Effect, refused, decided, begin, queueWire, done}
 use Rattle.protocol.specs.Room.{eventsFull, bufferFull, isFull}
 use Rattle.protocol.specs.Call.{Call}
 use Rattle.protocol.specs.Handshake.{Reaction, noncesFull, synchronized, started}
@@ -33,28 +32,14 @@ use Rattle.protocol.specs.Checksum.{checksumSent}
 use Rattle.protocol.specs.Advantage.{bothKnown, localAdvantage, advantageUpdated}
 use Rattle.protocol.specs.Step.{changed, shortBuffer, wrongState, ignored, heard, onBody, step, synchronizeStep, messageStep, datagramStep, actStep, sendStep, disconnectStep, checksumStep, advantageStep, statsStep, statusStep, takeStep}
 use Rattle.protocol.specs.Value.{filledPart, handedBack}
+use Rattle.protocol.proofs.Decided.{decided-both}
 use Rattle.sound.specs.Runs.{ran, lentTo, Lent, lentAfter, lentRan, gone, allGone, allOut}
 use Rattle.sound.proofs.Leaves.{by-cases, booked, acted-leaves, sent-leaves, heard-leaves, body-leaves, request-leaves}
-use Rattle.sound.proofs.Told.{decided-both}
+use Rattle.sound.proofs.Choices.{passes}
 
 updated : (f : ℕ) (s : Seen) → advantageUpdated f s .queued ≡ s .queued
 unfolding advantageUpdated localAdvantage
 updated f s = by-cases (bothKnown f s) (advantageUpdated f s .queued ≡ s .queued) (λ h. rw h) (λ h. rw h)
-
--- where the last test of a list of refusals fails, the call may be done
-abbrev Some : List (Bool × ℕ) → Type 0
-Some [] = Unit {0}
-Some (t ∷ ts) = (eqb (t .1) 0 ≡ false) × Some ts
-
-decided-last : (ts : List (Bool × ℕ)) (t : Bool) (s : Seen) (d : Did) (P : Did → Type 0) → Some ts → ((k : ℕ) → P (refused k s)) → (t ≡ false → P d)
-    → P (decided (firstOf (ts ++ (t, 5) ∷ [])) s d)
-unfolding decided
-decided-last [] true s d P some r h = r 5
-decided-last [] false s d P some r h = h refl
-decided-last (u ∷ ts) t s d P some r h =
-    by-cases (u .0) (P (decided (firstOf (u ∷ (ts ++ (t, 5) ∷ []))) s d))
-    (λ e. rw e (by-cases (eqb (u .1) silent) (P (decided (u .1) s d)) (λ f. rw (some .0, f) (r 0)) (λ f. rw (some .0, f) (r (u .1)))))
-    (λ e. rw e (decided-last ts t s d P (some .1) r h))
 
 -- what a call queues fits a buffer of its length, or is nothing, and is counted
 pub record Queues (n : ℕ) (s : Seen) (d : Did) : Type 0 where
@@ -81,9 +66,10 @@ message-queues : (from count : ℕ) (w : Wire) (now epoch nonce n : ℕ) (s : Se
 unfolding messageStep
 message-queues from count w now epoch nonce n s =
     let r : Reaction = onBody (w .body) count w now epoch nonce (heard now s) in
-    decided-last ((badClocks now epoch, 8) ∷ (ignored from (w .magic) s, silent) ∷ (r .tooLong, 12) ∷ (r .overflows, 6) ∷ []) (r .storeFull || isFull n (r .effect)) s (done (r .effect))
-    (Queues n s) (refl, (refl, (refl, (refl, tt)))) (refused-queues n s)
-    (λ f. done-queues n s (r .effect) (body-leaves (w .body) count w now epoch nonce (heard now s) ∙ heard-leaves now s) (neither (r .storeFull) _ f .1))
+    decided-both _ s _ (Queues n s) (refused-queues n s) (λ z.
+    let l = passes (r .tooLong) 11 _ (passes (ignored from (w .magic) s) 254 _ (passes (badClocks now epoch) 7 _ z .1) .1) in
+    done-queues n s (r .effect) (body-leaves (w .body) count w now epoch nonce (heard now s) ∙ heard-leaves now s)
+    (neither (r .storeFull) _ (passes _ 4 0 (passes (r .overflows) 5 _ (l .1) .1) .0) .1))
 
 quiet : (n : ℕ) (s t : Seen) → t .queued ≡ s .queued → Queues n s (changed t)
 unfolding sizes
@@ -125,52 +111,69 @@ taken-laid buffer b s w =
     (λ h. rw (taken-refused buffer s h) (record { kept = rw laid-none; within = w; bytes = rw (laid-none, append-nil) }))
     (λ h. rw (taken-done buffer s h) (record { kept = rw laid-none; within = omega arith; bytes = refl }))
 
+-- a call takes the messages, or queues its own in the buffer that it is lent, and then none leaves the queue
+abbrev pub Takes : Call → Type 0
+Takes c = (buffer : ℕ) × (c ≡ Call.takeMessages buffer)
+
+pub step-queues : (c : Call) (n : ℕ) (s : Seen) → Takes c ⊎ (((b : List ℕ) → gone c b s ≡ []) × Queues (lentTo c n) s (step c s))
+unfolding step synchronizeStep datagramStep actStep sendStep disconnectStep checksumStep checksumSent queueWire synchronized started advantageStep statsStep statusStep
+step-queues (Call.synchronize now epoch nonce buffer) n s =
+    let e : Effect = synchronized now epoch nonce (begin s) in
+    inr (
+      λ _. refl,
+      decided-both _ s _ (Queues buffer s) (refused-queues buffer s) (λ z.
+          let f = passes _ 4 0 (passes (wrongState s) 1 _ (passes (badClocks now epoch) 7 _ z .1) .1) in
+          done-queues buffer s e (request-leaves now nonce _) (neither (noncesFull nonce s) _ (f .0) .1)),
+    )
+step-queues (Call.message from count w now epoch nonce buffer) n s = inr (λ _. refl, message-queues from count w now epoch nonce buffer s)
+step-queues (Call.datagram from bs now epoch nonce buffer) n s =
+    inr (λ _. refl, decided-both _ s _ (Queues buffer s) (refused-queues buffer s) (λ _. message-queues from _ _ now epoch nonce buffer s))
+step-queues (Call.act count statuses now epoch nonce buffer) n s =
+    let e : Effect = acted (s .phase) now epoch nonce statuses (begin s) in
+    inr (
+      λ _. refl,
+      decided-both _ s _ (Queues buffer s) (refused-queues buffer s) (λ z.
+          let f = passes _ 4 0 (passes (badStatuses count s) 2 _ (passes (badClocks now epoch) 7 _ z .1) .1) in
+          done-queues buffer s e (acted-leaves now (s .phase) epoch nonce statuses (begin s)) (neither (requestChoked (s .phase) now nonce s) _ (f .0) .1)),
+    )
+step-queues (Call.sendInput frame bs count statuses now buffer) n s =
+    let e : Effect = inputSent now frame bs statuses (begin s) in
+    inr (
+      λ _. refl,
+      decided-both _ s _ (Queues buffer s) (refused-queues buffer s) (λ z.
+          let r = passes (not (isRunning (s .phase))) 254 _ (passes (badStatuses count s || badBytes bs s) 2 _ (passes (badClock now) 7 _ z .1) .1) in
+          let f = passes _ 4 0 (passes (badFrame frame (s .carried .sender)) 3 _ (r .1) .1) in
+          done-queues buffer s e (sent-leaves now frame bs statuses (begin s)) (neither (pendingFull s) _ (f .0) .1)),
+    )
+step-queues (Call.disconnect now) n s =
+    inr (λ _. refl, decided-both _ s _ (Queues n s) (refused-queues n s) (λ _. quiet n s (withPhase Disconnected (shutdownAt (now + 5000) s)) refl))
+step-queues (Call.sendChecksumReport frame checksum now buffer) n s =
+    inr (
+      λ _. refl,
+      decided-both _ s _ (Queues buffer s) (refused-queues buffer s) (λ z.
+          done-queues buffer s (checksumSent now frame checksum (begin s)) refl (passes _ 4 0 (passes (badClock now) 7 _ z .1) .0)),
+    )
+step-queues (Call.updateLocalFrameAdvantage f) n s =
+    inr (λ _. refl, decided-both _ s _ (Queues n s) (refused-queues n s) (λ _. quiet n s (advantageUpdated f s) (updated f s)))
+step-queues (Call.networkStats epoch) n s = inr (λ _. refl, decided-both _ s _ (Queues n s) (refused-queues n s) (λ _. quiet n s s refl))
+step-queues (Call.peerConnectStatus handle) n s = inr (λ _. refl, decided-both _ s _ (Queues n s) (refused-queues n s) (λ _. quiet n s s refl))
+step-queues Call.takeEvents n s = inr (λ _. refl, quiet n s (withEvents [] s) refl)
+step-queues (Call.takeMessages buffer) n s = inl (buffer, refl)
+step-queues Call.handles n s = inr (λ _. refl, quiet n s s refl)
+step-queues Call.isSynchronized n s = inr (λ _. refl, quiet n s s refl)
+step-queues Call.isRunning n s = inr (λ _. refl, quiet n s s refl)
+step-queues (Call.isHandlingMessage from) n s = inr (λ _. refl, quiet n s s refl)
+step-queues Call.newestFrame n s = inr (λ _. refl, quiet n s s refl)
+step-queues Call.state n s = inr (λ _. refl, quiet n s s refl)
+step-queues Call.checksums n s = inr (λ _. refl, quiet n s s refl)
+
 -- every call
 step-laid : (c : Call) (b : List ℕ) (s : Seen) → lentTo c (length b) ≡ length b → FitAll (step c s .out) → s .queued ≤ length b → Laid (gone c b s) (step c s) b s
-unfolding step synchronizeStep datagramStep actStep sendStep disconnectStep checksumStep checksumSent queueWire synchronized started advantageStep statsStep statusStep
-step-laid (Call.synchronize now epoch nonce buffer) b s l fit w =
-    queued-laid (step (Call.synchronize now epoch nonce buffer) s) b s fit w (rw l (decided-last ((badClocks now epoch, 8) ∷ (wrongState s, 2) ∷ []) (noncesFull nonce s || isFull (length b) (synchronized now epoch nonce (begin s))) s _ (Queues (length b) s) (refl, (refl, tt)) (refused-queues (length b) s)
-    (λ f. done-queues (length b) s (synchronized now epoch nonce (begin s)) (request-leaves now nonce _) (neither (noncesFull nonce s) _ f .1))))
-step-laid (Call.message from count m now epoch nonce buffer) b s l fit w =
-    queued-laid (step (Call.message from count m now epoch nonce buffer) s) b s fit w (rw l (message-queues from count m now epoch nonce (length b) s))
-step-laid (Call.datagram from bs now epoch nonce buffer) b s l fit w =
-    queued-laid (step (Call.datagram from bs now epoch nonce buffer) s) b s fit w (rw l (decided-both _ s _ (Queues (length b) s) (refused-queues (length b) s) (message-queues from _ _ now epoch nonce (length b) s)))
-step-laid (Call.act count statuses now epoch nonce buffer) b s l fit w =
-    let e : Effect = acted (s .phase) now epoch nonce statuses (begin s) in
-    queued-laid (step (Call.act count statuses now epoch nonce buffer) s) b s fit w (rw l (decided-last ((badClocks now epoch, 8) ∷ (badStatuses count s, 3) ∷ []) (requestChoked (s .phase) now nonce s || isFull (length b) e) s _ (Queues (length b) s) (refl, (refl, tt)) (refused-queues (length b) s)
-    (λ f. done-queues (length b) s e (acted-leaves now (s .phase) epoch nonce statuses (begin s)) (neither (requestChoked (s .phase) now nonce s) _ f .1))))
-step-laid (Call.sendInput frame bs count statuses now buffer) b s l fit w =
-    let e : Effect = inputSent now frame bs statuses (begin s) in
-    queued-laid (step (Call.sendInput frame bs count statuses now buffer) s) b s fit w (rw l (decided-last ((badClock now, 8) ∷ (badStatuses count s || badBytes bs s, 3) ∷ (not (isRunning (s .phase)), silent) ∷ (badFrame frame (s .carried .sender), 4) ∷ []) (pendingFull s || isFull (length b) e) s _ (Queues (length b) s) (refl, (refl, (refl, (refl, tt)))) (refused-queues (length b) s)
-    (λ f. done-queues (length b) s e (sent-leaves now frame bs statuses (begin s)) (neither (pendingFull s) _ f .1))))
-step-laid (Call.disconnect now) b s l fit w =
-    queued-laid (step (Call.disconnect now) s) b s fit w (decided-both _ s _ (Queues (length b) s) (refused-queues (length b) s) (quiet (length b) s (withPhase Disconnected (shutdownAt (now + 5000) s)) refl))
-step-laid (Call.sendChecksumReport frame checksum now buffer) b s l fit w =
-    let e : Effect = checksumSent now frame checksum (begin s) in
-    queued-laid (step (Call.sendChecksumReport frame checksum now buffer) s) b s fit w (rw l (decided-last ((badClock now, 8) ∷ []) (isFull (length b) e) s _ (Queues (length b) s) (refl, tt) (refused-queues (length b) s) (λ f. done-queues (length b) s e refl f)))
-step-laid (Call.updateLocalFrameAdvantage f) b s l fit w =
-    queued-laid (step (Call.updateLocalFrameAdvantage f) s) b s fit w (decided-both _ s _ (Queues (length b) s) (refused-queues (length b) s) (quiet (length b) s (advantageUpdated f s) (updated f s)))
-step-laid (Call.networkStats epoch) b s l fit w =
-    queued-laid (step (Call.networkStats epoch) s) b s fit w (decided-both _ s _ (Queues (length b) s) (refused-queues (length b) s) (quiet (length b) s s refl))
-step-laid (Call.peerConnectStatus handle) b s l fit w =
-    queued-laid (step (Call.peerConnectStatus handle) s) b s fit w (decided-both _ s _ (Queues (length b) s) (refused-queues (length b) s) (quiet (length b) s s refl))
-step-laid Call.takeEvents b s l fit w =
-    queued-laid (step Call.takeEvents s) b s fit w (quiet (length b) s (withEvents [] s) refl)
-step-laid (Call.takeMessages buffer) b s l fit w = taken-laid buffer b s w
-step-laid Call.handles b s l fit w =
-    queued-laid (step Call.handles s) b s fit w (quiet (length b) s s refl)
-step-laid Call.isSynchronized b s l fit w =
-    queued-laid (step Call.isSynchronized s) b s fit w (quiet (length b) s s refl)
-step-laid Call.isRunning b s l fit w =
-    queued-laid (step Call.isRunning s) b s fit w (quiet (length b) s s refl)
-step-laid (Call.isHandlingMessage from) b s l fit w =
-    queued-laid (step (Call.isHandlingMessage from) s) b s fit w (quiet (length b) s s refl)
-step-laid Call.newestFrame b s l fit w =
-    queued-laid (step Call.newestFrame s) b s fit w (quiet (length b) s s refl)
-step-laid Call.state b s l fit w =
-    queued-laid (step Call.state s) b s fit w (quiet (length b) s s refl)
-step-laid Call.checksums b s l fit w =
-    queued-laid (step Call.checksums s) b s fit w (quiet (length b) s s refl)
+step-laid c b s l fit w = go (step-queues c (length b) s)
+  where
+    go : Takes c ⊎ (((b : List ℕ) → gone c b s ≡ []) × Queues (lentTo c (length b)) s (step c s)) → Laid (gone c b s) (step c s) b s
+    go (inl t) = rw (t .1) (taken-laid (t .0) b s w)
+    go (inr q) = rw (q .0 b) (queued-laid (step c s) b s fit w (rw l at (q .1)))
 
 -- what leaves the queue is what is handed back, but in Shutdown, where nothing is
 pub gone-handed : (n : ℕ) (b : List ℕ) (s : Seen) → isShutdown (s .phase) ≡ false → gone (Call.takeMessages n) b s ≡ take (handedBack n s) b

@@ -2,28 +2,21 @@
 use mathlib.Core.List.{List, [], _∷_, _++_, append-nil, append-assoc}
 use mathlib.Core.Path.{_≡_, refl, sym, _∙_, ap}
 use Prim.Native.Nat.{ℕ, _+_}
-use lib.Dec.{eqb}
 use Rattle.codec.specs.Message.{Wire}
 use Rattle.events.specs.declared.Entry.{Entry}
 use Rattle.protocol.specs.declared.Phase.the-variants.{Disconnected}
 use Rattle.protocol.specs.Seen.{Seen, withPhase, withQueued, shutdownAt}
-use Rattle.protocol.specs.Did.{Did, Effect, refused, decided, silent, begin, queueWire, done}
+use Rattle.protocol.specs.Did.{Did, Effect, refused, begin, queueWire, done}
 use Rattle.protocol.specs.Handshake.{synchronized, started}
 use Rattle.protocol.specs.Checksum.{checksumSent}
 use Rattle.protocol.specs.Advantage.{bothKnown, localAdvantage, advantageUpdated}
 use Rattle.protocol.specs.Call.{Call}
 use Rattle.protocol.specs.Step.{changed, step, synchronizeStep, heard, messageStep, datagramStep, actStep, sendStep, disconnectStep, checksumStep, advantageStep, statsStep, statusStep, takeStep}
+use Rattle.protocol.proofs.Decided.{decided-both}
 use Rattle.sound.specs.Runs.{ran, allTold, handed, allHanded}
 use Rattle.sound.proofs.Leaves.{by-cases, booked, acted-leaves, sent-leaves, heard-leaves, body-leaves, request-leaves}
 
 -- ---- calls
-
--- what holds of a refusal and of what is done holds of the call
-pub decided-both : (n : ℕ) (s : Seen) (d : Did) (P : Did → Type 0) → ((k : ℕ) → P (refused k s)) → P d → P (decided n s d)
-unfolding decided
-decided-both n s d P r h =
-    by-cases (eqb n 0) (P (decided n s d)) (λ e. rw e h) (λ e.
-    by-cases (eqb n silent) (P (decided n s d)) (λ f. rw (e, f) (r 0)) (λ f. rw (e, f) (r n)))
 
 -- a call other than taking the events puts what it tells behind what is held
 abbrev Tells : Seen → Did → Type 0
@@ -43,7 +36,7 @@ changed-tells s t h = h ∙ sym (append-nil (s .events))
 message-tells : (from count : ℕ) (w : Wire) (now epoch nonce buffer : ℕ) (s : Seen) → Tells s (messageStep from count w now epoch nonce buffer s)
 unfolding messageStep
 message-tells from count w now epoch nonce buffer s =
-    decided-both _ s _ (Tells s) (refused-tells s) (done-tells s _ (body-leaves (w .body) count w now epoch nonce (heard now s) ∙ heard-leaves now s))
+    decided-both _ s _ (Tells s) (refused-tells s) (λ _. done-tells s _ (body-leaves (w .body) count w now epoch nonce (heard now s) ∙ heard-leaves now s))
 
 updated : (f : ℕ) (s : Seen) → advantageUpdated f s .events ≡ s .events
 unfolding advantageUpdated localAdvantage
@@ -52,18 +45,18 @@ updated f s = by-cases (bothKnown f s) (advantageUpdated f s .events ≡ s .even
 -- with what it hands back, every call
 pub step-tells : (c : Call) (s : Seen) → handed c s ++ step c s .after .events ≡ s .events ++ step c s .told
 unfolding step synchronizeStep datagramStep actStep sendStep disconnectStep checksumStep checksumSent queueWire synchronized started advantageStep statsStep statusStep takeStep
-step-tells (Call.synchronize now epoch nonce buffer) s = decided-both _ s _ (Tells s) (refused-tells s) (done-tells s _ (request-leaves now nonce _))
+step-tells (Call.synchronize now epoch nonce buffer) s = decided-both _ s _ (Tells s) (refused-tells s) (λ _. done-tells s _ (request-leaves now nonce _))
 step-tells (Call.message from count w now epoch nonce buffer) s = message-tells from count w now epoch nonce buffer s
-step-tells (Call.datagram from bytes now epoch nonce buffer) s = decided-both _ s _ (Tells s) (refused-tells s) (message-tells from _ _ now epoch nonce buffer s)
-step-tells (Call.act count statuses now epoch nonce buffer) s = decided-both _ s _ (Tells s) (refused-tells s) (done-tells s _ (acted-leaves now (s .phase) epoch nonce statuses (begin s)))
-step-tells (Call.sendInput frame bytes count statuses now buffer) s = decided-both _ s _ (Tells s) (refused-tells s) (done-tells s _ (sent-leaves now frame bytes statuses (begin s)))
-step-tells (Call.disconnect now) s = decided-both _ s _ (Tells s) (refused-tells s) (changed-tells s (withPhase Disconnected (shutdownAt (now + 5000) s)) refl)
-step-tells (Call.sendChecksumReport frame checksum now buffer) s = decided-both _ s _ (Tells s) (refused-tells s) (done-tells s _ refl)
-step-tells (Call.updateLocalFrameAdvantage f) s = decided-both _ s _ (Tells s) (refused-tells s) (changed-tells s (advantageUpdated f s) (updated f s))
-step-tells (Call.networkStats epoch) s = decided-both _ s _ (Tells s) (refused-tells s) (changed-tells s s refl)
-step-tells (Call.peerConnectStatus handle) s = decided-both _ s _ (Tells s) (refused-tells s) (changed-tells s s refl)
+step-tells (Call.datagram from bytes now epoch nonce buffer) s = decided-both _ s _ (Tells s) (refused-tells s) (λ _. message-tells from _ _ now epoch nonce buffer s)
+step-tells (Call.act count statuses now epoch nonce buffer) s = decided-both _ s _ (Tells s) (refused-tells s) (λ _. done-tells s _ (acted-leaves now (s .phase) epoch nonce statuses (begin s)))
+step-tells (Call.sendInput frame bytes count statuses now buffer) s = decided-both _ s _ (Tells s) (refused-tells s) (λ _. done-tells s _ (sent-leaves now frame bytes statuses (begin s)))
+step-tells (Call.disconnect now) s = decided-both _ s _ (Tells s) (refused-tells s) (λ _. changed-tells s (withPhase Disconnected (shutdownAt (now + 5000) s)) refl)
+step-tells (Call.sendChecksumReport frame checksum now buffer) s = decided-both _ s _ (Tells s) (refused-tells s) (λ _. done-tells s _ refl)
+step-tells (Call.updateLocalFrameAdvantage f) s = decided-both _ s _ (Tells s) (refused-tells s) (λ _. changed-tells s (advantageUpdated f s) (updated f s))
+step-tells (Call.networkStats epoch) s = decided-both _ s _ (Tells s) (refused-tells s) (λ _. changed-tells s s refl)
+step-tells (Call.peerConnectStatus handle) s = decided-both _ s _ (Tells s) (refused-tells s) (λ _. changed-tells s s refl)
 step-tells Call.takeEvents s = refl
-step-tells (Call.takeMessages buffer) s = decided-both _ s _ (Tells s) (refused-tells s) (changed-tells s (withQueued 0 s) refl)
+step-tells (Call.takeMessages buffer) s = decided-both _ s _ (Tells s) (refused-tells s) (λ _. changed-tells s (withQueued 0 s) refl)
 step-tells Call.handles s = changed-tells s s refl
 step-tells Call.isSynchronized s = changed-tells s s refl
 step-tells Call.isRunning s = changed-tells s s refl
