@@ -20,6 +20,7 @@ use Rattle.codec.specs.Message.{kindOf, isInput, FitsWide, FitsBody, Fit
 use Rattle.codec.specs.Bytes.{flagBytes, frameBytes, advantageBytes, wideBytes, reportBytes, reportsBytes, statusesBytes, inputBytes, bodyBytes, head, bytes}
 use Rattle.codec.specs.Read.{Got, Reads, after, give, part, refuse, number, flagOf, flag, frame, advantage, wide, report, reports, input, plain, kinds, message}
 use Rattle.codec.specs.Read.Got.{got, fault}
+use Rattle.codec.proofs.Reports.{reports-append, fits-snoc}
 use Rattle.codec.specs.declared.StatusReport.{StatusReport}
 use Rattle.codec.specs.declared.MessageBody.{MessageBody}
 use Rattle.codec.specs.declared.MessageBody.the-variants.{SyncRequest, SyncReply, InputAck, QualityReport, QualityReply, ChecksumReport, KeepAlive}
@@ -104,17 +105,6 @@ report-right : (d : List ℕ) → Bytes d → Right reportBytes (λ r. r .«last
 unfolding report reportBytes
 report-right d h = then (start h) (flag-right d) (λ b l s w. then s (frame-right l) (λ f left s′ w′. right s′ w′))
 
-reports-join : (a b : List StatusReport) → reportsBytes (a ++ b) ≡ reportsBytes a ++ reportsBytes b
-unfolding reportsBytes
-reports-join [] b = refl
-reports-join (r ∷ a) b = rw (reports-join a b, append-assoc)
-
-frames-join : (rs : List StatusReport) (r : StatusReport) → FitsReports rs → r .«last_frame» < 2 ^ 32 → FitsReports (rs ++ r ∷ [])
-frames-join [] r h k zero d l = k
-frames-join [] r h k (suc i) d l = absurd (omega arith)
-frames-join (x ∷ rs) r h k zero d l = h 0 d (omega arith)
-frames-join (x ∷ rs) r h k (suc i) d l = frames-join rs r (λ j e m. h (suc j) e (omega arith)) k i d (omega arith)
-
 -- all m reports, those read already among them
 reports-right : (n m : ℕ) (rs : List StatusReport) (d l : List ℕ) → length rs + n ≡ m → FitsReports rs → Splits d (reportsBytes rs) l
     → Right reportsBytes (λ all. FitsReports all × (length all ≡ m)) d (reports n rs l)
@@ -122,10 +112,10 @@ unfolding reports
 reports-right zero m rs d l e f s = let k : length rs ≡ m = omega arith in right s (f, k)
 reports-right (suc n) m rs d l e f s =
     then s (report-right l)
-    (λ r left s′ w. reports-right n m (rs ++ r ∷ []) d left (simp length-append (omega arith)) (frames-join rs r f w) (known s′ (one r)))
+    (λ r left s′ w. reports-right n m (rs ++ r ∷ []) d left (simp length-append (omega arith)) (fits-snoc rs r f w) (known s′ (one r)))
   where
     one : (r : StatusReport) → reportsBytes rs ++ reportBytes r ≡ reportsBytes (rs ++ r ∷ [])
-    one r = sym (reports-join rs (r ∷ []) ∙ unfold reportsBytes in rw append-nil)
+    one r = sym (reports-append rs (r ∷ []) ∙ unfold reportsBytes in rw append-nil)
 
 all-right : (n : ℕ) (d : List ℕ) → Bytes d → Right reportsBytes (λ rs. FitsReports rs × (length rs ≡ n)) d (reports n [] d)
 unfolding reportsBytes

@@ -18,7 +18,7 @@ use Rattle.codec.specs.Message.{Wire, meant}
 use Rattle.codec.specs.Read.{Got, after, plain, ended, message, datagram, blank, numberIn, wireIn, leftIn}
 use Rattle.codec.specs.Read.Got.{got, fault}
 use Rattle.codec.specs.Front.{numberAt, endIn, FrontAs, RefusedAs, PlainAs}
-use Rattle.codec.specs.Calls.{ReadAs, PayloadAs, CutAs, payloadIn}
+use Rattle.codec.specs.Calls.{PayloadAs, CutAs, payloadIn}
 use Rattle.codec.proofs.Statuses.{fault-of}
 use Rattle.codec.specs.declared.Message.{Message}
 use Rattle.codec.specs.declared.MessageBody.{MessageBody}
@@ -109,9 +109,6 @@ ends d (fault (suc n)) l f = rw (ne-eqb (suc n) 0 (λ e. omega arith))
 -- the public calls' answers
 pub cut-front : (d : List ℕ) (r : Front) → FrontAs d (message d) r → CutAs d (record { answer = r .answer; end = r .end })
 cut-front d r h = record { answer = h .answer; end = h .end ∙ ends d (message d) (drop (r .end) d) (λ z. h .left (h .answer ∙ z)) }
-
-pub read-front : (d : List ℕ) (r : Front) → FrontAs d (datagram d) r → ReadAs d (record { answer = r .answer; message = r .message })
-read-front d r h = record { answer = h .answer; message = h .message; count = h .count }
 
 -- a datagram that reads has nothing after its message, so that its payload is its last part
 same-left : (v w : Wire) (l left : List ℕ) → got v l ≡ got w left → left ≡ l

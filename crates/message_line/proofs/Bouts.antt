@@ -1,8 +1,6 @@
 -- P1 of document 01, the printed part: the codec's laws and the line's definition.
-use mathlib.Core.Path.{_≡_, refl, sym, _∙_, ap}
-use mathlib.Core.List.{List, [], _∷_, _++_}
-use Prim.Native.Nat.{ℕ}
-use native.Mathlib.Omega.{arith}
+use mathlib.Core.Path.{_≡_, sym, _∙_, ap}
+use mathlib.Core.List.{[], _∷_, _++_}
 use Rattle.text.specs.Decimal.{decimalOf, signedOf, digits}
 use Rattle.text.specs.Hex.{hexOf}
 use Rattle.codec.specs.Read.{datagram}

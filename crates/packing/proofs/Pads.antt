@@ -14,10 +14,6 @@ pub zeros-length : length zeros ≡ 64
 unfolding zeros
 zeros-length = length-replicate {A = ℕ} 64 0
 
-pub padded-none : padded [] ≡ zeros
-unfolding padded zeros
-padded-none = refl
-
 pub padded-length : (bytes : List ℕ) → length (padded bytes) ≡ 64
 unfolding padded
 padded-length bytes = pad-length 0 64 bytes

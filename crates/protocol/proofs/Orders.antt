@@ -30,7 +30,7 @@ use Rattle.protocol.specs.Receiving.{taken, receivedIf, receive, announc
 use Rattle.protocol.specs.Checksum.{checksumSent}
 use Rattle.protocol.specs.Call.{Call}
 use Rattle.protocol.specs.Step.{statsStep, statusStep, takeStep, checksumStep, fresh, synchronizeStep, filtered, ignored, resumed, heard, onBody, messageStep, sendStep, disconnectStep, step}
-use Rattle.protocol.proofs.Bouts.{P3, setupWith, new, fr, wire, none, hand, after, starting, actAt, handshake, reply}
+use Rattle.protocol.proofs.Bouts.{P3, setupWith, new, fr, wire, none, hand, after, starting, handshake, reply}
 
 -- a clock above its ceiling
 abbrev late : ℕ

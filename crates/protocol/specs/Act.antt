@@ -1,7 +1,7 @@
 -- Act: what the clocks bring. Thresholds are strict, last + 200 < now.
 use mathlib.Core.Bool.{Bool, true, false, not, _&&_}
 use mathlib.Core.List.{List}
-use Prim.Native.Nat.{ℕ, _+_, _-_}
+use Prim.Native.Nat.{ℕ, _-_}
 use lib.Dec.{ltb}
 use Rattle.base.specs.Pick.{pick}
 use Rattle.status.specs.declared.ConnectionStatus.{ConnectionStatus}

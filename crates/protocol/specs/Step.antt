@@ -18,7 +18,7 @@ use Rattle.protocol.specs.declared.Phase.the-variants.{Disconnected}
 use Rattle.setup.specs.Setup.{badSetup}
 use Rattle.timers.specs.Timers.{badClock, badClocks}
 use Rattle.protocol.specs.Seen.{Seen, made, isInitializing, isRunning, isShutdown, withPhase, withFlags, withEvents, withQueued, heardAt, shutdownAt}
-use Rattle.protocol.specs.Did.{Did, Effect, refused, silent, decided, begin, change, tell, done}
+use Rattle.protocol.specs.Did.{Did, Effect, silent, decided, begin, change, tell, done}
 use Rattle.protocol.specs.Room.{isFull}
 use Rattle.protocol.specs.Handshake.{Reaction, plainly, synchronized, noncesFull, onSyncRequest, onSyncReply}
 use Rattle.protocol.specs.Sending.{badFrame, badStatuses, badBytes, pendingFull, inputSent}

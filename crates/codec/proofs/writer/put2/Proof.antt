@@ -1,8 +1,7 @@
 -- `put2` sets two bytes.
-use Rattle.codec.proofs.Put.{put-then, put-length, put-byte, put-two, put-pieces}
+use Rattle.codec.proofs.Put.{put-two}
 use mathlib.Core.Path.{_≡_}
 use native.Mathlib.Omega.{arith}
-use Rattle.codec.proofs.Put.{put-then, put-length, put-byte, put-pieces}
 use lib.ListN.{length-set}
 use Prim.Native.Nat.{_%_, _/_}
 use Rattle.base.specs.Little.{le}

@@ -1,11 +1,8 @@
 -- `put_wide` puts the low half and then the high half.
-use Prim.Native.Nat.{_+_}
-use Rattle.codec.proofs.Put.{put-then, put-length, put-byte, put-pieces}
 use Rattle.codec.specs.Bytes.{wideBytes}
 use Rattle.base.proofs.Little.{le-length}
 use Rattle.base.specs.Little.{le}
-use Prim.Native.Nat.{_+_}
-use Rattle.codec.proofs.Put.{put-then, put-length, put-byte, put-pieces}
+use Rattle.codec.proofs.Put.{put-then}
 use native.Mathlib.Omega.{arith}
 use borrow.Author.Needs.{needs}
 use Rattle.codec.proofs.writer.put_wide.Statement.{statement}
