@@ -1,28 +1,27 @@
 -- Document 01's table of worked bouts: a row has the bout's name, what is computed from the definitions of the bytes, the line and the calls, and what it must be.
--- The endpoint of the bouts and the words for its calls are those of the crate `protocol` (proofs/Bouts).
+-- The endpoint of the bouts and its calls are those of the crate `protocol` (proofs/Bouts).
 use mathlib.Core.Bool.{true, false}
 use mathlib.Core.List.{List, [], _∷_, _++_}
 use mathlib.Core.Path.{_≡_}
 use Prim.Native.Nat.{ℕ, _+_, _-_}
 use Prim.Native.String.{String}
-use lib.ListN.{take, replicate}
+use lib.ListN.{take}
 use Rattle.frame.specs.Bias.{bias32, bias16, nullFrame}
 use Rattle.status.specs.declared.ConnectionStatus.{ConnectionStatus}
 use Rattle.codec.specs.Bytes.{bytes}
 use Rattle.codec.specs.Read.{plain, datagram, numberIn}
 use Rattle.codec.specs.declared.MessageBody.{MessageBody}
-use Rattle.codec.specs.declared.MessageBody.the-variants.{SyncRequest, InputAck, QualityReport, QualityReply}
+use Rattle.codec.specs.declared.MessageBody.the-variants.{SyncRequest, InputAck, QualityReport}
 use Rattle.text.specs.Ascii.{ascii}
 use Rattle.message_line.specs.Line.{lineOf}
 use Rattle.events.specs.declared.Entry.{Entry}
-use Rattle.events.specs.declared.Event.the-variants as Event
 use Rattle.protocol.specs.declared.Phase.{Phase}
 use Rattle.protocol.specs.declared.Phase.the-variants.{Disconnected, Shutdown}
 use Rattle.protocol.specs.Seen.{Seen, withClocks}
 use Rattle.protocol.specs.Did.{Did}
 use Rattle.protocol.specs.Call.{Call}
-use Rattle.protocol.specs.Step.{fresh, step}
-use Rattle.protocol.proofs.Bouts.{setupWith, new, fr, none, wire, hand, packet, actAt, starting, after, handshake, bodies}
+use Rattle.protocol.specs.Step.{step}
+use Rattle.protocol.proofs.Bouts.{new, fr, none, packet, actAt, starting, after, told as input, bodies, P3, P5, P6, P8, P9, P10, heardClocks, advanced, reportAfter, pong}
 
 pub record Row : Type 1 where
   pub name : String
@@ -41,62 +40,10 @@ Holds (r ∷ rs) = (r .given ≡ r .must) × Holds rs
 abbrev pub saidBy : Call → Seen → List Entry × List MessageBody
 saidBy c s = (step c s .told, bodies (step c s))
 
--- the input of player 1 of a frame, one byte
-abbrev pub input : (frame byte : ℕ) → Entry
-input frame byte = record { event = Event.Input frame 1; input = byte ∷ replicate 15 0 }
-
 -- ---- P1 and P2
 
 abbrev pub ackBytes : List ℕ
 ackBytes = 0x34 ∷ 0x12 ∷ 0x03 ∷ 0x00 ∷ 0x00 ∷ 0x00 ∷ 0xFF ∷ 0xFF ∷ 0xFF ∷ 0xFF ∷ []
-
--- ---- the packets of P3 to P9
-
-abbrev pub p3 : Call
-p3 = packet (fr 0) none (5 ∷ 7 ∷ [])
-
-abbrev pub p5 : Call
-p5 = packet (fr 2) none (2 ∷ [])
-
--- with statuses, so that one sees them merged: player 1 disconnected at frame 3
-abbrev pub p6 : Call
-p6 = packet (fr 4) (record { disconnected = false; «last_frame» = nullFrame } ∷ record { disconnected = true; «last_frame» = fr 3 } ∷ []) (1 ∷ [])
-
-abbrev pub p8 : Call
-p8 = packet (fr 7) none (5 ∷ [])
-
-abbrev pub p9 : Call
-p9 = packet (fr 0) none []
-
--- P7's endpoint after the packet: of a fresh one only the receive time changes
-abbrev pub heardOnly : Seen
-heardOnly =
-    withClocks
-    (record {
-      «running_last_quality_report» = 1000;
-      «running_last_input_recv» = 1000;
-      «last_send_time» = 1000;
-      «last_sync_request_time» = 1000;
-      «last_recv_time» = 2000;
-      «shutdown_timeout» = 1000;
-    })
-    new
-
--- ---- P10 to P14
-
-abbrev pub p10 : Did
-p10 = step (packet (fr 0) none (1 ∷ 2 ∷ 3 ∷ [])) (fresh (setupWith 2) 1000 .1)
-
--- a frame received, and the local advantage then taken for a frame of one's own
-abbrev pub advanced : (received local : ℕ) → List Call
-advanced received local = packet received none (5 ∷ []) ∷ Call.updateLocalFrameAdvantage local ∷ []
-
-abbrev pub reported : (received local : ℕ) → List MessageBody
-reported received local = bodies (step (actAt 2000) (after (advanced received local) (after handshake new)))
-
--- at 1100 a reply to the ping of 1000: a round trip of 100
-abbrev pub pong : Call
-pong = hand (wire (QualityReply (record { low = 71000; high = 0 })) [] []) 1100 0
 
 -- ---- the table; P2's one more byte is any
 
@@ -117,49 +64,49 @@ table more =
     ∷ record {
       name = "P3: fresh, start 0, payload 05 07";
       Shown = List Entry × List MessageBody;
-      given = saidBy p3 new;
+      given = saidBy P3 new;
       must = (input (fr 0) 5 ∷ input (fr 1) 7 ∷ [], InputAck (fr 1) ∷ []);
     }
     ∷ record {
       name = "P4: P3's packet again";
       Shown = List Entry × List MessageBody;
-      given = saidBy p3 (after (p3 ∷ []) new);
+      given = saidBy P3 (after (P3 ∷ []) new);
       must = ([], InputAck (fr 1) ∷ []);
     }
     ∷ record {
       name = "P5: then start 2, payload 02";
       Shown = List Entry × List MessageBody;
-      given = saidBy p5 (after (p3 ∷ p3 ∷ []) new);
+      given = saidBy P5 (after (P3 ∷ P3 ∷ []) new);
       must = (input (fr 2) 5 ∷ [], InputAck (fr 2) ∷ []);
     }
     ∷ record {
       name = "P6: then start 4, payload 01; the statuses after it";
       Shown = (List Entry × List MessageBody) × List ConnectionStatus;
-      given = (saidBy p6 (after (p3 ∷ p3 ∷ p5 ∷ []) new), step p6 (after (p3 ∷ p3 ∷ p5 ∷ []) new) .after .statuses);
+      given = (saidBy P6 (after (P3 ∷ P3 ∷ P5 ∷ []) new), step P6 (after (P3 ∷ P3 ∷ P5 ∷ []) new) .after .statuses);
       must = (([], []), record { disconnected = false; «last_frame» = nullFrame } ∷ record { disconnected = true; «last_frame» = fr 3 } ∷ []);
     }
     ∷ record {
       name = "P7: fresh, start -1: all that it does";
       Shown = Did;
       given = step (packet nullFrame none (5 ∷ [])) new;
-      must = record { answer = 0; after = heardOnly; out = []; told = []; kept = [] };
+      must = record { answer = 0; after = withClocks heardClocks new; out = []; told = []; kept = [] };
     }
     ∷ record {
       name = "P8: fresh, start 7, payload 05, twice; the second answer";
       Shown = (List Entry × List MessageBody) × (List Entry × List MessageBody) × ℕ;
-      given = (saidBy p8 new, saidBy p8 (after (p8 ∷ []) new), step p8 (after (p8 ∷ []) new) .answer);
+      given = (saidBy P8 new, saidBy P8 (after (P8 ∷ []) new), step P8 (after (P8 ∷ []) new) .answer);
       must = ((input (fr 7) 5 ∷ [], InputAck (fr 7) ∷ []), ([], []), 0);
     }
     ∷ record {
       name = "P9: fresh, start 0, no payload";
       Shown = List Entry × List MessageBody;
-      given = saidBy p9 new;
+      given = saidBy P9 new;
       must = ([], InputAck nullFrame ∷ []);
     }
     ∷ record {
       name = "P10: S = 2, fresh, 3 payload bytes: the input time, the messages";
       Shown = ℕ × List MessageBody;
-      given = (p10 .after .clocks .«running_last_input_recv», bodies p10);
+      given = (P10 .after .clocks .«running_last_input_recv», bodies P10);
       must = (2000, []);
     }
     ∷ record {
@@ -182,7 +129,7 @@ table more =
     ∷ record {
       name = "P13: advantage 40,000; -40,000: the report, 2^15 above the number";
       Shown = List MessageBody × List MessageBody;
-      given = (reported (fr 40000) (fr 0), reported (fr 0) (fr 40000));
+      given = (reportAfter (fr 40000) (fr 0), reportAfter (fr 0) (fr 40000));
       must = (
         QualityReport (bias16 + 32767) (record { low = 72000; high = 0 }) ∷ [],
         QualityReport (bias16 - 32768) (record { low = 72000; high = 0 }) ∷ [],

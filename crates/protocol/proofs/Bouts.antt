@@ -3,7 +3,7 @@ use mathlib.Core.Bool.{true, false}
 use mathlib.Core.List.{List, [], _∷_, map}
 use mathlib.Core.Path.{_≡_, refl}
 use Prim.Native.Nat.{ℕ, _+_, _-_}
-use lib.ListN.{length, take}
+use lib.ListN.{length}
 use Rattle.base.specs.Keyed.{kept, has, without}
 use Rattle.frame.specs.Bias.{bias32, bias16, nullFrame}
 use Rattle.packing.specs.Packing.{xors, framesOf, unpack, pack, decodableLength, decodable}
@@ -42,26 +42,34 @@ use Rattle.protocol.specs.Step.{fresh, synchronizeStep, filtered, ignore
 
 -- ---- the two ends of the bouts
 
--- two players, handle 1, max_prediction 2, fps 60, peer 3
-abbrev pub setupWith : (size : ℕ) → Setup
-setupWith size =
+-- two players, fps 60, peer 3
+abbrev pub setupOf : (handles : List ℕ) → (count locals size prediction magic : ℕ) → Setup
+setupOf handles count locals size prediction magic =
     record {
       «num_players» = 2;
-      handles = record { list = 1 ∷ 0 ∷ 0 ∷ 0 ∷ []; count = 1 };
-      «local_players» = 1;
+      handles = record { list = handles; count = count };
+      «local_players» = locals;
       «input_size» = size;
-      «max_prediction» = 2;
+      «max_prediction» = prediction;
       «disconnect_timeout» = 100000;
       «disconnect_notify_start» = 50000;
       fps = 60;
-      magic = 7;
+      magic = magic;
       «peer_addr» = 3;
       choices = record { «desync_detection» = Off };
     }
 
+-- handle 1, max_prediction 2
+abbrev pub setupWith : (size : ℕ) → Setup
+setupWith size = setupOf (1 ∷ 0 ∷ 0 ∷ 0 ∷ []) 1 1 size 2 7
+
 -- made at clock 1000
 abbrev pub new : Seen
 new = fresh (setupWith 1) 1000 .1
+
+pub setup-taken : fresh (setupWith 1) 1000 .0 ≡ 0
+unfolding fresh badSetup anyAbove anyTwice has
+setup-taken = refl
 
 -- ---- short words for calls
 
@@ -106,11 +114,11 @@ abbrev pub handshake : List Call
 handshake = starting ∷ reply 1 2 ∷ reply 2 3 ∷ reply 3 4 ∷ reply 4 5 ∷ reply 5 6 ∷ []
 
 -- one byte as the input of an event
-abbrev byte : ℕ → List ℕ
+abbrev pub byte : ℕ → List ℕ
 byte b = b ∷ 0 ∷ 0 ∷ 0 ∷ 0 ∷ 0 ∷ 0 ∷ 0 ∷ 0 ∷ 0 ∷ 0 ∷ 0 ∷ 0 ∷ 0 ∷ 0 ∷ 0 ∷ []
 
 -- an input of player 1 is told
-abbrev told : (frame b : ℕ) → Entry
+abbrev pub told : (frame b : ℕ) → Entry
 told frame b = record { event = Event.Input frame 1; input = byte b }
 
 -- a message of the endpoint's own: its magic, and neither statuses nor payload
@@ -129,14 +137,17 @@ abbrev pub P5 : Call
 P5 = packet (fr 2) none (2 ∷ [])
 
 -- with statuses: player 1 disconnected at frame 3
-abbrev P6 : Call
+abbrev pub P6 : Call
 P6 = packet (fr 4) (record { disconnected = false; «last_frame» = nullFrame } ∷ record { disconnected = true; «last_frame» = fr 3 } ∷ []) (1 ∷ [])
 
-abbrev P8 : Call
+abbrev pub P8 : Call
 P8 = packet (fr 7) none (5 ∷ [])
 
+abbrev pub P9 : Call
+P9 = packet (fr 0) none []
+
 -- the clocks of an endpoint made at 1000 that heard something at 2000
-abbrev heardClocks : Clocks
+abbrev pub heardClocks : Clocks
 heardClocks =
     record {
       «running_last_quality_report» = 1000;
@@ -147,18 +158,19 @@ heardClocks =
       «shutdown_timeout» = 1000;
     }
 
-abbrev P10 : Did
+abbrev pub P10 : Did
 P10 = step (packet (fr 0) none (1 ∷ 2 ∷ 3 ∷ [])) (fresh (setupWith 2) 1000 .1)
 
 -- one frame received, and the advantage then taken for a local frame
-abbrev advanced : (start local : ℕ) → List Call
+abbrev pub advanced : (start local : ℕ) → List Call
 advanced start local = packet start none (5 ∷ []) ∷ Call.updateLocalFrameAdvantage local ∷ []
 
-abbrev reportAfter : (start local : ℕ) → List MessageBody
+abbrev pub reportAfter : (start local : ℕ) → List MessageBody
 reportAfter start local = bodies (step (actAt 2000) (after (advanced start local) (after handshake new)))
 
-abbrev pong : Wire
-pong = wire (QualityReply (record { low = 71000; high = 0 })) [] []
+-- at 1100 a reply to the ping of 1000: a round trip of 100
+abbrev pub pong : Call
+pong = hand (wire (QualityReply (record { low = 71000; high = 0 })) [] []) 1100 0
 
 pub bouts :
     -- P3: (0, 05), (1, 07), ack 1
@@ -184,8 +196,8 @@ pub bouts :
     × (step P8 (after (P8 ∷ []) new) .told ≡ [])
     × (bodies (step P8 (after (P8 ∷ []) new)) ≡ [])
     -- P9: no payload: no event, ack -1
-    × (step (packet (fr 0) none []) new .told ≡ [])
-    × (bodies (step (packet (fr 0) none []) new) ≡ InputAck nullFrame ∷ [])
+    × (step P9 new .told ≡ [])
+    × (bodies (step P9 new) ≡ InputAck nullFrame ∷ [])
     -- P10: S = 2, 3 payload bytes: input time noted, no ack
     × (P10 .after .clocks .«running_last_input_recv» ≡ 2000)
     × (bodies P10 ≡ [])
@@ -201,6 +213,6 @@ pub bouts :
     × (reportAfter (fr 40000) (fr 0) ≡ QualityReport (bias16 + 32767) (record { low = 72000; high = 0 }) ∷ [])
     × (reportAfter (fr 0) (fr 40000) ≡ QualityReport (bias16 - 32768) (record { low = 72000; high = 0 }) ∷ [])
     -- P14: rtt 100, fps 60, newest 10, local 12: advantage 1
-    × (after (hand pong 1100 0 ∷ advanced (fr 10) (fr 12)) new .quality .«local_frame_advantage» ≡ bias32 + 1)
+    × (after (pong ∷ advanced (fr 10) (fr 12)) new .quality .«local_frame_advantage» ≡ bias32 + 1)
 unfolding kept has without xors framesOf unpack pack decodableLength decodable zeros padded dropTo lastTo room blank highest newestOf foundIn atLine above numbered packetOf takenIn issued fits defaultStatus reported merged mergedAll freshStatuses hasRoom inputOf inputEntry announced badSetup anyAbove anyTwice inserted sorted termsWith made refused decided queueWire sizes done bufferFull isFull nonceIssued request started synchronized counted running replied onSyncReply droppedTo acknowledged pendingQueued referenceFrame taken receivedIf receive announcedEach discarded packetOverflows statusesMerged informed gotten inputTaken inputUnless onInput resent actReported keptAlive interrupted timedOut acted clamped reportQueued roundTrip roundTripNoted onQualityReply advantageOf advantageOverflows localAdvantage advantageUpdated fresh synchronizeStep filtered ignored resumed heard onBody messageStep actStep disconnectStep advantageStep step
 bouts = (refl, refl, refl, refl, refl, refl, refl, refl, refl, refl, refl, refl, refl, refl, refl, refl, refl, refl, refl, refl, refl, refl, refl, refl, refl, refl, refl, refl)
