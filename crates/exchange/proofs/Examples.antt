@@ -32,7 +32,6 @@ use Rattle.events.specs.declared.Event.{Event}
 use Rattle.events.specs.declared.Event.the-variants as Event
 use Rattle.quality.specs.Quality.{startedAt, freshQuality}
 use Rattle.setup.specs.declared.Setup.{Setup}
-use Rattle.setup.specs.declared.DesyncDetection.the-variants.{Off}
 use Rattle.setup.specs.Setup.{badSetup, anyAbove, anyTwice, inserted, sorted, termsWith}
 use Rattle.outbox.specs.Outbox.{sizes, reportOf, pendingInput}
 use Rattle.protocol.specs.declared.Phase.the-variants.{Synchronizing, Running}
@@ -45,9 +44,10 @@ use Rattle.protocol.specs.Receiving.{taken, receivedIf, receive, announcedEach,
 use Rattle.protocol.specs.Call.{Call}
 use Rattle.protocol.specs.Step.{fresh, synchronizeStep, filtered, ignored, resumed, heard, onBody, messageStep, sendStep, step}
 use Rattle.protocol.proofs.Datagrams.{bytes-message}
-use Rattle.protocol.proofs.Bouts.{fr, none, epochAt, hand, starting}
+use Rattle.protocol.proofs.Bouts.{setupOf, fr, none, epochAt, hand, starting}
 use Rattle.sound.specs.Each.{Each}
-use Rattle.sound.specs.Typed.{Typed, TypedSetup}
+use Rattle.sound.specs.Typed.{IsU32, Typed}
+use Rattle.sound.proofs.Examples.{small-typed}
 use Rattle.exchange.specs.Frames.{Frame, Given, Told, joined, announcedIn, lastTold}
 use Rattle.exchange.specs.Runs.{End, starts, next, announcedBy, Allowed, Meet, Run, InOrder, Heard, Heeded, Ready}
 use Rattle.exchange.specs.Runs.Run.{begin, atA, atB}
@@ -58,28 +58,12 @@ use Rattle.exchange.proofs.Brings.{brings}
 
 -- ---- the two ends: one local player with two bytes against two players with one byte each
 
-abbrev setupOf : (count locals size magic : ℕ) → Setup
-setupOf count locals size magic =
-    record {
-      «num_players» = 2;
-      handles = record { list = 1 ∷ 0 ∷ 0 ∷ 0 ∷ []; count = count };
-      «local_players» = locals;
-      «input_size» = size;
-      «max_prediction» = 1;
-      «disconnect_timeout» = 100000;
-      «disconnect_notify_start» = 50000;
-      fps = 60;
-      magic = magic;
-      «peer_addr» = 3;
-      choices = record { «desync_detection» = Off };
-    }
-
 -- handle 1, and handles 1 and 0, which are kept as 0 and 1
 abbrev wide : Setup
-wide = setupOf 1 1 2 7
+wide = setupOf (1 ∷ 0 ∷ 0 ∷ 0 ∷ []) 1 1 2 1 7
 
 abbrev narrow : Setup
-narrow = setupOf 2 2 1 9
+narrow = setupOf (1 ∷ 0 ∷ 0 ∷ 0 ∷ []) 2 2 1 1 9
 
 abbrev a0 : End
 a0 = starts (fresh wide 1000 .1)
@@ -320,25 +304,6 @@ sample-facts = (refl, refl, refl, refl, refl, refl)
 
 -- ---- so they are the ends of a run
 
-setup-typed : (count locals size magic : ℕ) → count < 100 → locals < 100 → size < 100 → magic < 100 → TypedSetup (setupOf count locals size magic)
-unfolding Each
-setup-typed count locals size magic c l s m =
-    record {
-      players = omega arith;
-      handles = refl;
-      handle = (omega arith, (omega arith, (omega arith, (omega arith, tt))));
-      count = omega arith;
-      localPlayers = omega arith;
-      inputSize = omega arith;
-      maxPrediction = omega arith;
-      disconnectTimeout = omega arith;
-      notifyStart = omega arith;
-      fps = omega arith;
-      magic = omega arith;
-      peer = omega arith;
-      desync = tt;
-    }
-
 met : Meet (a0 .state) (b0 .state)
 unfolding fresh made termsWith inserted sorted
 met = record { there = refl; back = refl }
@@ -352,9 +317,11 @@ unfolding fresh badSetup anyAbove anyTwice has
 narrow-taken = refl
 
 begun : Run a0 b0
+unfolding Each
 begun =
-    begin wide narrow 1000 1000 (setup-typed 1 1 2 7 (omega arith) (omega arith) (omega arith) (omega arith))
-    (setup-typed 2 2 1 9 (omega arith) (omega arith) (omega arith) (omega arith)) wide-taken narrow-taken met
+    let h : Each IsU32 (1 ∷ 0 ∷ 0 ∷ 0 ∷ []) = (omega arith, (omega arith, (omega arith, (omega arith, tt)))) in
+    begin wide narrow 1000 1000 (small-typed _ 1 1 2 1 7 refl h (omega arith, (omega arith, (omega arith, (omega arith, (omega arith, tt))))))
+    (small-typed _ 2 2 1 1 9 refl h (omega arith, (omega arith, (omega arith, (omega arith, (omega arith, tt)))))) wide-taken narrow-taken met
 
 -- calls on one end, one after the other
 atA-all : {a b : End} → Run a b → (cs : List Call) → Each Typed cs → Each (λ c. Allowed c (b .queued)) cs → Run (nexts cs a) b

@@ -32,7 +32,9 @@ use Rattle.protocol.specs.Receiving.{taken, receivedIf, receive, announcedEach,
 use Rattle.protocol.specs.Act.{resent, reported as actReported, keptAlive, interrupted, timedOut, acted}
 use Rattle.protocol.specs.Advantage.{localAdvantage, advantageUpdated}
 use Rattle.protocol.specs.Step.{synchronizeStep, filtered, ignored, resumed, heard, onBody, messageStep, actStep, advantageStep, takeStep}
+use Rattle.protocol.proofs.Bouts.{fr, none}
 use Rattle.sound.specs.Each.{Each}
+use Rattle.sound.proofs.Examples.{small-typed, reply-typed}
 use Rattle.watching.specs.declared.InputStatus.the-variants.{Confirmed}
 use Rattle.watching.specs.declared.SyncedInput.{SyncedInput}
 use Rattle.watching.specs.declared.SessionSetup.{SessionSetup}
@@ -42,8 +44,8 @@ use Rattle.watching.specs.Inputs.{blankInput, freshInputs, inputStored, inputAt
 use Rattle.watching.specs.Handling.{lastOf, toldTo, tell, inputHandled, handled, handledAll}
 use Rattle.watching.specs.Advance.{framesToAdvance, framesRefusal, syncedAt, requestAt, requestsFrom, requestsOf, advanceRefusal, heldAt, frameRefusal}
 use Rattle.watching.specs.Call.{Call}
-use Rattle.watching.specs.Step.{fresh, refused, decided, byHost, hostActs, hostTakes, pollRefusal, polled, pollStep, advanceStep, step}
-use Rattle.watching.proofs.Examples.{setupWith, new, ready, plain, synced, shaken, fr, none, reply, packet, poll, handshake}
+use Rattle.watching.specs.Step.{fresh, decided, byHost, hostActs, hostTakes, pollRefusal, polled, pollStep, advanceStep, step}
+use Rattle.watching.proofs.Examples.{setupWith, new, ready, plain, synced, shaken, packet, poll, handshake}
 use Rattle.seated.specs.Typed.{Typed, TypedSession}
 use Rattle.seated.specs.Seated.{Rising, Seated, ran}
 use Rattle.seated.specs.Told.{allHandled, inputEvent}
@@ -97,31 +99,14 @@ setup = setupWith 4 8 2 2
 session-typed : TypedSession setup
 unfolding hostSetup Each
 session-typed =
-    record {
-      players = omega arith;
-      handles = refl;
-      handle = (omega arith, (omega arith, (omega arith, (omega arith, tt))));
-      count = omega arith;
-      localPlayers = omega arith;
-      inputSize = omega arith;
-      maxPrediction = omega arith;
-      disconnectTimeout = omega arith;
-      notifyStart = omega arith;
-      fps = omega arith;
-      magic = omega arith;
-      peer = omega arith;
-      desync = tt;
-    }
+    small-typed (0 ∷ 1 ∷ 2 ∷ 3 ∷ []) 2 1 1 2 7 refl (omega arith, (omega arith, (omega arith, (omega arith, tt))))
+    (omega arith, (omega arith, (omega arith, (omega arith, (omega arith, tt)))))
 
 session-taken : fresh setup 1000 .0 ≡ 0
 unfolding fresh badSession hostSetup badSetup badLimits anyAbove anyTwice has
 session-taken = refl
 
 -- ---- its calls
-
-reply-typed : (nonce : ℕ) → nonce < 100 → Typed (reply nonce (nonce + 1))
-reply-typed nonce h =
-    (omega arith, omega arith, record { magic = omega arith; body = omega arith; frames = λ i d b. absurd (omega arith); bytes = λ i. omega arith }, (omega arith, omega arith, omega arith, omega arith))
 
 -- frames 0 to 2, a byte of each player
 abbrev three : Call

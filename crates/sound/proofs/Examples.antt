@@ -1,24 +1,24 @@
 -- Worked: an endpoint as made, and after its handshake.
+use mathlib.Core.List.{List, [], _∷_}
 use mathlib.Core.Path.{_≡_, refl}
 use Prim.Native.Nat.{ℕ, _+_, _<_}
 use native.Mathlib.Omega.{arith}
-use Rattle.base.specs.Keyed.{has}
-use Rattle.setup.specs.Setup.{badSetup, anyAbove, anyTwice}
-use Rattle.protocol.specs.Step.{fresh}
+use lib.ListN.{length}
 use Rattle.sound.specs.Runs.{ran}
-use Rattle.protocol.proofs.Bouts.{setupWith, new, handshake, reply}
+use Rattle.protocol.proofs.Bouts.{setupOf, setupWith, setup-taken, new, handshake, reply}
 use Rattle.sound.specs.Each.{Each}
-use Rattle.sound.specs.Typed.{Typed, TypedSetup}
+use Rattle.sound.specs.Typed.{IsU32, Typed, TypedSetup}
 use Rattle.sound.specs.Sound.{Sound}
 use Rattle.sound.proofs.Runs.{reached-sound}
 
-setup-typed : TypedSetup (setupWith 1)
+pub small-typed : (handles : List ℕ) (count locals size prediction magic : ℕ) → length handles ≡ 4 → Each IsU32 handles
+    → Each (λ n. n < 100) (count ∷ locals ∷ size ∷ prediction ∷ magic ∷ []) → TypedSetup (setupOf handles count locals size prediction magic)
 unfolding Each
-setup-typed =
+small-typed handles count locals size prediction magic l h k =
     record {
       players = omega arith;
-      handles = refl;
-      handle = (omega arith, (omega arith, (omega arith, (omega arith, tt))));
+      handles = l;
+      handle = h;
       count = omega arith;
       localPlayers = omega arith;
       inputSize = omega arith;
@@ -31,10 +31,6 @@ setup-typed =
       desync = tt;
     }
 
-setup-taken : fresh (setupWith 1) 1000 .0 ≡ 0
-unfolding fresh badSetup anyAbove anyTwice has
-setup-taken = refl
-
 pub reply-typed : (nonce : ℕ) → nonce < 100 → Typed (reply nonce (nonce + 1))
 reply-typed nonce h =
     (omega arith, omega arith, record { magic = omega arith; body = omega arith; frames = λ i d b. absurd (omega arith); bytes = λ i. omega arith }, (omega arith, omega arith, omega arith, omega arith))
@@ -45,4 +41,7 @@ handshake-typed =
     ((omega arith, omega arith, omega arith, omega arith), (reply-typed 1 (omega arith), (reply-typed 2 (omega arith), (reply-typed 3 (omega arith), (reply-typed 4 (omega arith), (reply-typed 5 (omega arith), tt))))))
 
 running-sound : Sound (ran handshake new)
-running-sound = reached-sound (setupWith 1) 1000 setup-typed setup-taken handshake handshake-typed
+unfolding Each
+running-sound =
+    reached-sound (setupWith 1) 1000 (small-typed (1 ∷ 0 ∷ 0 ∷ 0 ∷ []) 1 1 1 2 7 refl (omega arith, (omega arith, (omega arith, (omega arith, tt))))
+    (omega arith, (omega arith, (omega arith, (omega arith, (omega arith, tt)))))) setup-taken handshake handshake-typed

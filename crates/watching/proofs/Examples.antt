@@ -15,7 +15,6 @@ use Rattle.status.specs.Status.{defaultStatus, reported, merged}
 use Rattle.status.specs.Statuses.{mergedAll, fresh as freshStatuses}
 use Rattle.codec.specs.Message.{Wire}
 use Rattle.codec.specs.declared.StatusReport.{StatusReport}
-use Rattle.codec.specs.declared.MessageBody.{MessageBody}
 use Rattle.codec.specs.declared.MessageBody.the-variants.{SyncReply, Input, QualityReply}
 use Rattle.events.specs.declared.Entry.{Entry}
 use Rattle.events.specs.declared.Event.{Event}
@@ -39,6 +38,7 @@ use Rattle.protocol.specs.Reports.{reportQueued, roundTripNoted, onQualityReply
 use Rattle.protocol.specs.Advantage.{localAdvantage, advantageUpdated}
 use Rattle.protocol.specs.Value.{filledPart}
 use Rattle.protocol.specs.Step.{synchronizeStep, filtered, ignored, resumed, heard, onBody, messageStep, actStep, advantageStep, takeStep}
+use Rattle.protocol.proofs.Bouts.{fr, wire, none, epochAt}
 use Rattle.watching.specs.declared.InputStatus.the-variants.{Confirmed, Disconnected}
 use Rattle.watching.specs.declared.SessionEntry.{SessionEntry}
 use Rattle.watching.specs.declared.SessionEvent.{SessionEvent}
@@ -77,24 +77,10 @@ setupWith slots events behind speed =
 abbrev pub new : (slots events behind speed : ℕ) → Watch
 new slots events behind speed = fresh (setupWith slots events behind speed) 1000 .1
 
--- ---- short words for calls
-
--- frame f, biased
-abbrev pub fr : ℕ → ℕ
-fr f = bias32 + f
-
-abbrev pub wire : MessageBody → List StatusReport → List ℕ → Wire
-wire body reports payload = record { magic = 9; body = body; reports = reports; payload = payload }
+-- ---- short words for calls; more are those of the bouts
 
 abbrev pub report : Bool → ℕ → StatusReport
 report disconnected frame = record { disconnected = disconnected; «last_frame» = frame }
-
-abbrev pub none : List StatusReport
-none = report false nullFrame ∷ report false nullFrame ∷ []
-
--- the epoch clock stands 70,000 ahead of the monotonic one
-abbrev pub epochAt : ℕ → ℕ
-epochAt now = 70000 + now
 
 -- a message from a peer at a clock, with a new nonce
 abbrev pub handFrom : (from : ℕ) → Wire → (now nonce : ℕ) → Call
