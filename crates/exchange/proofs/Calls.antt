@@ -10,6 +10,7 @@ use borrow.Author.Tests.{eqb-true, ne-eqb, not-false}
 use Rattle.base.specs.Pick.{pick}
 use Rattle.base.specs.First.{firstOf}
 use Rattle.base.specs.Keyed.{kept}
+use Rattle.base.proofs.Bools.{neither}
 use Rattle.packing.specs.Pad.{padded}
 use Rattle.packing.specs.declared.input_bytes.InputBytes.{InputBytes}
 use Rattle.status.specs.declared.ConnectionStatus.{ConnectionStatus}
@@ -38,7 +39,7 @@ use Rattle.protocol.proofs.Decided.{by-decided, decided-both, loud}
 use Rattle.sound.specs.Each.{Each}
 use Rattle.sound.specs.Sound.{Sound}
 use Rattle.sound.specs.Typed.{Typed}
-use Rattle.sound.proofs.Choices.{or-none, passes}
+use Rattle.sound.proofs.Choices.{passes}
 use Rattle.sound.proofs.Eaches.{each-also}
 use Rattle.sound.proofs.Leaves.{by-cases}
 use Rattle.exchange.specs.Frames.{Frame, acceptedBy}
@@ -293,7 +294,7 @@ module _ (a b : Side) (both : Both a b) (meet : Meet (a .state) (b .state)) (sou
           let c = passes (badClock now) 7 _ z in
           let l = passes (badStatuses count s || badBytes bytes s) 2 _ (c .1) in
           let f = passes (badFrame frame (s .carried .sender)) 3 _ (l .1) in
-          let long : length bytes ≡ sendingWidth (s .setup) = eqb-true _ _ (not-false _ (or-none (badStatuses count s) _ (l .0) .1)) in
+          let long : length bytes ≡ sendingWidth (s .setup) = eqb-true _ _ (not-false _ (neither (badStatuses count s) _ (l .0) .1)) in
           sent-done frame bytes small long (f .0) now statuses)
           (λ z. absurd (loud (tests true) (refl, (refl, (refl, (refl, (refl, tt))))) z))
           (λ z _. rw (ne-eqb (number true) 0 z) (refuses (number true)))

@@ -13,6 +13,7 @@ use borrow.Author.Tests.{ltb-false, eqb-true, eqb-false, le-leb, not-false}
 use Rattle.base.specs.Pick.{pick}
 use Rattle.base.specs.Keyed.{kept}
 use Rattle.base.proofs.Kept.{kept-append}
+use Rattle.base.proofs.Bools.{neither}
 use Rattle.frame.specs.Bias.{bias32, nullFrame}
 use Rattle.packing.specs.Packing.{frameCount, decodable, Wide}
 use Rattle.packing.specs.declared.input_bytes.InputBytes.{InputBytes}
@@ -31,7 +32,7 @@ use Rattle.protocol.specs.Sending.{droppedTo, lastAccepted, badFrame}
 use Rattle.protocol.specs.Receiving.{Got, receivedIf, receive, announcedEach}
 use Rattle.sound.specs.Each.{Each}
 use Rattle.sound.specs.Sound.{SoundReceiver}
-use Rattle.sound.proofs.Choices.{or-none, and-none}
+use Rattle.sound.proofs.Choices.{and-none}
 use Rattle.sound.proofs.Eaches.{each-also, each-append}
 use Rattle.exchange.specs.Frames.{Frame}
 use Rattle.exchange.proofs.Lists.{Mem, here, one, entry, wide-end, found-mem, mem-found, number-append}
@@ -253,10 +254,10 @@ module _ {w size : ℕ} {hs : List ℕ} {s : Sender} {r : Receiver} {ls lr : Lis
   sends frame b small e h = go (length (d .tape .bs)) refl
     where
       from : bias32 ≤ frame
-      from = ltb-false frame bias32 (or-none (ltb frame bias32) _ h .0)
+      from = ltb-false frame bias32 (neither (ltb frame bias32) _ h .0)
 
       on : bias32 ≤ lastAccepted s → frame ≡ suc (lastAccepted s)
-      on q = eqb-true frame (suc (lastAccepted s)) (not-false _ (and-none (leb bias32 (lastAccepted s)) _ (or-none (ltb frame bias32) _ h .1) (le-leb _ _ q)))
+      on q = eqb-true frame (suc (lastAccepted s)) (not-false _ (and-none (leb bias32 (lastAccepted s)) _ (neither (ltb frame bias32) _ h .1) (le-leb _ _ q)))
 
       go : (m : ℕ) → length (d .tape .bs) ≡ m
           → Dir w size hs (record { pending = s .pending ++ entry frame b ∷ []; acked = s .acked }) r ls lr (acc ++ record { number = frame; bytes = b } ∷ []) told

@@ -8,6 +8,7 @@ use Prim.Native.Nat.{ℕ, zero, suc, _+_, _-_, _*_, _^_, _≤_, _<_, min}
 use native.Mathlib.Omega.{arith}
 use lib.Dec.{eqb, leb, ltb}
 use lib.ListN.{length, take, getD, replicate, length-replicate}
+use Rattle.base.proofs.Bools.{neither}
 use Rattle.frame.specs.Bias.{bias32, nullFrame}
 use Rattle.history.specs.History.{newestOf}
 use Rattle.history.proofs.Laws.{start-newest}
@@ -24,7 +25,7 @@ use Rattle.protocol.proofs.Decided.{decided-both}
 use Rattle.sound.specs.Each.{Each}
 use Rattle.sound.specs.Typed.{TypedPlace, TypedStatuses}
 use Rattle.sound.specs.Sound.{Sound}
-use Rattle.sound.proofs.Choices.{or-none, passes, by-pick}
+use Rattle.sound.proofs.Choices.{passes, by-pick}
 use Rattle.sound.proofs.Eaches.{each-replicate}
 use Rattle.sound.proofs.Parts.{events-part}
 use Rattle.sound.proofs.Sound.{fresh-sound, step-sound}
@@ -52,7 +53,7 @@ use Rattle.seated.proofs.Advancing.{advance-most}
 -- ---- new
 
 within : (least greatest n : ℕ) → outside least greatest n ≡ false → Between least greatest n
-within least greatest n e = let t = or-none _ _ e in (ltb-false n least (t .0), ltb-false greatest n (t .1))
+within least greatest n e = let t = neither _ _ e in (ltb-false n least (t .0), ltb-false greatest n (t .1))
 
 limits-within : (l : Limits) → badLimits l ≡ false → SeatedLimits l
 unfolding badLimits
@@ -85,7 +86,7 @@ pub fresh-seated : (g : SessionSetup) (now : ℕ) → TypedSession g → fresh g
 unfolding fresh hostFresh madeWatch badSession made termsWith hostSetup freshInputs blankInput Rising
 fresh-seated g now t z =
     let c = passes (badClock now) 7 _ z in
-    let b = or-none (badSetup (hostSetup g)) (badLimits (g .limits)) (passes (badSession g) 0 0 (c .1) .0) in
+    let b = neither (badSetup (hostSetup g)) (badLimits (g .limits)) (passes (badSession g) 0 0 (c .1) .0) in
     let host = fresh-sound (hostSetup g) now t (rw (c .0, b .0)) in
     let l = limits-within (g .limits) (b .1) in
     record {
@@ -288,7 +289,7 @@ behind-exact w h = omega (arith, h .own .newest)
 -- and it is an i32 where 6 is not given, as it is at newest i32 max and current -1
 pub behind-fits : (w : Watch) → Seated w → behindOverflows w ≡ false → behind w < bias32
 behind-fits w h e =
-    let t = or-none (ltb (w .newest + bias32) (w .current)) (leb (2 ^ 32) (w .newest + bias32 - w .current)) e in
+    let t = neither (ltb (w .newest + bias32) (w .current)) (leb (2 ^ 32) (w .newest + bias32 - w .current)) e in
     omega (arith, leb-false (2 ^ 32) (w .newest + bias32 - w .current) (t .1), h .own .newest)
 
 -- an Input that a poll handles, after those before it, is of no frame below the newest at that time

@@ -6,6 +6,7 @@ use mathlib.Core.Path.{_≡_, refl}
 use Prim.Native.Nat.{ℕ, _+_, _^_, _<_}
 use native.Mathlib.Omega.{arith}
 use lib.ListN.{length, length-append}
+use Rattle.base.proofs.Bools.{neither}
 use Rattle.codec.specs.Message.{Wire, Fits, FitAll, FitsBody}
 use Rattle.codec.specs.Read.{plain}
 use Rattle.codec.specs.declared.MessageBody.{MessageBody}
@@ -19,7 +20,6 @@ use Rattle.protocol.specs.Did.{Did, Effect, refused, decided, begin, change, qu
 use Rattle.protocol.specs.Room.{isFull, eventsFull}
 use Rattle.protocol.proofs.Decided.{decided-both}
 use Rattle.sound.specs.Sound.{Sound}
-use Rattle.sound.proofs.Choices.{or-none}
 use Rattle.sound.proofs.Parts.{clocks-part, events-part, queued-part}
 use Rattle.sound.proofs.Fields.{sent-clock}
 
@@ -86,7 +86,7 @@ decided-keeps n s d h f = decided-both n s d Keeps (λ _. record { after = h; ou
 pub done-keeps : (buffer : ℕ) (e : Effect) → isFull buffer e ≡ false → Good e → Keeps (done e)
 unfolding done isFull hasRoom
 done-keeps buffer e f g =
-    let room = leb-true (length (e .state .events) + length (e .told)) 640 (not-false _ (or-none (eventsFull (e .state .events) (e .told)) _ f .0)) in
+    let room = leb-true (length (e .state .events) + length (e .told)) 640 (not-false _ (neither (eventsFull (e .state .events) (e .told)) _ f .0)) in
     record {
       after = events-part _ (queued-part (e .state) (g .state) _) (e .state .events ++ e .told) (omega (arith, length-append (e .state .events) (e .told)));
       out = g .out;

@@ -6,6 +6,7 @@ use mathlib.Core.Path.{_≡_, refl, _∙_}
 use Prim.Native.Nat.{ℕ, _^_, _≤_, _<_}
 use lib.Dec.{eqb}
 use Rattle.base.specs.Little.{Bytes}
+use Rattle.base.proofs.Bools.{neither}
 use Rattle.frame.specs.Bias.{bias32}
 use Rattle.status.proofs.MergeAll.{all-length}
 use Rattle.checksums.proofs.Laws.{reported-distinct, reported-bound}
@@ -26,7 +27,7 @@ use Rattle.protocol.specs.Step.{resumes, resumed, heard, onBody}
 use Rattle.sound.specs.Each.{Each}
 use Rattle.sound.specs.Typed.{TypedWire}
 use Rattle.sound.specs.Sound.{Sound, SoundReceiver}
-use Rattle.sound.proofs.Choices.{or-none, by-pick}
+use Rattle.sound.proofs.Choices.{by-pick}
 use Rattle.sound.proofs.Parts.{sender-part, receiver-part, clocks-part, flags-part, quality-part, statuses-part, checksums-part}
 use Rattle.sound.proofs.Fields.{heard-clock, input-clock, remote-quality, trip-quality, merged-statuses, reported-checksums}
 use Rattle.sound.proofs.Senders.{dropped-sender}
@@ -99,7 +100,7 @@ module _ (now : ℕ) (small : now < 2 ^ 62) where
     input-good : (count : ℕ) (disconnect : Bool) (e : Effect) → Good e → Good (onInput now count disconnect start ack reports payload e .effect)
     unfolding onInput discarded
     input-good count disconnect e g =
-        unless-good (discarded disconnect count start (e .state)) disconnect e (λ q. ltb-false start bias32 (or-none (not disconnect && not (eqb count (e .state .setup .players))) _ q .1)) g
+        unless-good (discarded disconnect count start (e .state)) disconnect e (λ q. ltb-false start bias32 (neither (not disconnect && not (eqb count (e .state .setup .players))) _ q .1)) g
 
 -- ---- the others
 

@@ -2,8 +2,9 @@
 use borrow.Author.Tests.{not-false}
 use mathlib.Core.Bool.{Bool, true, false}
 use mathlib.Core.Path.{_≡_, refl}
-use Prim.Native.Nat.{ℕ, _-_, _^_, _<_}
+use Prim.Native.Nat.{ℕ, _^_, _<_}
 use lib.Dec.{ltb}
+use Rattle.base.proofs.Bools.{both}
 use Rattle.nonces.specs.Nonces.{isOutstanding, fits}
 use Rattle.nonces.proofs.Laws.{fits-after-spent}
 use Rattle.codec.specs.declared.MessageBody.the-variants.{SyncRequest, SyncReply}
@@ -13,7 +14,7 @@ use Rattle.protocol.specs.Seen.{Seen, isInitializing, isSynchronizing, requestA
 use Rattle.protocol.specs.Did.{Effect, begin, change}
 use Rattle.protocol.specs.Handshake.{noncesFull, nonceIssued, request, started, synchronized, counts, counted, running, replied, onSyncRequest, onSyncReply}
 use Rattle.sound.specs.Sound.{Sound}
-use Rattle.sound.proofs.Choices.{never, and-both}
+use Rattle.sound.proofs.Choices.{never}
 use Rattle.sound.proofs.Parts.{sync-part, phase-part, clocks-part, quality-part}
 use Rattle.sound.proofs.Fields.{request-clock, started-quality}
 use Rattle.sound.proofs.Syncs.{synchronizing-only, started-sync, issued-sync, spent-sync, last-sync}
@@ -46,12 +47,12 @@ module _ (now nonce : ℕ) (small : now < 2 ^ 62) (named : nonce < 2 ^ 32) where
     unfolding replied counted running
     replied-good e g false more c m f = g
     replied-good e g true true c m f =
-        let p = and-both (isSynchronizing (e .state .phase)) _ c .0 in
+        let p = both (isSynchronizing (e .state .phase)) _ c .0 in
         request-good _
         (told-good _ (changed-good e g _ (sync-part (e .state) (g .state) _ (spent-sync (e .state .phase) (e .state .sync) (g .state .sync) reply p m))) _)
         (synchronizing-only (e .state .phase) p .0) f
     replied-good e g true false c m f =
-        let p = and-both (isSynchronizing (e .state .phase)) _ c .0 in
+        let p = both (isSynchronizing (e .state .phase)) _ c .0 in
         told-good _
         (changed-good e g _
         (phase-part (e .state) (g .state) Running _ (last-sync (e .state .phase) (e .state .sync) (g .state .sync) reply p magic m header) never)) Event.Synchronized
@@ -68,4 +69,4 @@ module _ (now nonce : ℕ) (small : now < 2 ^ 62) (named : nonce < 2 ^ 32) where
 pub reply-room : (nonce reply : ℕ) (s : Seen) → Sound s → counts reply s ≡ true → noncesFull nonce (counted reply s) ≡ false
 unfolding counted
 reply-room nonce reply s h c =
-    rw (fits-after-spent reply (s .sync .nonces) nonce (h .sync .count) (and-both (isSynchronizing (s .phase)) (isOutstanding reply (s .sync .nonces)) c .1))
+    rw (fits-after-spent reply (s .sync .nonces) nonce (h .sync .count) (both (isSynchronizing (s .phase)) (isOutstanding reply (s .sync .nonces)) c .1))

@@ -11,6 +11,7 @@ use lib.ListN.{length, length-append}
 use Rattle.base.specs.Pick.{pick}
 use Rattle.base.specs.Little.{Bytes}
 use Rattle.base.proofs.Digits.{below-or-not}
+use Rattle.base.proofs.Bools.{neither}
 use Rattle.frame.specs.Bias.{bias32, nullFrame}
 use Rattle.packing.specs.Pad.{padded}
 use Rattle.packing.specs.declared.input_bytes.InputBytes.{InputBytes}
@@ -21,7 +22,7 @@ use Rattle.protocol.specs.Seen.{Sender}
 use Rattle.protocol.specs.Sending.{droppedTo, badFrame}
 use Rattle.sound.specs.Each.{Each}
 use Rattle.sound.specs.Sound.{Kept, Consecutive, SoundSender}
-use Rattle.sound.proofs.Choices.{or-none, and-none}
+use Rattle.sound.proofs.Choices.{and-none}
 use Rattle.sound.proofs.Eaches.{each-append}
 use Rattle.sound.proofs.Padding.{kept-blank, kept-padded}
 
@@ -128,7 +129,7 @@ module _ (width : ℕ) where
         → SoundSender width (sends (l ++ new ∷ []) r)
     unfolding room badFrame
     accepted-sender l r k b h =
-        let t = or-none (ltb frame bias32) _ b in
+        let t = neither (ltb frame bias32) _ b in
         let from : bias32 ≤ frame = ltb-false frame bias32 (t .0) in
         let next : bias32 ≤ lastFrame (r .frame) l → frame ≡ suc (lastFrame (r .frame) l)
         = λ q. eqb-true frame (suc (lastFrame (r .frame) l)) (not-false _ (and-none (leb bias32 (lastFrame (r .frame) l)) _ (t .1) (le-leb _ _ q))) in

@@ -8,6 +8,7 @@ use native.Mathlib.Omega.{arith}
 use lib.ListN.{length, take, length-replicate}
 use Rattle.base.specs.Little.{Bytes}
 use Rattle.base.specs.Keyed.{Distinct}
+use Rattle.base.proofs.Bools.{neither}
 use Rattle.history.specs.History.{takenIn, packetOf}
 use Rattle.status.specs.declared.ConnectionStatus.{ConnectionStatus}
 use Rattle.status.specs.Status.{defaultStatus}
@@ -37,7 +38,7 @@ use Rattle.protocol.specs.Step.{fresh, changed, wrongState, ignored, heard, onB
 use Rattle.sound.specs.Each.{Each}
 use Rattle.sound.specs.Typed.{Typed, TypedWire, TypedSetup, TypedStatuses}
 use Rattle.sound.specs.Sound.{Sound}
-use Rattle.sound.proofs.Choices.{or-none, and-none, passes, by-pick}
+use Rattle.sound.proofs.Choices.{and-none, passes, by-pick}
 use Rattle.sound.proofs.Parts.{clocks-part, quality-part, events-part, queued-part}
 use Rattle.sound.proofs.Fields.{made-clocks, made-quality, made-statuses, shutdown-clock, local-quality}
 use Rattle.sound.proofs.Syncs.{made-sync}
@@ -79,7 +80,7 @@ fresh-sound g now t z =
 
 clocks-small : (now epoch : ℕ) → badClocks now epoch ≡ false → (now < 2 ^ 62) × (epoch < 2 ^ 62)
 clocks-small now epoch h =
-    let t = or-none (badClock now) (badClock epoch) h in
+    let t = neither (badClock now) (badClock epoch) h in
     (leb-false (2 ^ 62) now (t .0), leb-false (2 ^ 62) epoch (t .1))
 
 changed-keeps : (s : Seen) → Sound s → Keeps (changed s)
@@ -91,7 +92,7 @@ module _ (s : Seen) (h : Sound s) where
   synchronize-keeps now epoch nonce buffer named = decided-keeps _ s _ h (λ z.
       let c = passes (badClocks now epoch) 7 _ z in
       let w = passes (wrongState s) 1 _ (c .1) in
-      let r = or-none (noncesFull nonce s) _ (passes _ 4 0 (w .1) .0) in
+      let r = neither (noncesFull nonce s) _ (passes _ 4 0 (w .1) .0) in
       let small = clocks-small now epoch (c .0) in
       done-keeps buffer _ (r .1) (synchronized-good now nonce (small .0) named epoch s (small .1) h (not-false _ (w .0)) (r .0)))
 
@@ -103,7 +104,7 @@ module _ (s : Seen) (h : Sound s) where
       let i = passes (ignored from (w .magic) s) 254 _ (c .1) in
       let l = passes (r .tooLong) 11 _ (i .1) in
       let o = passes (r .overflows) 5 _ (l .1) in
-      let f = or-none (r .storeFull) (isFull buffer (r .effect)) (passes _ 4 0 (o .1) .0) in
+      let f = neither (r .storeFull) (isFull buffer (r .effect)) (passes _ 4 0 (o .1) .0) in
       let small = clocks-small now epoch (c .0) in
       done-keeps buffer (r .effect) (f .1)
       (body-good now (small .0) (heard now s) (heard-good now s (small .0) h) epoch nonce (small .1) named count w t (w .body) (t .body) (f .0)))
@@ -123,7 +124,7 @@ module _ (s : Seen) (h : Sound s) where
   act-keeps count statuses now epoch nonce buffer t named = decided-keeps _ s _ h (λ z.
       let c = passes (badClocks now epoch) 7 _ z in
       let b = passes (badStatuses count s) 2 _ (c .1) in
-      let r = or-none (requestChoked (s .phase) now nonce s) _ (passes _ 4 0 (b .1) .0) in
+      let r = neither (requestChoked (s .phase) now nonce s) _ (passes _ 4 0 (b .1) .0) in
       let small = clocks-small now epoch (c .0) in
       done-keeps buffer _ (r .1) (acted-good now statuses (small .0) (omega (arith, t .few)) (t .frames) epoch nonce (small .1) named s h (s .phase) refl (r .0)))
 
@@ -135,9 +136,9 @@ module _ (s : Seen) (h : Sound s) where
       let b = passes (badStatuses count s || badBytes bytes s) 2 _ (c .1) in
       let o = passes (not (isRunning (s .phase))) 254 _ (b .1) in
       let f = passes (badFrame frame (s .carried .sender)) 3 _ (o .1) in
-      let r = or-none (pendingFull s) _ (passes _ 4 0 (f .1) .0) in
+      let r = neither (pendingFull s) _ (passes _ 4 0 (f .1) .0) in
       done-keeps buffer _ (r .1)
-      (sent-good now statuses (leb-false (2 ^ 62) now (c .0)) (omega (arith, t .few)) (t .frames) frame bytes s number are h (or-none (badStatuses count s) _ (b .0) .1) (f .0) (r .0)))
+      (sent-good now statuses (leb-false (2 ^ 62) now (c .0)) (omega (arith, t .few)) (t .frames) frame bytes s number are h (neither (badStatuses count s) _ (b .0) .1) (f .0) (r .0)))
 
   disconnect-keeps : (now : ℕ) → Keeps (disconnectStep now s)
   unfolding disconnectStep
