@@ -1,6 +1,10 @@
 -- Document 01, "Refusal numbers": the number of each answer, and that the number tells the answer.
+use mathlib.Core.List.{List, [], _∷_}
 use mathlib.Core.Path.{_≡_, refl, sym, _∙_, ap}
-use Prim.Native.Nat.{ℕ, zero, suc}
+use native.Mathlib.Nat.{zero-add, add-zero}
+use native.Mathlib.Omega.{arith}
+use Prim.Native.Nat.{ℕ, zero, suc, _+_, _≤_, _<_}
+use lib.ListN.{getD, List·getD-map}
 use Rattle.answer.specs.declared.Answer.{Answer}
 use Rattle.answer.specs.declared.Answer.the-variants.{Done, BadSetup, WrongState, BadLength, BadFrame, Full, Overflow, BadHandle, BadClock, Short, BadKind, BadBool, TooLong, Extra, NotSynchronized, NotEnoughData, PredictionThreshold, SpectatorTooFarBehind}
 
@@ -24,26 +28,13 @@ numberOf NotEnoughData = 15
 numberOf PredictionThreshold = 16
 numberOf SpectatorTooFarBehind = 17
 
--- the answer that has a number
-abbrev answerOf : ℕ → Answer
-answerOf zero = Done
-answerOf (suc zero) = BadSetup
-answerOf (suc (suc zero)) = WrongState
-answerOf (suc (suc (suc zero))) = BadLength
-answerOf (suc (suc (suc (suc zero)))) = BadFrame
-answerOf (suc (suc (suc (suc (suc zero))))) = Full
-answerOf (suc (suc (suc (suc (suc (suc zero)))))) = Overflow
-answerOf (suc (suc (suc (suc (suc (suc (suc zero))))))) = BadHandle
-answerOf (suc (suc (suc (suc (suc (suc (suc (suc zero)))))))) = BadClock
-answerOf (suc (suc (suc (suc (suc (suc (suc (suc (suc zero))))))))) = Short
-answerOf (suc (suc (suc (suc (suc (suc (suc (suc (suc (suc zero)))))))))) = BadKind
-answerOf (suc (suc (suc (suc (suc (suc (suc (suc (suc (suc (suc zero))))))))))) = BadBool
-answerOf (suc (suc (suc (suc (suc (suc (suc (suc (suc (suc (suc (suc zero)))))))))))) = TooLong
-answerOf (suc (suc (suc (suc (suc (suc (suc (suc (suc (suc (suc (suc (suc zero))))))))))))) = Extra
-answerOf (suc (suc (suc (suc (suc (suc (suc (suc (suc (suc (suc (suc (suc (suc zero)))))))))))))) = NotSynchronized
-answerOf (suc (suc (suc (suc (suc (suc (suc (suc (suc (suc (suc (suc (suc (suc (suc zero))))))))))))))) = NotEnoughData
-answerOf (suc (suc (suc (suc (suc (suc (suc (suc (suc (suc (suc (suc (suc (suc (suc (suc zero)))))))))))))))) = PredictionThreshold
-answerOf (suc (suc (suc (suc (suc (suc (suc (suc (suc (suc (suc (suc (suc (suc (suc (suc (suc n))))))))))))))))) = SpectatorTooFarBehind
+-- all of them by their numbers, and the answer that has a number
+abbrev pub answers : List Answer
+answers =
+    Done ∷ BadSetup ∷ WrongState ∷ BadLength ∷ BadFrame ∷ Full ∷ Overflow ∷ BadHandle ∷ BadClock ∷ Short ∷ BadKind ∷ BadBool ∷ TooLong ∷ Extra ∷ NotSynchronized ∷ NotEnoughData ∷ PredictionThreshold ∷ SpectatorTooFarBehind ∷ []
+
+abbrev pub answerOf : ℕ → Answer
+answerOf n = getD answers n SpectatorTooFarBehind
 
 back : (a : Answer) → answerOf (numberOf a) ≡ a
 back Done = refl
@@ -68,3 +59,16 @@ back SpectatorTooFarBehind = refl
 -- two answers with one number are equal
 pub number-tells : (a b : Answer) → numberOf a ≡ numberOf b → a ≡ b
 number-tells a b e = sym (back a) ∙ ap answerOf e ∙ back b
+
+-- and every number up to 17 is its answer's
+abbrev from : (first count : ℕ) → List ℕ
+from first zero = []
+from first (suc count) = first ∷ from (suc first) count
+
+from-at : (first count n d : ℕ) → n < count → getD (from first count) n d ≡ first + n
+from-at first zero n d h = absurd (omega arith)
+from-at first (suc count) zero d h = sym (add-zero first)
+from-at first (suc count) (suc n) d h = let e = from-at (suc first) count n d (omega arith) in omega arith
+
+pub number-back : (n : ℕ) → n ≤ 17 → numberOf (answerOf n) ≡ n
+number-back n h = sym (List·getD-map numberOf answers n SpectatorTooFarBehind) ∙ from-at 0 18 n 17 (omega arith) ∙ zero-add n

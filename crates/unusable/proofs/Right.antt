@@ -6,7 +6,7 @@ use mathlib.Core.List.{List, [], _∷_}
 use mathlib.Core.Logic.{_⊎_, inl, inr}
 use mathlib.Core.Path.{_≡_, refl, sym}
 use native.Mathlib.Omega.{arith}
-use Prim.Native.Nat.{ℕ, zero, suc, _≤_}
+use Prim.Native.Nat.{ℕ, _≤_}
 use lib.Dec.{eqb}
 use lib.ListN.{length, take, getD}
 use lib.Seq.{take-length}
@@ -14,9 +14,7 @@ use Rattle.base.specs.Pick.{pick}
 use Rattle.base.specs.First.{firstOf}
 use Rattle.base.specs.Lay.{laidAt}
 use Rattle.base.specs.Little.{Bytes}
-use Rattle.answer.specs.Number.{numberOf}
-use Rattle.answer.specs.declared.Answer.{Answer}
-use Rattle.answer.specs.declared.Answer.the-variants.{Done, BadSetup, WrongState, BadLength, BadFrame, Full, Overflow, BadHandle, BadClock, Short, BadKind, BadBool, TooLong, Extra, NotSynchronized, NotEnoughData, PredictionThreshold, SpectatorTooFarBehind}
+use Rattle.answer.specs.Number.{answerOf, number-back}
 use Rattle.status.specs.Status.{defaultStatus}
 use Rattle.status.specs.Statuses.{held as heldStatuses}
 use Rattle.status.specs.declared.ConnectionStatus.{ConnectionStatus}
@@ -47,6 +45,7 @@ use Rattle.protocol.specs.Advantage.{localOverflows}
 use Rattle.protocol.specs.Call.{Call}
 use Rattle.protocol.specs.Value.{Value, valueOf, synchronizedIn, handedBack}
 use Rattle.protocol.specs.Step.{fresh, badHandle, wrongState, ignored, heard, onBody, reactionRefusals, shortBuffer, synchronizeStep, messageStep, datagramStep, actStep, sendStep, disconnectStep, checksumStep, advantageStep, takeStep, statsStep, statusStep, step}
+use Rattle.protocol.proofs.Decided.{by-decided}
 use Rattle.endpoint.specs.declared.Endpoint.{Endpoint}
 use Rattle.endpoint.specs.declared.Ended.{Ended}
 use Rattle.endpoint.specs.declared.getters.StatusResult.{StatusResult}
@@ -95,49 +94,6 @@ unfolding seen termsWith waiting received outstanding heldStatuses stored heldEv
 seen-unseen s =
     rw (take-length (s .setup .handles), take-length (s .carried .sender .pending), take-length (s .carried .receiver .history), take-length (s .sync .nonces), take-length (s .statuses), take-length (s .checksums), take-length (s .events))
 
--- ---- the answer that has a number
-
-abbrev answerOf : ℕ → Answer
-answerOf zero = Done
-answerOf (suc zero) = BadSetup
-answerOf (suc (suc zero)) = WrongState
-answerOf (suc (suc (suc zero))) = BadLength
-answerOf (suc (suc (suc (suc zero)))) = BadFrame
-answerOf (suc (suc (suc (suc (suc zero))))) = Full
-answerOf (suc (suc (suc (suc (suc (suc zero)))))) = Overflow
-answerOf (suc (suc (suc (suc (suc (suc (suc zero))))))) = BadHandle
-answerOf (suc (suc (suc (suc (suc (suc (suc (suc zero)))))))) = BadClock
-answerOf (suc (suc (suc (suc (suc (suc (suc (suc (suc zero))))))))) = Short
-answerOf (suc (suc (suc (suc (suc (suc (suc (suc (suc (suc zero)))))))))) = BadKind
-answerOf (suc (suc (suc (suc (suc (suc (suc (suc (suc (suc (suc zero))))))))))) = BadBool
-answerOf (suc (suc (suc (suc (suc (suc (suc (suc (suc (suc (suc (suc zero)))))))))))) = TooLong
-answerOf (suc (suc (suc (suc (suc (suc (suc (suc (suc (suc (suc (suc (suc zero))))))))))))) = Extra
-answerOf (suc (suc (suc (suc (suc (suc (suc (suc (suc (suc (suc (suc (suc (suc zero)))))))))))))) = NotSynchronized
-answerOf (suc (suc (suc (suc (suc (suc (suc (suc (suc (suc (suc (suc (suc (suc (suc zero))))))))))))))) = NotEnoughData
-answerOf (suc (suc (suc (suc (suc (suc (suc (suc (suc (suc (suc (suc (suc (suc (suc (suc zero)))))))))))))))) = PredictionThreshold
-answerOf (suc (suc (suc (suc (suc (suc (suc (suc (suc (suc (suc (suc (suc (suc (suc (suc (suc n))))))))))))))))) = SpectatorTooFarBehind
-
-number-back : (n : ℕ) → n ≤ 17 → numberOf (answerOf n) ≡ n
-number-back zero h = refl
-number-back (suc zero) h = refl
-number-back (suc (suc zero)) h = refl
-number-back (suc (suc (suc zero))) h = refl
-number-back (suc (suc (suc (suc zero)))) h = refl
-number-back (suc (suc (suc (suc (suc zero))))) h = refl
-number-back (suc (suc (suc (suc (suc (suc zero)))))) h = refl
-number-back (suc (suc (suc (suc (suc (suc (suc zero))))))) h = refl
-number-back (suc (suc (suc (suc (suc (suc (suc (suc zero)))))))) h = refl
-number-back (suc (suc (suc (suc (suc (suc (suc (suc (suc zero))))))))) h = refl
-number-back (suc (suc (suc (suc (suc (suc (suc (suc (suc (suc zero)))))))))) h = refl
-number-back (suc (suc (suc (suc (suc (suc (suc (suc (suc (suc (suc zero))))))))))) h = refl
-number-back (suc (suc (suc (suc (suc (suc (suc (suc (suc (suc (suc (suc zero)))))))))))) h = refl
-number-back (suc (suc (suc (suc (suc (suc (suc (suc (suc (suc (suc (suc (suc zero))))))))))))) h = refl
-number-back (suc (suc (suc (suc (suc (suc (suc (suc (suc (suc (suc (suc (suc (suc zero)))))))))))))) h = refl
-number-back (suc (suc (suc (suc (suc (suc (suc (suc (suc (suc (suc (suc (suc (suc (suc zero))))))))))))))) h = refl
-number-back (suc (suc (suc (suc (suc (suc (suc (suc (suc (suc (suc (suc (suc (suc (suc (suc zero)))))))))))))))) h = refl
-number-back (suc (suc (suc (suc (suc (suc (suc (suc (suc (suc (suc (suc (suc (suc (suc (suc (suc zero))))))))))))))))) h = refl
-number-back (suc (suc (suc (suc (suc (suc (suc (suc (suc (suc (suc (suc (suc (suc (suc (suc (suc (suc n)))))))))))))))))) h = absurd (omega arith)
-
 -- ---- what a call does, as it can be answered: its number is one of document 01's, and a refusal changes nothing
 
 record Proper (s : Seen) (d : Did) : Type 0 where
@@ -151,17 +107,10 @@ abbrev Fine : ℕ → Type 0
 Fine n = (n ≡ silent) ⊎ (n ≤ 17)
 
 proper-decided : (n : ℕ) (s : Seen) (d : Did) → Fine n → Proper s d → Proper s (decided n s d)
-unfolding decided refused
-proper-decided n s d f p = go (eqb n 0) (eqb n silent) refl refl
-  where
-    bounded : eqb n silent ≡ false → Fine n → n ≤ 17
-    bounded b (inl e) = absurd (eqb-false n silent b e)
-    bounded b (inr h) = h
-
-    go : (x y : Bool) → eqb n 0 ≡ x → eqb n silent ≡ y → Proper s (pick x d (pick y (refused 0 s) (refused n s)))
-    go true y a b = p
-    go false true a b = record { bound = omega arith; keeps = λ _. refl }
-    go false false a b = record { bound = bounded b f; keeps = λ _. refl }
+unfolding refused
+proper-decided n s d f p =
+    by-decided n s d (Proper s) (λ _. p) (λ _. record { bound = omega arith; keeps = λ _. refl })
+    (λ _ k. record { bound = elim f [ inl e ↦ absurd (k e) | inr h ↦ h ]; keeps = λ _. refl })
 
 abbrev AllFine : List (Bool × ℕ) → Type 0
 AllFine [] = Unit {0}
