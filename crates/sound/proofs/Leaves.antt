@@ -1,7 +1,8 @@
--- The steps of every call leave the events and the queue to its end.
+-- The steps of every call leave the events and the queue to its end, and but for a reply's the replies still to come.
 use mathlib.Core.Bool.{Bool, true, false}
 use mathlib.Core.List.{List, [], _∷_}
-use mathlib.Core.Path.{_≡_, refl, _∙_}
+use mathlib.Core.Logic.{_⊎_, inl, inr}
+use mathlib.Core.Path.{_≡_, refl, _∙_, ap}
 use Prim.Native.Nat.{ℕ}
 use lib.Dec.{ltb, leb}
 use lib.ListN.{length}
@@ -24,12 +25,22 @@ use Rattle.protocol.specs.Reports.{reportQueued, remoteAdvantage, roundTripNote
 use Rattle.protocol.specs.Checksum.{onChecksumReport}
 use Rattle.protocol.specs.Step.{resumes, resumed, heard, onBody}
 
--- the events and the queue are booked at the end of a call: its steps leave both
+abbrev pub left : Seen → List Entry × ℕ × ℕ
+left s = (s .events, s .queued, s .sync .remaining)
+
+abbrev pub Leaves : Effect → Effect → Type 0
+Leaves e f = left (f .state) ≡ left (e .state)
+
+-- the events and the queue are booked at the end of a call
 abbrev pub booked : Seen → List Entry × ℕ
 booked s = (s .events, s .queued)
 
-abbrev pub Leaves : Effect → Effect → Type 0
-Leaves e f = booked (f .state) ≡ booked (e .state)
+module _ {p q : List Entry × ℕ × ℕ} (h : p ≡ q) where
+  pub books : _≡_ {A = List Entry × ℕ} (p .0, p .1) (q .0, q .1)
+  books = ap (λ (x : List Entry × ℕ × ℕ). (x .0, x .1)) h
+
+  pub counts : p .2 ≡ q .2
+  counts = ap (λ (x : List Entry × ℕ × ℕ). x .2) h
 
 pub by-cases : (b : Bool) (P : Type 0) → (b ≡ true → P) → (b ≡ false → P) → P
 by-cases true P f g = f refl
@@ -92,11 +103,11 @@ pub heard-leaves : (now : ℕ) (s : Seen) → Leaves (begin s) (heard now s)
 unfolding heard resumed
 heard-leaves now s = by-cases (resumes s) (Leaves (begin s) (heard now s)) (λ h. rw h) (λ h. rw h)
 
-replied-leaves : (now nonce magic reply : ℕ) (c m : Bool) (e : Effect) → Leaves e (replied now nonce magic reply c m e .effect)
+replied-books : (now nonce magic reply : ℕ) (c m : Bool) (e : Effect) → booked (replied now nonce magic reply c m e .effect .state) ≡ booked (e .state)
 unfolding replied request nonceIssued queueWire counted running
-replied-leaves now nonce magic reply false m e = refl
-replied-leaves now nonce magic reply true true e = refl
-replied-leaves now nonce magic reply true false e = refl
+replied-books now nonce magic reply false m e = refl
+replied-books now nonce magic reply true true e = refl
+replied-books now nonce magic reply true false e = refl
 
 informed-leaves : (d : Bool) (reports : List StatusReport) (e : Effect) → Leaves e (informed d reports e)
 unfolding informed statusesMerged
@@ -108,7 +119,7 @@ unfolding queueWire
 acks-leave now [] e = refl
 acks-leave now (a ∷ as′) e = acks-leave now as′ _
 
-noted-leaves : (now : ℕ) (b : Bool) (s : Seen) → booked (noted now b s) ≡ booked s
+noted-leaves : (now : ℕ) (b : Bool) (s : Seen) → left (noted now b s) ≡ left s
 noted-leaves now true s = refl
 noted-leaves now false s = refl
 
@@ -122,13 +133,25 @@ unfolding inputUnless inputTaken acknowledged
 input-leaves true now d start ack reports payload e = refl
 input-leaves false now d start ack reports payload e = gotten-leaves now _ _ ∙ informed-leaves d reports _
 
-pub body-leaves : (body : MessageBody) (count : ℕ) (w : Wire) (now epoch nonce : ℕ) (e : Effect) → Leaves e (onBody body count w now epoch nonce e .effect)
-unfolding onBody onSyncRequest onSyncReply onInput onInputAck acknowledged onQualityReport remoteAdvantage onQualityReply roundTripNoted onChecksumReport queueWire
-body-leaves (SyncRequest asked) count w now epoch nonce e = refl
-body-leaves (SyncReply reply) count w now epoch nonce e = replied-leaves now nonce (w .magic) reply _ _ e
-body-leaves (Input d start ack) count w now epoch nonce e = input-leaves _ now d start ack (w .reports) (w .payload) e
-body-leaves (InputAck ack) count w now epoch nonce e = refl
-body-leaves (QualityReport a p) count w now epoch nonce e = refl
-body-leaves (QualityReply p) count w now epoch nonce e = refl
-body-leaves (ChecksumReport x f) count w now epoch nonce e = refl
-body-leaves KeepAlive count w now epoch nonce e = refl
+abbrev pub Reply : MessageBody → Type 0
+Reply body = (reply : ℕ) × (body ≡ SyncReply reply)
+
+pub body-leaves : (body : MessageBody) (count : ℕ) (w : Wire) (now epoch nonce : ℕ) (e : Effect) → Reply body ⊎ Leaves e (onBody body count w now epoch nonce e .effect)
+unfolding onBody onSyncRequest onInput onInputAck acknowledged onQualityReport remoteAdvantage onQualityReply roundTripNoted onChecksumReport queueWire
+body-leaves (SyncRequest asked) count w now epoch nonce e = inr refl
+body-leaves (SyncReply reply) count w now epoch nonce e = inl (reply, refl)
+body-leaves (Input d start ack) count w now epoch nonce e = inr (input-leaves _ now d start ack (w .reports) (w .payload) e)
+body-leaves (InputAck ack) count w now epoch nonce e = inr refl
+body-leaves (QualityReport a p) count w now epoch nonce e = inr refl
+body-leaves (QualityReply p) count w now epoch nonce e = inr refl
+body-leaves (ChecksumReport x f) count w now epoch nonce e = inr refl
+body-leaves KeepAlive count w now epoch nonce e = inr refl
+
+pub message-books : (count : ℕ) (w : Wire) (now epoch nonce : ℕ) (s : Seen) → booked (onBody (w .body) count w now epoch nonce (heard now s) .effect .state) ≡ booked s
+unfolding onBody onSyncReply
+message-books count w now epoch nonce s = go (body-leaves (w .body) count w now epoch nonce (heard now s)) ∙ books (heard-leaves now s)
+  where
+    go : Reply (w .body) ⊎ Leaves (heard now s) (onBody (w .body) count w now epoch nonce (heard now s) .effect)
+        → booked (onBody (w .body) count w now epoch nonce (heard now s) .effect .state) ≡ booked (heard now s .state)
+    go (inl r) = rw (r .1) (replied-books now nonce (w .magic) (r .0) _ _ (heard now s))
+    go (inr l) = books l

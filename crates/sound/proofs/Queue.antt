@@ -34,7 +34,7 @@ use Rattle.protocol.specs.Step.{changed, shortBuffer, wrongState, ignored, hear
 use Rattle.protocol.specs.Value.{filledPart, handedBack}
 use Rattle.protocol.proofs.Decided.{decided-both}
 use Rattle.sound.specs.Runs.{ran, lentTo, Lent, lentAfter, lentRan, gone, allGone, allOut}
-use Rattle.sound.proofs.Leaves.{by-cases, booked, acted-leaves, sent-leaves, heard-leaves, body-leaves, request-leaves}
+use Rattle.sound.proofs.Leaves.{by-cases, booked, books, acted-leaves, sent-leaves, request-leaves, message-books}
 use Rattle.sound.proofs.Choices.{passes}
 
 updated : (f : ℕ) (s : Seen) → advantageUpdated f s .queued ≡ s .queued
@@ -68,7 +68,7 @@ message-queues from count w now epoch nonce n s =
     let r : Reaction = onBody (w .body) count w now epoch nonce (heard now s) in
     decided-both _ s _ (Queues n s) (refused-queues n s) (λ z.
     let l = passes (r .tooLong) 11 _ (passes (ignored from (w .magic) s) 254 _ (passes (badClocks now epoch) 7 _ z .1) .1) in
-    done-queues n s (r .effect) (body-leaves (w .body) count w now epoch nonce (heard now s) ∙ heard-leaves now s)
+    done-queues n s (r .effect) (message-books count w now epoch nonce s)
     (neither (r .storeFull) _ (passes _ 4 0 (passes (r .overflows) 5 _ (l .1) .1) .0) .1))
 
 quiet : (n : ℕ) (s t : Seen) → t .queued ≡ s .queued → Queues n s (changed t)
@@ -123,7 +123,7 @@ step-queues (Call.synchronize now epoch nonce buffer) n s =
       λ _. refl,
       decided-both _ s _ (Queues buffer s) (refused-queues buffer s) (λ z.
           let f = passes _ 4 0 (passes (wrongState s) 1 _ (passes (badClocks now epoch) 7 _ z .1) .1) in
-          done-queues buffer s e (request-leaves now nonce _) (neither (noncesFull nonce s) _ (f .0) .1)),
+          done-queues buffer s e (books (request-leaves now nonce _)) (neither (noncesFull nonce s) _ (f .0) .1)),
     )
 step-queues (Call.message from count w now epoch nonce buffer) n s = inr (λ _. refl, message-queues from count w now epoch nonce buffer s)
 step-queues (Call.datagram from bs now epoch nonce buffer) n s =
@@ -134,7 +134,7 @@ step-queues (Call.act count statuses now epoch nonce buffer) n s =
       λ _. refl,
       decided-both _ s _ (Queues buffer s) (refused-queues buffer s) (λ z.
           let f = passes _ 4 0 (passes (badStatuses count s) 2 _ (passes (badClocks now epoch) 7 _ z .1) .1) in
-          done-queues buffer s e (acted-leaves now (s .phase) epoch nonce statuses (begin s)) (neither (requestChoked (s .phase) now nonce s) _ (f .0) .1)),
+          done-queues buffer s e (books (acted-leaves now (s .phase) epoch nonce statuses (begin s))) (neither (requestChoked (s .phase) now nonce s) _ (f .0) .1)),
     )
 step-queues (Call.sendInput frame bs count statuses now buffer) n s =
     let e : Effect = inputSent now frame bs statuses (begin s) in
@@ -143,7 +143,7 @@ step-queues (Call.sendInput frame bs count statuses now buffer) n s =
       decided-both _ s _ (Queues buffer s) (refused-queues buffer s) (λ z.
           let r = passes (not (isRunning (s .phase))) 254 _ (passes (badStatuses count s || badBytes bs s) 2 _ (passes (badClock now) 7 _ z .1) .1) in
           let f = passes _ 4 0 (passes (badFrame frame (s .carried .sender)) 3 _ (r .1) .1) in
-          done-queues buffer s e (sent-leaves now frame bs statuses (begin s)) (neither (pendingFull s) _ (f .0) .1)),
+          done-queues buffer s e (books (sent-leaves now frame bs statuses (begin s))) (neither (pendingFull s) _ (f .0) .1)),
     )
 step-queues (Call.disconnect now) n s =
     inr (λ _. refl, decided-both _ s _ (Queues n s) (refused-queues n s) (λ _. quiet n s (withPhase Disconnected (shutdownAt (now + 5000) s)) refl))

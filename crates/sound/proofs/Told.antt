@@ -11,10 +11,10 @@ use Rattle.protocol.specs.Handshake.{synchronized, started}
 use Rattle.protocol.specs.Checksum.{checksumSent}
 use Rattle.protocol.specs.Advantage.{bothKnown, localAdvantage, advantageUpdated}
 use Rattle.protocol.specs.Call.{Call}
-use Rattle.protocol.specs.Step.{changed, step, synchronizeStep, heard, messageStep, datagramStep, actStep, sendStep, disconnectStep, checksumStep, advantageStep, statsStep, statusStep, takeStep}
+use Rattle.protocol.specs.Step.{changed, step, synchronizeStep, messageStep, datagramStep, actStep, sendStep, disconnectStep, checksumStep, advantageStep, statsStep, statusStep, takeStep}
 use Rattle.protocol.proofs.Decided.{decided-both}
 use Rattle.sound.specs.Runs.{ran, allTold, handed, allHanded}
-use Rattle.sound.proofs.Leaves.{by-cases, booked, acted-leaves, sent-leaves, heard-leaves, body-leaves, request-leaves}
+use Rattle.sound.proofs.Leaves.{by-cases, booked, books, acted-leaves, sent-leaves, request-leaves, message-books}
 
 -- ---- calls
 
@@ -36,7 +36,7 @@ changed-tells s t h = h ∙ sym (append-nil (s .events))
 message-tells : (from count : ℕ) (w : Wire) (now epoch nonce buffer : ℕ) (s : Seen) → Tells s (messageStep from count w now epoch nonce buffer s)
 unfolding messageStep
 message-tells from count w now epoch nonce buffer s =
-    decided-both _ s _ (Tells s) (refused-tells s) (λ _. done-tells s _ (body-leaves (w .body) count w now epoch nonce (heard now s) ∙ heard-leaves now s))
+    decided-both _ s _ (Tells s) (refused-tells s) (λ _. done-tells s _ (message-books count w now epoch nonce s))
 
 updated : (f : ℕ) (s : Seen) → advantageUpdated f s .events ≡ s .events
 unfolding advantageUpdated localAdvantage
@@ -45,11 +45,11 @@ updated f s = by-cases (bothKnown f s) (advantageUpdated f s .events ≡ s .even
 -- with what it hands back, every call
 pub step-tells : (c : Call) (s : Seen) → handed c s ++ step c s .after .events ≡ s .events ++ step c s .told
 unfolding step synchronizeStep datagramStep actStep sendStep disconnectStep checksumStep checksumSent queueWire synchronized started advantageStep statsStep statusStep takeStep
-step-tells (Call.synchronize now epoch nonce buffer) s = decided-both _ s _ (Tells s) (refused-tells s) (λ _. done-tells s _ (request-leaves now nonce _))
+step-tells (Call.synchronize now epoch nonce buffer) s = decided-both _ s _ (Tells s) (refused-tells s) (λ _. done-tells s _ (books (request-leaves now nonce _)))
 step-tells (Call.message from count w now epoch nonce buffer) s = message-tells from count w now epoch nonce buffer s
 step-tells (Call.datagram from bytes now epoch nonce buffer) s = decided-both _ s _ (Tells s) (refused-tells s) (λ _. message-tells from _ _ now epoch nonce buffer s)
-step-tells (Call.act count statuses now epoch nonce buffer) s = decided-both _ s _ (Tells s) (refused-tells s) (λ _. done-tells s _ (acted-leaves now (s .phase) epoch nonce statuses (begin s)))
-step-tells (Call.sendInput frame bytes count statuses now buffer) s = decided-both _ s _ (Tells s) (refused-tells s) (λ _. done-tells s _ (sent-leaves now frame bytes statuses (begin s)))
+step-tells (Call.act count statuses now epoch nonce buffer) s = decided-both _ s _ (Tells s) (refused-tells s) (λ _. done-tells s _ (books (acted-leaves now (s .phase) epoch nonce statuses (begin s))))
+step-tells (Call.sendInput frame bytes count statuses now buffer) s = decided-both _ s _ (Tells s) (refused-tells s) (λ _. done-tells s _ (books (sent-leaves now frame bytes statuses (begin s))))
 step-tells (Call.disconnect now) s = decided-both _ s _ (Tells s) (refused-tells s) (λ _. changed-tells s (withPhase Disconnected (shutdownAt (now + 5000) s)) refl)
 step-tells (Call.sendChecksumReport frame checksum now buffer) s = decided-both _ s _ (Tells s) (refused-tells s) (λ _. done-tells s _ refl)
 step-tells (Call.updateLocalFrameAdvantage f) s = decided-both _ s _ (Tells s) (refused-tells s) (λ _. changed-tells s (advantageUpdated f s) (updated f s))

@@ -15,7 +15,7 @@ use Rattle.pending.specs.Pending.{dropTo, lastTo, room}
 use Rattle.history.specs.History.{blank, highest, newestOf, foundIn, referenceFrame, atLine, above, numbered, packetOf, takenIn}
 use Rattle.nonces.specs.Nonces.{issued, fits}
 use Rattle.status.specs.Status.{defaultStatus, reported, merged}
-use Rattle.status.specs.Statuses.{held, mergedAll, fresh as freshStatuses}
+use Rattle.status.specs.Statuses.{mergedAll, fresh as freshStatuses}
 use Rattle.events.specs.Events.{hasRoom, inputOf, inputEntry, announced}
 use Rattle.setup.specs.Setup.{badSetup, anyAbove, anyTwice, inserted, sorted, termsWith}
 use Rattle.outbox.specs.Outbox.{sizes}
@@ -31,13 +31,15 @@ use Rattle.protocol.specs.Room.{bufferFull, isFull}
 use Rattle.protocol.specs.Sending.{newest, droppedTo, acknowledged}
 use Rattle.protocol.specs.Receiving.{taken, receivedIf, receive, announcedEach, discarded, packetOverflows, statusesMerged, informed, gotten, inputTaken, inputUnless, onInput}
 use Rattle.protocol.specs.Call.{Call}
-use Rattle.protocol.specs.Step.{fresh, filtered, ignored, resumed, heard, onBody, messageStep, disconnectStep, step}
-use Rattle.protocol.proofs.Bouts.{setupWith, new, fr, wire, none, P3, P5}
+use Rattle.protocol.specs.Step.{fresh, filtered, ignored, resumed, heard, onBody, messageStep, disconnectStep, statsStep, statusStep, step}
+use Rattle.protocol.proofs.Bouts.{setupWith, setup-taken, new, fr, wire, none, P3, P5}
 use Rattle.protocol.proofs.Datagrams.{bytes-message}
+use Rattle.protocol.proofs.Decided.{decided-both}
+use Rattle.sound.proofs.Queue.{step-queues}
 use Rattle.endpoint.specs.declared.Endpoint.{Endpoint}
 use Rattle.endpoint.specs.Endpoint.{seen}
 use Rattle.unusable.specs.Unusable.{Version, Meets, Asked, Reached, RefusesAll, Constant, Untouched, Received, FirstOnly, functionOf, callOf, number, after, toCome, InventsCounts, InventsLengths}
-use Rattle.unusable.proofs.Steps.{act-calm, send-calm, report-calm, disconnect-calm, advantage-calm, stats-sized, status-sized, taking-keeps, message-counts, heard-sized, other-message, unasked-reply, asked-reply, datagram-counts, datagram-sized, begins, begins-sized, reports, takes-all}
+use Rattle.unusable.proofs.Steps.{idle-calm, one-counts, other-message, unasked-reply, asked-reply, begins, reports, takes-all}
 
 -- a disconnect of a new endpoint is done at clock 0 and sets the shutdown time; it is refused at a clock above the ceiling
 done-at-0 : step (Call.disconnect 0) new .answer ≡ 0
@@ -56,17 +58,13 @@ made-at : new .clocks .«shutdown_timeout» ≡ 1000
 unfolding fresh made
 made-at = refl
 
-taken-at-1000 : fresh (setupWith 1) 1000 .0 ≡ 0
-unfolding fresh badSetup anyAbove anyTwice has
-taken-at-1000 = refl
-
 module _ (v : Version) (m : Meets v) where
   -- the version's own endpoint of the worked bouts
   abbrev own : Endpoint
   own = v .new (setupWith 1) 1000 .endpoint
 
   own-reached : Reached v own
-  own-reached = Reached.made (setupWith 1) 1000 taken-at-1000
+  own-reached = Reached.made (setupWith 1) 1000 setup-taken
 
   own-seen : seen own ≡ new
   own-seen = m .new (setupWith 1) 1000 .made
@@ -184,6 +182,19 @@ counted s = s .sync .remaining
 abbrev queue : Seen → ℕ
 queue s = s .queued
 
+takes-8 : (c : Asked) (buffer : ℕ) → callOf c ≡ Call.takeMessages buffer → functionOf c ≡ 8
+takes-8 (Asked.synchronize now epoch nonce out) buffer h = cc
+takes-8 (Asked.message from m payload now epoch nonce out) buffer h = cc
+takes-8 (Asked.datagram from d are now epoch nonce out) buffer h = cc
+takes-8 (Asked.act statuses now epoch nonce out) buffer h = cc
+takes-8 (Asked.sendInput frame bytes statuses now out) buffer h = cc
+takes-8 (Asked.disconnect now) buffer h = cc
+takes-8 (Asked.sendChecksumReport frame checksum now out) buffer h = cc
+takes-8 (Asked.updateLocalFrameAdvantage local) buffer h = cc
+takes-8 (Asked.takeMessages out) buffer h = refl
+takes-8 (Asked.networkStats epoch) buffer h = cc
+takes-8 (Asked.peerConnectStatus handle) buffer h = cc
+
 module _ (v : Version) (m : Meets v) where
   -- a refusal gives the very endpoint back
   refused-same : (e : Endpoint) (c : Asked) → (number v e c ≡ 0 → ⊥) → after v e c ≡ e
@@ -199,58 +210,32 @@ module _ (v : Version) (m : Meets v) where
   refused-same e (Asked.networkStats epoch) h = refl
   refused-same e (Asked.peerConnectStatus handle) h = refl
 
+  -- what is seen after a call is what document 01's step leaves
+  after-seen : (e : Endpoint) (c : Asked) → seen (after v e c) ≡ step (callOf c) (seen e) .after
+  unfolding step statsStep statusStep refused
+  after-seen e (Asked.synchronize now epoch nonce out) = m .synchronize e now epoch nonce out .after
+  after-seen e (Asked.message from x payload now epoch nonce out) = m .message e from x payload now epoch nonce out .after
+  after-seen e (Asked.datagram from d are now epoch nonce out) = m .datagram e from d are now epoch nonce out .after
+  after-seen e (Asked.act statuses now epoch nonce out) = m .act e statuses now epoch nonce out .after
+  after-seen e (Asked.sendInput frame bytes statuses now out) = m .«send_input» e frame bytes statuses now out .after
+  after-seen e (Asked.disconnect now) = m .disconnect e now .after
+  after-seen e (Asked.sendChecksumReport frame checksum now out) = m .«send_checksum_report» e frame checksum now out .after
+  after-seen e (Asked.updateLocalFrameAdvantage local) = m .«update_local_frame_advantage» e local .after
+  after-seen e (Asked.takeMessages out) = m .«take_messages» e out .after
+  after-seen e (Asked.networkStats epoch) = decided-both _ (seen e) _ (λ d. seen e ≡ d .after) (λ _. refl) (λ _. refl)
+  after-seen e (Asked.peerConnectStatus handle) = decided-both _ (seen e) _ (λ d. seen e ≡ d .after) (λ _. refl) (λ _. refl)
+
   idle-count : (e : Endpoint) (c : Asked) → 2 < functionOf c → toCome (after v e c) ≡ toCome e
   unfolding seen
-  idle-count e (Asked.synchronize now epoch nonce out) h = absurd (omega arith)
-  idle-count e (Asked.message from x payload now epoch nonce out) h = absurd (omega arith)
-  idle-count e (Asked.datagram from d are now epoch nonce out) h = absurd (omega arith)
-  idle-count e (Asked.act statuses now epoch nonce out) h =
-      ap counted (m .act e statuses now epoch nonce out .after) ∙ act-calm (seen e) (statuses .count) (held statuses) now epoch nonce (length out) .count
-  idle-count e (Asked.sendInput frame bytes statuses now out) h =
-      ap counted (m .«send_input» e frame bytes statuses now out .after) ∙ send-calm (seen e) frame bytes (statuses .count) (held statuses) now (length out) .count
-  idle-count e (Asked.disconnect now) h = ap counted (m .disconnect e now .after) ∙ disconnect-calm (seen e) now .count
-  idle-count e (Asked.sendChecksumReport frame checksum now out) h =
-      ap counted (m .«send_checksum_report» e frame checksum now out .after) ∙ report-calm (seen e) frame checksum now (length out) .count
-  idle-count e (Asked.updateLocalFrameAdvantage local) h = ap counted (m .«update_local_frame_advantage» e local .after) ∙ advantage-calm (seen e) local .count
-  idle-count e (Asked.takeMessages out) h = ap counted (m .«take_messages» e out .after) ∙ taking-keeps (seen e) (length out)
-  idle-count e (Asked.networkStats epoch) h = refl
-  idle-count e (Asked.peerConnectStatus handle) h = refl
+  idle-count e c h = ap counted (after-seen e c) ∙ idle-calm c (seen e) h
 
   one-count : (e : Endpoint) (c : Asked) → 0 < functionOf c → (toCome (after v e c) ≡ toCome e) ⊎ (toCome (after v e c) ≡ toCome e - 1)
-  unfolding seen step
-  one-count e (Asked.synchronize now epoch nonce out) h = absurd (omega arith)
-  one-count e (Asked.message from x payload now epoch nonce out) h =
-      simp (sym (ap counted (m .message e from x payload now epoch nonce out .after))) at
-      (message-counts (seen e) from (x .reports .count) (meant x payload) now epoch nonce (length out))
-  one-count e (Asked.datagram from d are now epoch nonce out) h =
-      simp (sym (ap counted (m .datagram e from d are now epoch nonce out .after))) at (datagram-counts (seen e) from d now epoch nonce (length out))
-  one-count e (Asked.act statuses now epoch nonce out) h = inl (idle-count e (Asked.act statuses now epoch nonce out) (omega arith))
-  one-count e (Asked.sendInput frame bytes statuses now out) h = inl (idle-count e (Asked.sendInput frame bytes statuses now out) (omega arith))
-  one-count e (Asked.disconnect now) h = inl (idle-count e (Asked.disconnect now) (omega arith))
-  one-count e (Asked.sendChecksumReport frame checksum now out) h = inl (idle-count e (Asked.sendChecksumReport frame checksum now out) (omega arith))
-  one-count e (Asked.updateLocalFrameAdvantage local) h = inl (idle-count e (Asked.updateLocalFrameAdvantage local) (omega arith))
-  one-count e (Asked.takeMessages out) h = inl (idle-count e (Asked.takeMessages out) (omega arith))
-  one-count e (Asked.networkStats epoch) h = inl refl
-  one-count e (Asked.peerConnectStatus handle) h = inl refl
+  unfolding seen
+  one-count e c h = simp (sym (ap counted (after-seen e c))) at (one-counts c (seen e) h)
 
   sized : (e : Endpoint) (c : Asked) → (functionOf c ≡ 8 → ⊥) → after v e c .queued ≡ e .queued + sizes (step (callOf c) (seen e) .out)
   unfolding seen
-  sized e (Asked.synchronize now epoch nonce out) h = ap queue (m .synchronize e now epoch nonce out .after) ∙ begins-sized (seen e) now epoch nonce (length out)
-  sized e (Asked.message from x payload now epoch nonce out) h =
-      ap queue (m .message e from x payload now epoch nonce out .after) ∙ heard-sized (seen e) from (x .reports .count) (meant x payload) now epoch nonce (length out)
-  sized e (Asked.datagram from d are now epoch nonce out) h =
-      ap queue (m .datagram e from d are now epoch nonce out .after) ∙ datagram-sized (seen e) from d now epoch nonce (length out)
-  sized e (Asked.act statuses now epoch nonce out) h =
-      ap queue (m .act e statuses now epoch nonce out .after) ∙ act-calm (seen e) (statuses .count) (held statuses) now epoch nonce (length out) .queue
-  sized e (Asked.sendInput frame bytes statuses now out) h =
-      ap queue (m .«send_input» e frame bytes statuses now out .after) ∙ send-calm (seen e) frame bytes (statuses .count) (held statuses) now (length out) .queue
-  sized e (Asked.disconnect now) h = ap queue (m .disconnect e now .after) ∙ disconnect-calm (seen e) now .queue
-  sized e (Asked.sendChecksumReport frame checksum now out) h =
-      ap queue (m .«send_checksum_report» e frame checksum now out .after) ∙ report-calm (seen e) frame checksum now (length out) .queue
-  sized e (Asked.updateLocalFrameAdvantage local) h = ap queue (m .«update_local_frame_advantage» e local .after) ∙ advantage-calm (seen e) local .queue
-  sized e (Asked.takeMessages out) h = absurd (h refl)
-  sized e (Asked.networkStats epoch) h = stats-sized (seen e) epoch
-  sized e (Asked.peerConnectStatus handle) h = status-sized (seen e) handle
+  sized e c h = ap queue (after-seen e c) ∙ elim (step-queues (callOf c) 0 (seen e)) [ inl t ↦ absurd (h (takes-8 c (t .0) (t .1))) | inr q ↦ q .1 .counted ]
 
 pub not-invents-counts : (v : Version) → InventsCounts v → Meets v → ⊥
 unfolding seen step
