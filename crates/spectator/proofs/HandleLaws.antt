@@ -1,6 +1,6 @@
 -- How the parts of a session change with its host's events, and that all events handled on the parts are all handled on the session.
 use borrow.Author.Tests.{eq-eqb, ne-eqb}
-use mathlib.Core.Bool.{Bool, true, false, _&&_}
+use mathlib.Core.Bool.{Bool, true, false, _&&_, and-false}
 use mathlib.Core.List.{List, [], _∷_, _++_}
 use mathlib.Core.Path.{_≡_, refl, ap, _∙_}
 use Prim.Native.Nat.{ℕ, _+_, _<_}
@@ -39,10 +39,6 @@ use Rattle.spectator.specs.Stores.{inputsOf, toldOf}
 use Rattle.spectator.specs.Parts.{qualityAfter, runningParts, ChangedAs}
 
 -- ---- the advantage
-
-and-false : (b : Bool) → b && false ≡ false
-and-false true = refl
-and-false false = refl
 
 module _ (n fps frame : ℕ) (q : Quality) where
   pub frame-unknown : frame ≡ nullFrame → q ≡ qualityAfter n fps frame q

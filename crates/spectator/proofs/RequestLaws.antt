@@ -1,7 +1,7 @@
 -- What a frame gives, frame by frame: that the code's reading of slots, inputs and statuses is the session's.
 use borrow.Author.Tests.{lt-ltb, le-ltb, eq-eqb, ne-eqb}
-use mathlib.Core.Bool.{Bool, true, false, _&&_}
-use mathlib.Core.List.{List, [], _∷_, _++_, map}
+use mathlib.Core.Bool.{true, false, and-false}
+use mathlib.Core.List.{List, [], _∷_, _++_, map, map-append}
 use mathlib.Core.Path.{_≡_, refl, ap, _∙_}
 use Prim.Native.Nat.{ℕ, zero, suc, _+_, _-_, _≤_, _<_}
 use native.Mathlib.Nat.{add-suc, suc-add, add-zero}
@@ -19,10 +19,6 @@ use Rattle.spectator.specs.Stores.{requestOf}
 use Rattle.spectator.specs.Requesting.{syncedOf, requestIn, requestsIn, refusalIn, refusalsIn, framesFor}
 
 -- ---- one player
-
-and-false : (b : Bool) → b && false ≡ false
-and-false true = refl
-and-false false = refl
 
 module _ (frame : ℕ) (x : PlayerInput) (s : ConnectionStatus) where
   pub synced-gone : s .disconnected ≡ true → s .«last_frame» < frame → record { input = x .input; status = Disconnected } ≡ syncedOf frame x s
@@ -56,10 +52,6 @@ module _ (slots players : ℕ) (l : List PlayerInput) (s : List ConnectionStatus
   unfolding requestsIn
   requests-more zero frame = rw add-zero
   requests-more (suc n) frame = ap (λ (r : List (List SyncedInput)). requestIn slots frame players l s ∷ r) (requests-more n (suc frame) ∙ rw (suc-add, add-suc))
-
-map-append : {X Y : Type 0} (f : X → Y) (a b : List X) → map f (a ++ b) ≡ map f a ++ map f b
-map-append f [] b = refl
-map-append {X} {Y} f (x ∷ a) b = ap (λ (r : List Y). f x ∷ r) (map-append f a b)
 
 module _ (slots players frame k : ℕ) (l : List PlayerInput) (s : List ConnectionStatus) (frames : List Request) (x : Request) where
   pub request-turn : k < length frames → map requestOf (take k frames) ≡ requestsIn slots k frame players l s → requestOf x ≡ requestIn slots (frame + k) players l s
