@@ -11,13 +11,11 @@ use crate::batch;
 use crate::handshake;
 use crate::plan;
 use answer::Answer;
+use events::MOST_EVENTS;
 use protocol::Phase;
 use status::Statuses;
 
 const SYNC_RETRY_INTERVAL: u64 = 200;
-
-// As many events as may wait.
-const MOST_EVENTS: usize = 640;
 
 impl Endpoint {
     // What the clocks bring is done, or where it does not all fit, nothing.

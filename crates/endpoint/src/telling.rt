@@ -2,12 +2,13 @@
 ghost use mathlib.Core.Path.{_≡_};
 ghost use mathlib.Core.Bool.{_&&_};
 ghost use lib.Dec.{leb};
+use events::MOST_EVENTS;
 
 pub(crate) fn is_crowded(tells: bool, count: usize) -> bool
     ensures { λ r. ⌜ r ≡ (tells && leb 640 count) ⌝ }
 {
     if tells {
-        return 640 <= count;
+        return MOST_EVENTS <= count;
     }
     false
 }

@@ -9,6 +9,9 @@ ghost use Rattle.packing.specs.Packing.{framesOf};
 ghost use lib.ListN.{length, take, drop, getD};
 ghost use Rattle.events.specs.Events.{held, hasRoom, inputEntry, announcedAll, packetFits, blankEntry, both, ahead, PushedAs};
 
+// As many events as may wait to be taken.
+pub const MOST_EVENTS: usize = 640;
+
 pub enum Event {
     Synchronizing { total: u32, count: u32 },
     Synchronized,
@@ -82,7 +85,7 @@ fn packet_fits(used: usize, frame: u32, count: u32, players: usize) -> bool
     if 0x1_0000_0000 < (frame as u64) + (count as u64) {
         return false;
     }
-    used + (count as usize) * players <= 640
+    used + (count as usize) * players <= MOST_EVENTS
 }
 
 impl Events {
@@ -102,7 +105,11 @@ impl Events {
         ensures { λ r. ⌜ r ≡ length (held self) ⌝ }
     {
         let used = self.used;
-        if used < 640 { used } else { 640 }
+        if used < MOST_EVENTS {
+            used
+        } else {
+            MOST_EVENTS
+        }
     }
 
     // The i-th, or Synchronized with no input.
@@ -124,7 +131,7 @@ impl Events {
         ensures { λ r. ⌜ PushedAs self (hasRoom (held self) 1) (entry ∷ []) r ⌝ }
     {
         let n = self.count();
-        let ok = n < 640;
+        let ok = n < MOST_EVENTS;
         if ok {
             self.entries[n] = entry;
             self.used = n + 1;
@@ -137,7 +144,7 @@ impl Events {
         ensures { λ r. ⌜ PushedAs self (hasRoom (held self) (length (both first one second other))) (both first one second other) r ⌝ }
     {
         let used = self.count();
-        let ok = used + told(first) + told(second) <= 640;
+        let ok = used + told(first) + told(second) <= MOST_EVENTS;
         if ok {
             let mut to = used;
             if first {
