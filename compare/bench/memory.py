@@ -17,6 +17,9 @@ TOOLS = pathlib.Path(shutil.which("rt")).resolve().parent.parent / "on" / MACHIN
 
 REPEATED = 100
 
+# The stores and their sizes (docs/SPEED.md, "The state"). A copy may leave a store's count out, or its padding: no more than 16 bytes.
+STORES = {"events": 20488, "pending": 8784, "history": 2256, "checksums": 1544, "nonces": 1032}
+
 
 def copied(counter, item, count):
     """How often each size was copied."""
@@ -40,6 +43,10 @@ def copies():
     for item, sizes in each.items():
         total = sum(size * times for size, times in sizes.items())
         print(f"| {item.label:48} | {sum(sizes.values()):6.1f} | {total:12,.0f} | {total / state:9.1f} |")
+    print(f"\n| {'copies of':48} | endpoint | {' | '.join(STORES)} |\n|{'-' * 50}|{'---:|' * (1 + len(STORES))}")
+    for item, sizes in each.items():
+        by_part = [sum(times for size, times in sizes.items() if whole - 16 <= size <= whole) for whole in (state, *STORES.values())]
+        print(f"| {item.label:48} | {' | '.join(f'{times:.1f}' for times in by_part)} |")
     print(f"\nthe state: {state:,} bytes")
 
 
