@@ -1,8 +1,8 @@
 -- The ways out of `message` that are no Input's, and the end of a message that falls through: by what the calls in them gave.
-use borrow.Author.Tests.{ltb-true, ltb-false, lt-ltb, le-ltb}
-use mathlib.Core.Bool.{Bool, true, false, _&&_, _||_}
+use borrow.Author.Tests.{not-true, ltb-true, ltb-false, lt-ltb, le-ltb}
+use mathlib.Core.Bool.{Bool, true, false, not, _&&_, _||_}
 use mathlib.Core.List.{List, [], _∷_}
-use mathlib.Core.Path.{_≡_, refl, sym, _∙_}
+use mathlib.Core.Path.{_≡_, refl, sym, _∙_, ap}
 use native.Mathlib.Omega.{arith}
 use Prim.Native.Nat.{ℕ, _-_, _<_, _≤_}
 use lib.Dec.{ltb, leb}
@@ -52,6 +52,7 @@ use Rattle.endpoint.specs.Opened.{OpenedAs}
 use Rattle.endpoint.specs.Reacted.{ReactedAs}
 use Rattle.endpoint.proofs.Hears.{Ears, HeardAs}
 use Rattle.endpoint.proofs.Asks.{false-true}
+use Rattle.endpoint.proofs.Crowds.{one-crowds, one-fits}
 use Rattle.endpoint.proofs.Doors.{let-in, kept-out}
 use Rattle.endpoint.proofs.Ears.{heardWith, ears-full, ears-quiet, ears-told}
 use Rattle.endpoint.proofs.Ends.{remade}
@@ -124,46 +125,51 @@ module _ (e : Endpoint) (from : ℕ) (m : Message) (p : List ℕ) (now epoch non
       unfolding renewed
       none-issued none = ey .view ∙ rw (outstood, le-ltb 0 l none)
 
-      -- q: the events with what is told of it, g: what it leaves
-      module _ (x : Entry) (ex : x ≡ plain (progressOf l)) (q : Pushed) (eq : PushedAs (e .events) (hasRoom (held (e .events)) 1) (x ∷ []) q) (g : Counted) (b′ : List ℕ)
-          (eg : CountedAs (q .ok) (e .sync) l (m .magic) (e .clocks) (e .setup .magic) now nonce buffer (e .queued) g b′) where
+      -- n: how many events there are, f: whether no other can be told; g: what it leaves
+      module _ (n : ℕ) (en : n ≡ length (held (e .events))) (f : Bool) (ef : f ≡ leb 640 n) (g : Counted) (b′ : List ℕ)
+          (eg : CountedAs (not f) (e .sync) l (m .magic) (e .clocks) (e .setup .magic) now nonce buffer (e .queued) g b′) where
         abbrev Gone : Requested
         Gone = record { clocks = g .clocks; end = g .end; ok = g .ok }
 
-        asked : 0 < l → q .ok ≡ true → RequestedAs true (heardAt now (e .clocks)) (e .setup .magic) now nonce buffer (e .queued) Gone b′
-        asked more told = rw told at (eg .more more)
+        asked : 0 < l → f ≡ false → RequestedAs true (heardAt now (e .clocks)) (e .setup .magic) now nonce buffer (e .queued) Gone b′
+        asked more roomy = rw roomy at (eg .more more)
 
-        untold-so : q .ok ≡ false → Ends e Full buffer
-        untold-so k = untold (ltb 1 (e .sync .remaining)) refl (sym (eq .ok) ∙ k)
+        untold-so : f ≡ true → Ends e Full buffer
+        untold-so k = untold (ltb 1 (e .sync .remaining)) refl (one-crowds (e .events) n en (sym ef ∙ k))
 
-        choked : (more told : Bool) → ltb 0 l ≡ more → q .ok ≡ told → g .ok ≡ false → Ends e Full b′
-        choked true true h told k =
+        choked : (more crowded : Bool) → ltb 0 l ≡ more → f ≡ crowded → g .ok ≡ false → Ends e Full b′
+        choked true false h roomy k =
             let more = ltb-true 0 l h in
-            early (omega (arith, more, el)) _ b′ (early-choked e now nonce (m .magic) reply without without-is l el buffer _ refl next (next-issued more) Gone b′ (asked more told) k)
-        choked true false h told k = rw (eg .more (ltb-true 0 l h) .same k) (untold-so told)
-        choked false true h told k = absurd (false-true (sym k ∙ eg .over (ltb-false 0 l h) .2 ∙ told))
-        choked false false h told k = rw (eg .over (ltb-false 0 l h) .3) (untold-so told)
+            early (omega (arith, more, el)) _ b′ (early-choked e now nonce (m .magic) reply without without-is l el buffer _ refl next (next-issued more) Gone b′ (asked more roomy) k)
+        choked true true h crowded k = rw (eg .more (ltb-true 0 l h) .same k) (untold-so crowded)
+        choked false false h roomy k = absurd (false-true (sym k ∙ eg .over (ltb-false 0 l h) .2 ∙ ap not roomy))
+        choked false true h crowded k = rw (eg .over (ltb-false 0 l h) .3) (untold-so crowded)
 
         pub reply-choked : g .ok ≡ false → Ends e Full b′
-        reply-choked = choked (ltb 0 l) (q .ok) refl refl
+        reply-choked = choked (ltb 0 l) f refl refl
 
-        counted : (more : Bool) → ltb 0 l ≡ more → g .ok ≡ true
-            → Ends (remade e (e .pending) (e .acked) (e .history) (pick more (record { phase = e .sync .phase; remaining = l; «remote_magic» = e .sync .«remote_magic» }) (record { phase = Running; remaining = l; «remote_magic» = m .magic })) (y .nonces) (g .clocks) (e .flags) (e .quality) (e .statuses) (e .checksums) (q .events) (g .end)) Done b′
-        counted true h k =
-            let more = ltb-true 0 l h in
-            let told = both (q .ok) _ (sym (eg .more more .ok) ∙ k) .0 in
-            early (omega (arith, more, el)) _ b′
-            (early-done e now nonce (m .magic) reply without without-is l el buffer _ refl next (next-issued more) Gone b′ (asked more told) q (sym (eq .ok) ∙ told) (rw (ex, h) at eq) k)
-        counted false h k =
-            let none = ltb-false 0 l h in
-            let over = eg .over none in
-            rw (over .1, over .3)
-            (last (omega (arith, none, el)) _
-            (last-done e now nonce (m .magic) reply (y .nonces) (none-issued none) l el (g .clocks) q (sym (eq .ok) ∙ sym (over .2) ∙ k) (over .0) (rw (ex, h) at eq)))
+        -- q: the events with what is told of it
+        module _ (x : Entry) (ex : x ≡ plain (progressOf l)) (q : Pushed) (eq : PushedAs (e .events) (hasRoom (held (e .events)) 1) (x ∷ []) q) where
+          room : f ≡ false → hasRoom (held (e .events)) 1 ≡ true
+          room roomy = one-fits (e .events) n en (sym ef ∙ roomy)
 
-        pub reply-counted : g .ok ≡ true
-            → Ends (remade e (e .pending) (e .acked) (e .history) (g .sync) (y .nonces) (g .clocks) (e .flags) (e .quality) (e .statuses) (e .checksums) (q .events) (g .end)) Done b′
-        reply-counted k = rw (eg .sync) (counted (ltb 0 l) refl k)
+          counted : (more : Bool) → ltb 0 l ≡ more → g .ok ≡ true
+              → Ends (remade e (e .pending) (e .acked) (e .history) (pick more (record { phase = e .sync .phase; remaining = l; «remote_magic» = e .sync .«remote_magic» }) (record { phase = Running; remaining = l; «remote_magic» = m .magic })) (y .nonces) (g .clocks) (e .flags) (e .quality) (e .statuses) (e .checksums) (q .events) (g .end)) Done b′
+          counted true h k =
+              let more = ltb-true 0 l h in
+              let roomy = not-true f (both (not f) _ (sym (eg .more more .ok) ∙ k) .0) in
+              early (omega (arith, more, el)) _ b′
+              (early-done e now nonce (m .magic) reply without without-is l el buffer _ refl next (next-issued more) Gone b′ (asked more roomy) q (room roomy) (rw (ex, h) at eq) k)
+          counted false h k =
+              let none = ltb-false 0 l h in
+              let over = eg .over none in
+              rw (over .1, over .3)
+              (last (omega (arith, none, el)) _
+              (last-done e now nonce (m .magic) reply (y .nonces) (none-issued none) l el (g .clocks) q (room (not-true f (sym (over .2) ∙ k))) (over .0) (rw (ex, h) at eq)))
+
+          pub reply-counted : g .ok ≡ true
+              → Ends (remade e (e .pending) (e .acked) (e .history) (g .sync) (y .nonces) (g .clocks) (e .flags) (e .quality) (e .statuses) (e .checksums) (q .events) (g .end)) Done b′
+          reply-counted k = rw (eg .sync) (counted (ltb 0 l) refl k)
 
   -- an Input that is discarded
   pub input-passes : (d : Bool) (start ack : ℕ) → m .body ≡ Input d start ack → (o : Opened) → OpenedAs (e .history) (e .setup) d start (m .reports .count) (length p) o

@@ -34,7 +34,7 @@ abbrev pub progressOf : (remaining : ℕ) → Event
 progressOf remaining = pick (ltb 0 remaining) (Synchronizing 5 (5 - remaining)) Synchronized
 
 -- with replies to come the next request; else it is over, and the filter asks for the magic of this reply
-pub record CountedAs (told : Bool) (s : Sync) (remaining remoteMagic : ℕ) (c : Clocks) (magic now nonce : ℕ) (buffer : List ℕ) (at : ℕ) (r : Counted) (buffer′ : List ℕ) : Type 0 where
+pub record CountedAs (roomy : Bool) (s : Sync) (remaining remoteMagic : ℕ) (c : Clocks) (magic now nonce : ℕ) (buffer : List ℕ) (at : ℕ) (r : Counted) (buffer′ : List ℕ) : Type 0 where
   pub sync : r .sync ≡ pick (ltb 0 remaining) (record { phase = s .phase; remaining = remaining; «remote_magic» = s .«remote_magic» }) (record { phase = Running; remaining = remaining; «remote_magic» = remoteMagic })
-  pub more : 0 < remaining → RequestedAs told (heardAt now c) magic now nonce buffer at (record { clocks = r .clocks; end = r .end; ok = r .ok }) buffer′
-  pub over : remaining ≤ 0 → (r .clocks ≡ heardAt now c) × (r .end ≡ at) × (r .ok ≡ told) × (buffer′ ≡ buffer)
+  pub more : 0 < remaining → RequestedAs roomy (heardAt now c) magic now nonce buffer at (record { clocks = r .clocks; end = r .end; ok = r .ok }) buffer′
+  pub over : remaining ≤ 0 → (r .clocks ≡ heardAt now c) × (r .end ≡ at) × (r .ok ≡ roomy) × (buffer′ ≡ buffer)

@@ -72,9 +72,9 @@ impl Endpoint {
                     let remaining = handshake::less(self.sync.remaining, 1);
                     let spent = self.nonces.spend(reply, 0 < remaining, nonce);
                     if spent.found {
-                        let told = self.events.push(handshake::progress(remaining));
+                        let crowded = telling::is_crowded(true, self.events.count());
                         let counted = handshake::count_reply(
-                            told.ok,
+                            !crowded,
                             sync,
                             remaining,
                             magic,
@@ -91,6 +91,7 @@ impl Endpoint {
                                 answer: Answer::Full,
                             };
                         }
+                        let told = self.events.push(handshake::progress(remaining));
                         let sync = counted.sync;
                         let nonces = spent.nonces;
                         let clocks = counted.clocks;

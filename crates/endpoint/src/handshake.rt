@@ -105,9 +105,9 @@ pub(crate) fn progress(remaining: u32) -> Entry
     }
 }
 
-// With replies to come the next request goes out; the last reply's magic is what the filter asks for from then on. `told`: the event had room.
+// With replies to come the next request goes out; the last reply's magic is what the filter asks for from then on. `roomy`: what is told of it has room.
 pub(crate) fn count_reply(
-    told: bool,
+    roomy: bool,
     sync: Sync,
     remaining: u32,
     remote_magic: u16,
@@ -118,11 +118,11 @@ pub(crate) fn count_reply(
     out: &mut [u8],
     queued: usize,
 ) -> Counted
-    ensures { λ r. ⌜ CountedAs told sync remaining «remote_magic» clocks magic now nonce (out .entry .now) queued r (out .exit .now) ⌝ }
+    ensures { λ r. ⌜ CountedAs roomy sync remaining «remote_magic» clocks magic now nonce (out .entry .now) queued r (out .exit .now) ⌝ }
 {
     let heard = clocks.heard(now);
     if 0 < remaining {
-        let requested = request(told, heard, magic, now, nonce, out, queued);
+        let requested = request(roomy, heard, magic, now, nonce, out, queued);
         let clocks = requested.clocks;
         return Counted {
             sync: Sync { remaining, ..sync },
@@ -139,7 +139,7 @@ pub(crate) fn count_reply(
         },
         clocks: heard,
         end: queued,
-        ok: told,
+        ok: roomy,
     }
 }
 

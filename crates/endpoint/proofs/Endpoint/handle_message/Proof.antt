@@ -113,11 +113,11 @@ less-requires c κs = search needs
 spend-requires : tie.Need-spend-requires
 spend-requires c κs = search needs
 
-progress-requires : tie.Need-progress-requires
-progress-requires c κs = search needs
+count-requires-2 : tie.Need-count-requires-2
+count-requires-2 c κs = search needs
 
-push-requires : tie.Need-push-requires
-push-requires c κs = search needs
+is-crowded-requires-2 : tie.Need-is-crowded-requires-2
+is-crowded-requires-2 c κs = search needs
 
 count-reply-requires : tie.Need-count-reply-requires
 count-reply-requires c κs = search needs
@@ -132,19 +132,26 @@ returns-2 c =
     let a = h .before .before .before .before .before .before .before .before .before .args in
     arrives h _ _ (reply-choked (a .self) (a .from) (heard h) (lent h) (a .now) (a .epoch) (a .nonce) (a .out .now) (good h) (heeded h)
     _ (c .before .before .before .before .before .before .before .before .before .before .before .before .before .reply-of .ensures (sym (k .kind-of .ensures) ∙ c .before .before .before .before .before .before .before .before .before .before .before .before .before .before .match .keys1)) (c .before .before .before .before .before .before .before .before .before .before .before .enum-told .given .1) (c .before .before .before .before .before .before .before .before .before .before .less .result) (c .before .before .before .before .before .before .before .before .before .before .less .ensures) (c .before .before .before .before .before .before .before .before .before .spend .result) (c .before .before .before .before .before .before .before .before .before .spend .ensures) (c .before .before .before .before .before .before .before .before .if2 .taken)
-    (c .before .before .before .before .before .before .before .progress .result) (c .before .before .before .before .before .before .before .progress .ensures) (c .before .before .before .before .before .before .push .result) (c .before .before .before .before .before .before .push .ensures) (c .before .before .before .before .count-reply .result) (c .before .before .before .before .count-reply .last .1 .1 .1 .1 .1 .1 .1 .1 .0) (c .before .before .before .before .count-reply .ensures) (not-true _ (c .if3 .taken)))
+    (c .before .before .before .before .before .before .before .count2 .result) (c .before .before .before .before .before .before .before .count2 .ensures) (c .before .before .before .before .before .before .is-crowded2 .result) (c .before .before .before .before .before .before .is-crowded2 .ensures) (c .before .before .before .before .count-reply .result) (c .before .before .before .before .count-reply .last .1 .1 .1 .1 .1 .1 .1 .1 .0) (c .before .before .before .before .count-reply .ensures) (not-true _ (c .if3 .taken)))
+
+progress-requires : tie.Need-progress-requires
+progress-requires c κs = search needs
+
+push-requires : tie.Need-push-requires
+push-requires c κs = search needs
 
 same-length-2 : tie.Need-same-length-2
 same-length-2 c = search needs
 
 returns-3 : tie.Need-returns-3
 returns-3 c =
-    let k = c .before .before .before .before .before .before .before .before .before .before .before .before .before .before .before .before .before .before .before in
+    let k = c .before .before .before .before .before .before .before .before .before .before .before .before .before .before .before .before .before .before .before .before .before in
     let h = k .before .before .before .before in
     let a = h .before .before .before .before .before .before .before .before .before .args in
     arrives h _ _ (reply-counted (a .self) (a .from) (heard h) (lent h) (a .now) (a .epoch) (a .nonce) (a .out .now) (good h) (heeded h)
-    _ (c .before .before .before .before .before .before .before .before .before .before .before .before .before .before .before .before .before .reply-of .ensures (sym (k .kind-of .ensures) ∙ c .before .before .before .before .before .before .before .before .before .before .before .before .before .before .before .before .before .before .match .keys1)) (c .before .before .before .before .before .before .before .before .before .before .before .before .before .before .before .enum-told .given .1) (c .before .before .before .before .before .before .before .before .before .before .before .before .before .before .less .result) (c .before .before .before .before .before .before .before .before .before .before .before .before .before .before .less .ensures) (c .before .before .before .before .before .before .before .before .before .before .before .before .before .spend .result) (c .before .before .before .before .before .before .before .before .before .before .before .before .before .spend .ensures) (c .before .before .before .before .before .before .before .before .before .before .before .before .if2 .taken)
-    (c .before .before .before .before .before .before .before .before .before .before .before .progress .result) (c .before .before .before .before .before .before .before .before .before .before .before .progress .ensures) (c .before .before .before .before .before .before .before .before .before .before .push .result) (c .before .before .before .before .before .before .before .before .before .before .push .ensures) (c .before .before .before .before .before .before .before .before .count-reply .result) (c .before .before .before .before .before .before .before .before .count-reply .last .1 .1 .1 .1 .1 .1 .1 .1 .0) (c .before .before .before .before .before .before .before .before .count-reply .ensures) (not-false _ (c .before .before .before .before .if3 .left)))
+    _ (c .before .before .before .before .before .before .before .before .before .before .before .before .before .before .before .before .before .before .before .reply-of .ensures (sym (k .kind-of .ensures) ∙ c .before .before .before .before .before .before .before .before .before .before .before .before .before .before .before .before .before .before .before .before .match .keys1)) (c .before .before .before .before .before .before .before .before .before .before .before .before .before .before .before .before .before .enum-told .given .1) (c .before .before .before .before .before .before .before .before .before .before .before .before .before .before .before .before .less .result) (c .before .before .before .before .before .before .before .before .before .before .before .before .before .before .before .before .less .ensures) (c .before .before .before .before .before .before .before .before .before .before .before .before .before .before .before .spend .result) (c .before .before .before .before .before .before .before .before .before .before .before .before .before .before .before .spend .ensures) (c .before .before .before .before .before .before .before .before .before .before .before .before .before .before .if2 .taken)
+    (c .before .before .before .before .before .before .before .before .before .before .before .before .before .count2 .result) (c .before .before .before .before .before .before .before .before .before .before .before .before .before .count2 .ensures) (c .before .before .before .before .before .before .before .before .before .before .before .before .is-crowded2 .result) (c .before .before .before .before .before .before .before .before .before .before .before .before .is-crowded2 .ensures) (c .before .before .before .before .before .before .before .before .before .before .count-reply .result) (c .before .before .before .before .before .before .before .before .before .before .count-reply .last .1 .1 .1 .1 .1 .1 .1 .1 .0) (c .before .before .before .before .before .before .before .before .before .before .count-reply .ensures)
+    (c .before .before .before .before .before .progress .result) (c .before .before .before .before .before .progress .ensures) (c .before .before .before .before .push .result) (c .before .before .before .before .push .ensures) (not-false _ (c .before .before .before .before .before .before .if3 .left)))
 
 -- a reply that does not count
 uncounted : (c : tie.At-match2-came) →
@@ -459,11 +466,13 @@ handle-message-spec =
     enum-told
     less-requires
     spend-requires
-    progress-requires
-    push-requires
+    count-requires-2
+    is-crowded-requires-2
     count-reply-requires
     same-length
     returns-2
+    progress-requires
+    push-requires
     same-length-2
     returns-3
     returns-4
