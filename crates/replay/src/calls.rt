@@ -12,16 +12,11 @@ use endpoint::Endpoint;
 use endpoint::StatsResult;
 use endpoint::StatusResult;
 
-// An object of the script; a side that is not there holds an endpoint of no use.
+// An object of the script, and the number that its last record was answered with; one that is not there holds an endpoint of no use.
 pub struct Side {
+    pub answer: u32,
     pub present: bool,
     pub endpoint: Endpoint,
-}
-
-// What a record gave: the answer's number, and the object after it.
-pub struct Outcome {
-    pub answer: u32,
-    pub side: Side,
 }
 
 impl Side {
@@ -29,98 +24,109 @@ impl Side {
         let made = Endpoint::new(setup_of(&[]), 0);
         let endpoint = made.endpoint;
         Side {
+            answer: 0,
             present: false,
             endpoint,
         }
     }
 }
 
-pub(crate) fn turn(side: Side, record: Record, payload: &[u8], array: &mut [u8]) -> Outcome {
+pub(crate) fn turn(mut side: Side, record: Record, payload: &[u8], array: &mut [u8]) -> Side {
     let way = record.way(side.present);
     match way {
-        Way::Same(answer) => Outcome { answer, side },
-        Way::New => made(side, record.now, payload),
-        Way::Gone => panicked(side.endpoint),
-        Way::Called => called(side.endpoint, record, payload, array),
+        Way::Same(answer) => side.answer = answer,
+        Way::New => side = made(side, record.now, payload),
+        Way::Gone => side = panicked(side),
+        Way::Called => side = called(side, record, payload, array),
     }
+    side
 }
 
-fn panicked(endpoint: Endpoint) -> Outcome {
-    let side = Side {
-        present: false,
-        endpoint,
-    };
-    Outcome {
-        answer: PANICKED,
-        side,
-    }
+fn panicked(mut side: Side) -> Side {
+    side.answer = PANICKED;
+    side.present = false;
+    side
 }
 
-fn there(ended: Ended) -> Outcome {
+fn there(ended: Ended) -> Side {
     let answer = ended.answer;
     let endpoint = ended.endpoint;
-    let side = Side {
+    Side {
+        answer: answer.number(),
         present: true,
         endpoint,
-    };
-    Outcome {
-        answer: answer.number(),
-        side,
     }
 }
 
 // A refused `new` leaves what was there.
-fn made(side: Side, now: u64, payload: &[u8]) -> Outcome {
-    let outcome = there(Endpoint::new(setup_of(payload), now));
-    if outcome.answer != 0 {
-        return Outcome { side, ..outcome };
+fn made(mut side: Side, now: u64, payload: &[u8]) -> Side {
+    let made = there(Endpoint::new(setup_of(payload), now));
+    if made.answer == 0 {
+        return made;
     }
-    outcome
+    side.answer = made.answer;
+    side
 }
 
-fn called(endpoint: Endpoint, record: Record, payload: &[u8], array: &mut [u8]) -> Outcome {
+fn called(side: Side, record: Record, payload: &[u8], array: &mut [u8]) -> Side {
     let buffer = record.buffer;
     // A record with a longer buffer was refused.
     if array.len() < buffer {
-        return panicked(endpoint);
+        return panicked(side);
     }
-    there(changed(endpoint, record, payload, &mut array[..buffer]))
+    there(changed(side.endpoint, record, payload, &mut array[..buffer]))
 }
 
 fn changed(endpoint: Endpoint, record: Record, payload: &[u8], out: &mut [u8]) -> Ended {
     let call = record.call;
-    let now = record.now;
-    let epoch = record.epoch;
-    let nonce = record.nonce;
-    let frame = record.frame;
-    let number = record.number;
     match call {
-        1 => endpoint.synchronize(now, epoch, nonce, out),
-        2 | 3 => endpoint.datagram(number, payload, now, epoch, nonce, out),
-        4 => endpoint.message(
-            number,
-            message_of(payload),
-            payload_of(payload),
-            now,
-            epoch,
-            nonce,
+        1 => endpoint.synchronize(record.now, record.epoch, record.nonce, out),
+        2 | 3 => endpoint.datagram(
+            record.number,
+            payload,
+            record.now,
+            record.epoch,
+            record.nonce,
             out,
         ),
-        5 => endpoint.act(record.statuses, now, epoch, nonce, out),
-        6 => endpoint.send_input(frame, payload, record.statuses, now, out),
-        7 => endpoint.disconnect(now),
-        8 => endpoint.send_checksum_report(frame, wide_at(payload, 0), now, out),
-        9 => endpoint.update_local_frame_advantage(frame),
-        10 => asked_stats(endpoint, epoch),
-        11 => asked_status(endpoint, number),
+        4 => endpoint.message(
+            record.number,
+            message_of(payload),
+            payload_of(payload),
+            record.now,
+            record.epoch,
+            record.nonce,
+            out,
+        ),
+        5 => endpoint.act(record.statuses, record.now, record.epoch, record.nonce, out),
+        6 => endpoint.send_input(record.frame, payload, record.statuses, record.now, out),
+        7 => endpoint.disconnect(record.now),
+        8 => endpoint.send_checksum_report(record.frame, wide_at(payload, 0), record.now, out),
+        9 => endpoint.update_local_frame_advantage(record.frame),
         12 => taken(endpoint),
         13 => endpoint.take_messages(out),
-        _ => unchanged(endpoint, Answer::Done),
+        _ => unchanged(endpoint, asked(endpoint, record)),
     }
 }
 
 fn unchanged(endpoint: Endpoint, answer: Answer) -> Ended {
     Ended { endpoint, answer }
+}
+
+fn taken(endpoint: Endpoint) -> Ended {
+    let taken = endpoint.take_events();
+    let after = taken.endpoint;
+    unchanged(after, Answer::Done)
+}
+
+// What a call that only asks is answered.
+fn asked(endpoint: Endpoint, record: Record) -> Answer {
+    let call = record.call;
+    match call {
+        10 => stats_answer(endpoint.network_stats(record.epoch)),
+        11 => status_answer(endpoint.peer_connect_status(record.number as usize)),
+        _ => Answer::Done,
+    }
 }
 
 pub(crate) fn stats_answer(result: StatsResult) -> Answer {
@@ -130,20 +136,9 @@ pub(crate) fn stats_answer(result: StatsResult) -> Answer {
     }
 }
 
-fn asked_stats(endpoint: Endpoint, epoch: u64) -> Ended {
-    unchanged(endpoint, stats_answer(endpoint.network_stats(epoch)))
-}
-
-fn asked_status(endpoint: Endpoint, handle: u32) -> Ended {
-    let result = endpoint.peer_connect_status(handle as usize);
+fn status_answer(result: StatusResult) -> Answer {
     match result {
-        StatusResult::Status(_) => unchanged(endpoint, Answer::Done),
-        StatusResult::BadHandle => unchanged(endpoint, Answer::BadHandle),
+        StatusResult::Status(_) => Answer::Done,
+        StatusResult::BadHandle => Answer::BadHandle,
     }
-}
-
-fn taken(endpoint: Endpoint) -> Ended {
-    let taken = endpoint.take_events();
-    let after = taken.endpoint;
-    unchanged(after, Answer::Done)
 }

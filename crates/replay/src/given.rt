@@ -1,7 +1,6 @@
 // The body of an answer: what the call hands back, by its number in docs/REPLAY.md, and the state after it.
 use crate::calls::Side;
 use crate::crc::crc32;
-use crate::little::front;
 use crate::out::Out;
 use crate::record::Record;
 use crate::snapshot::put_endpoint;
@@ -19,7 +18,7 @@ pub(crate) fn put_given(out: Out, endpoint: Endpoint, record: Record, array: &[u
         10 => put_stats(out, endpoint.network_stats(record.epoch)),
         11 => put_peer_status(out, endpoint.peer_connect_status(record.number as usize)),
         12 => put_events(out, endpoint.events, endpoint.setup.input_size),
-        13 => put_all(out, endpoint.messages(front(array, record.buffer))),
+        13 => put_all(out, endpoint.messages(text::filled(array, record.buffer))),
         14 => put_getters(out, endpoint, record.number),
         15 => out.u32(crc32(array)),
         _ => out,

@@ -1,4 +1,4 @@
-// Little-endian numbers at a fixed place of a slice, where what lies past its end reads as 0, and parts of slices.
+// Little-endian numbers at a fixed place of a slice, where what lies past its end reads as 0.
 ghost use Prim.Native.Nat.{_<_, _≤_};
 
 fn wide(byte: u8) -> u64
@@ -50,22 +50,4 @@ pub(crate) fn least(a: usize, b: usize) -> usize
     ensures { λ r. ⌜ (r ≤ a) × (r ≤ b) ⌝ }
 {
     if a < b { a } else { b }
-}
-
-// The first n of the bytes, or all.
-pub(crate) fn front(bytes: &[u8], n: usize) -> &[u8] {
-    if bytes.len() < n {
-        return bytes;
-    }
-    &bytes[..n]
-}
-
-// As many of the bytes as fit, to the start of a buffer.
-pub(crate) fn copy(bytes: &[u8], to: &mut [u8]) {
-    let n = least(bytes.len(), to.len());
-    let mut i = 0;
-    while i < n {
-        to[i] = bytes[i];
-        i += 1;
-    }
 }

@@ -11,16 +11,13 @@ mod value;
 mod watch;
 mod watched;
 
-use calls::Outcome;
 use calls::Side;
 use endpoint::Endpoint;
-use little::front;
 use out::Out;
 use record::Record;
 use record::SPECTATOR;
 use script::Mode;
 use spectator::SpectatorSession;
-use watch::Watched;
 use watch::Watcher;
 
 // A proved loop has to end, and nothing says that the input does.
@@ -43,52 +40,21 @@ fn replay(digest: bool) {
     run(digest, &mut a, &mut b, &mut c, &mut payload);
 }
 
-struct Sides {
-    first: Side,
-    second: Side,
-    third: Watcher,
-}
-
-fn none() -> Sides {
-    let none = Side::absent();
-    let third = Watcher::absent();
-    Sides {
-        first: none,
-        second: none,
-        third,
-    }
-}
-
+// Each object answers its own records.
 fn run(digest: bool, a: &mut [u8], b: &mut [u8], c: &mut [u8], payload: &mut [u8]) {
-    let mut sides = none();
+    let mut first = Side::absent();
+    let mut second = first;
+    let mut third = Watcher::absent();
     let mut left = MOST;
     while 0 < left {
         let next = script::next_record(payload, a, b, c);
         if !next.more {
             return;
         }
-        sides = after(digest, sides, next.record, payload, a, b, c);
+        first = answered(digest, 0, first, next.record, payload, a);
+        second = answered(digest, 1, second, next.record, payload, b);
+        third = answered_by_watcher(digest, third, next.record, payload, c);
         left -= 1;
-    }
-}
-
-// Each object answers its own records.
-fn after(
-    digest: bool,
-    sides: Sides,
-    record: Record,
-    payload: &[u8],
-    a: &mut [u8],
-    b: &mut [u8],
-    c: &mut [u8],
-) -> Sides {
-    let first = answered(digest, 0, sides.first, record, payload, a);
-    let second = answered(digest, 1, sides.second, record, payload, b);
-    let third = answered_by_watcher(digest, sides.third, record, payload, c);
-    Sides {
-        first,
-        second,
-        third,
     }
 }
 
@@ -103,20 +69,20 @@ fn answered(
     if record.object != object {
         return side;
     }
-    let outcome = calls::turn(side, record, front(payload, record.length), array);
-    print(digest, record, side.endpoint, outcome, array);
-    outcome.side
+    let after = calls::turn(side, record, text::filled(payload, record.length), array);
+    print(digest, record, side.endpoint, after, array);
+    after
 }
 
-fn print(digest: bool, record: Record, before: Endpoint, outcome: Outcome, array: &[u8]) {
-    let answer = outcome.answer;
+fn print(digest: bool, record: Record, before: Endpoint, after: Side, array: &[u8]) {
+    let answer = after.answer;
     let head = Out::begin(digest, record, answer);
     if answer != 0 {
-        given::put_side(head, outcome.side, array).end();
+        given::put_side(head, after, array).end();
         return;
     }
     let body = given::put_given(head, before, record, array);
-    given::put_side(body, outcome.side, array).end();
+    given::put_side(body, after, array).end();
 }
 
 fn answered_by_watcher(
@@ -129,24 +95,24 @@ fn answered_by_watcher(
     if record.object != SPECTATOR {
         return side;
     }
-    let outcome = watch::turn(side, record, front(payload, record.length), array);
-    print_watched(digest, record, side.session, outcome, array);
-    outcome.side
+    let after = watch::turn(side, record, text::filled(payload, record.length), array);
+    print_watched(digest, record, side.session, after, array);
+    after
 }
 
 fn print_watched(
     digest: bool,
     record: Record,
     before: SpectatorSession,
-    outcome: Watched,
+    after: Watcher,
     array: &[u8],
 ) {
-    let answer = outcome.answer;
+    let answer = after.answer;
     let head = Out::begin(digest, record, answer);
     if answer != 0 {
-        watched::put_side(head, outcome.side, array).end();
+        watched::put_side(head, after, array).end();
         return;
     }
-    let body = watched::put_given(head, before, record, array, outcome.filled);
-    watched::put_side(body, outcome.side, array).end();
+    let body = watched::put_given(head, before, record, array, after.filled);
+    watched::put_side(body, after, array).end();
 }

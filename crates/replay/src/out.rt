@@ -2,7 +2,6 @@
 use crate::crc::NONE;
 use crate::crc::sum_of;
 use crate::crc::with_bytes;
-use crate::little::front;
 use crate::record::Record;
 use libc::STDOUT_FILENO;
 
@@ -60,7 +59,7 @@ impl Out {
 
     // The first n bytes of a slice, their count before them.
     pub(crate) fn part(self, bytes: &[u8], n: usize) -> Out {
-        self.count(n).bytes(front(bytes, n))
+        self.count(n).bytes(text::filled(bytes, n))
     }
 
     pub(crate) fn u8(self, n: u8) -> Out {

@@ -1,6 +1,4 @@
 // Reading a script: its header, and one record after the other with its payload part.
-use crate::little::copy;
-use crate::little::front;
 use crate::little::u32_at;
 use crate::record::CARRY;
 use crate::record::Record;
@@ -100,7 +98,7 @@ fn looked_at(record: Record, payload: &mut [u8], a: &[u8], b: &[u8], c: &[u8]) -
         looked.sound = carried.sound;
         return looked;
     }
-    looked.sound = is_sound(record.call, front(payload, record.length));
+    looked.sound = is_sound(record.call, text::filled(payload, record.length));
     looked
 }
 
@@ -142,7 +140,7 @@ fn carry_part(payload: &mut [u8], array: &[u8], at: usize, count: usize) -> Carr
             length: 0,
         };
     }
-    copy(front(&array[at..], count), payload);
+    text::append(payload, 0, text::filled(&array[at..], count));
     Carried {
         sound: true,
         length: count,

@@ -1,5 +1,4 @@
 // The state of an endpoint in canonical form: docs/REPLAY.md has the order.
-use crate::little::front;
 use crate::little::least;
 use crate::out::Out;
 use checksums::Checksum;
@@ -150,7 +149,7 @@ pub(crate) fn put_statuses(out: Out, statuses: Statuses) -> Out {
 
 fn put_input(out: Out, input: InputBytes, width: usize) -> Out {
     let bytes = input.bytes;
-    out.frame(input.frame).bytes(front(&bytes, width))
+    out.frame(input.frame).bytes(text::filled(&bytes, width))
 }
 
 fn put_pending(out: Out, pending: Pending, width: usize) -> Out {
@@ -234,7 +233,7 @@ pub(crate) fn put_event(out: Out, event: Event, input: [u8; 16], size: u32) -> O
 // The first bytes of an input, their count in one byte before them.
 fn put_bytes(out: Out, input: &[u8], size: u32) -> Out {
     out.u8((size % 0x100) as u8)
-        .bytes(front(input, size as usize))
+        .bytes(text::filled(input, size as usize))
 }
 
 pub(crate) fn put_events(out: Out, events: Events, size: u32) -> Out {

@@ -9,22 +9,17 @@ use crate::value::session_setup_of;
 use answer::Answer;
 use spectator::Ended;
 use spectator::FramesBehind;
-use spectator::Polled;
 use spectator::SpectatorSession;
 
 const POLL: u8 = 5;
 
-// The third object of the script; one that is not there holds a session of no use.
+// The third object of the script, the number that its last record was answered with, and how many bytes a poll handed back; one that is not there holds
+// a session of no use.
 pub struct Watcher {
+    pub answer: u32,
+    pub filled: usize,
     pub present: bool,
     pub session: SpectatorSession,
-}
-
-// What a record gave: the answer's number, the object after it, and how many bytes a poll handed back.
-pub struct Watched {
-    pub answer: u32,
-    pub side: Watcher,
-    pub filled: usize,
 }
 
 impl Watcher {
@@ -32,120 +27,102 @@ impl Watcher {
         let made = SpectatorSession::new(session_setup_of(&[]), 0);
         let session = made.session;
         Watcher {
+            answer: 0,
+            filled: 0,
             present: false,
             session,
         }
     }
 }
 
-pub(crate) fn turn(side: Watcher, record: Record, payload: &[u8], array: &mut [u8]) -> Watched {
+pub(crate) fn turn(mut side: Watcher, record: Record, payload: &[u8], array: &mut [u8]) -> Watcher {
     let way = record.way(side.present);
+    side.filled = 0;
     match way {
-        Way::Same(answer) => Watched {
-            answer,
-            side,
-            filled: 0,
-        },
-        Way::New => made(side, record.now, payload),
-        Way::Gone => panicked(side.session),
-        Way::Called => called(side.session, record, payload, array),
+        Way::Same(answer) => side.answer = answer,
+        Way::New => side = made(side, record.now, payload),
+        Way::Gone => side = panicked(side),
+        Way::Called => side = called(side, record, payload, array),
     }
+    side
 }
 
-fn panicked(session: SpectatorSession) -> Watched {
-    let side = Watcher {
-        present: false,
-        session,
-    };
-    Watched {
-        answer: PANICKED,
-        side,
-        filled: 0,
-    }
+fn panicked(mut side: Watcher) -> Watcher {
+    side.answer = PANICKED;
+    side.present = false;
+    side
 }
 
-fn there(polled: Polled) -> Watched {
-    let answer = polled.answer;
-    let session = polled.session;
-    let side = Watcher {
+fn there(answer: Answer, session: SpectatorSession, filled: usize) -> Watcher {
+    Watcher {
+        answer: answer.number(),
+        filled,
         present: true,
         session,
-    };
-    Watched {
-        answer: answer.number(),
-        side,
-        filled: polled.filled,
     }
 }
 
 // A refused `new` leaves what was there.
-fn made(side: Watcher, now: u64, payload: &[u8]) -> Watched {
-    let watched = there(unpolled(SpectatorSession::new(session_setup_of(payload), now)));
-    if watched.answer != 0 {
-        return Watched { side, ..watched };
+fn made(mut side: Watcher, now: u64, payload: &[u8]) -> Watcher {
+    let made = SpectatorSession::new(session_setup_of(payload), now);
+    let answer = made.answer;
+    side.answer = answer.number();
+    if side.answer != 0 {
+        return side;
     }
-    watched
+    there(answer, made.session, 0)
 }
 
-fn called(session: SpectatorSession, record: Record, payload: &[u8], array: &mut [u8]) -> Watched {
+fn called(side: Watcher, record: Record, payload: &[u8], array: &mut [u8]) -> Watcher {
     let buffer = record.buffer;
     // A record with a longer buffer was refused.
     if array.len() < buffer {
-        return panicked(session);
+        return panicked(side);
     }
-    there(changed(session, record, payload, &mut array[..buffer]))
+    changed(side.session, record, payload, &mut array[..buffer])
 }
 
-fn changed(session: SpectatorSession, record: Record, payload: &[u8], out: &mut [u8]) -> Polled {
+fn changed(session: SpectatorSession, record: Record, payload: &[u8], out: &mut [u8]) -> Watcher {
     if record.call == POLL {
-        return session.poll_remote_clients(record.now, record.epoch, record.nonce, out);
+        let polled = session.poll_remote_clients(record.now, record.epoch, record.nonce, out);
+        let answer = polled.answer;
+        return there(answer, polled.session, polled.filled);
     }
-    unpolled(ended(session, record, payload, out))
-}
-
-fn unpolled(ended: Ended) -> Polled {
+    let ended = ended(session, record, payload, out);
     let answer = ended.answer;
-    let session = ended.session;
-    Polled {
-        answer,
-        session,
-        filled: 0,
-    }
+    there(answer, ended.session, 0)
 }
 
 fn ended(session: SpectatorSession, record: Record, payload: &[u8], out: &mut [u8]) -> Ended {
     let call = record.call;
-    let now = record.now;
-    let epoch = record.epoch;
-    let nonce = record.nonce;
-    let number = record.number;
     match call {
-        1 => session.synchronize(now, epoch, nonce, out),
-        2 | 3 => session.datagram(number, payload, now, epoch, nonce, out),
-        4 => session.message(
-            number,
-            message_of(payload),
-            payload_of(payload),
-            now,
-            epoch,
-            nonce,
+        1 => session.synchronize(record.now, record.epoch, record.nonce, out),
+        2 | 3 => session.datagram(
+            record.number,
+            payload,
+            record.now,
+            record.epoch,
+            record.nonce,
             out,
         ),
-        10 => asked_stats(session, epoch),
+        4 => session.message(
+            record.number,
+            message_of(payload),
+            payload_of(payload),
+            record.now,
+            record.epoch,
+            record.nonce,
+            out,
+        ),
         12 => taken(session),
         13 => session.take_messages(out),
         16 => advanced(session),
-        17 => asked_behind(session),
-        _ => unchanged(session, Answer::Done),
+        _ => unchanged(session, asked(session, record)),
     }
 }
 
 fn unchanged(session: SpectatorSession, answer: Answer) -> Ended {
     Ended { answer, session }
-}
-
-fn asked_stats(session: SpectatorSession, epoch: u64) -> Ended {
-    unchanged(session, stats_answer(session.network_stats(epoch)))
 }
 
 fn taken(session: SpectatorSession) -> Ended {
@@ -161,10 +138,19 @@ fn advanced(session: SpectatorSession) -> Ended {
     unchanged(after, answer)
 }
 
-fn asked_behind(session: SpectatorSession) -> Ended {
-    let result = session.frames_behind_host();
+// What a call that only asks is answered.
+fn asked(session: SpectatorSession, record: Record) -> Answer {
+    let call = record.call;
+    match call {
+        10 => stats_answer(session.network_stats(record.epoch)),
+        17 => behind_answer(session.frames_behind_host()),
+        _ => Answer::Done,
+    }
+}
+
+fn behind_answer(result: FramesBehind) -> Answer {
     match result {
-        FramesBehind::Frames(_) => unchanged(session, Answer::Done),
-        FramesBehind::Overflow => unchanged(session, Answer::Overflow),
+        FramesBehind::Frames(_) => Answer::Done,
+        FramesBehind::Overflow => Answer::Overflow,
     }
 }

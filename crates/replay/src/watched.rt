@@ -2,7 +2,6 @@
 use crate::crc::crc32;
 use crate::given::put_all;
 use crate::given::put_stats;
-use crate::little::front;
 use crate::little::least;
 use crate::out::Out;
 use crate::record::Record;
@@ -36,7 +35,7 @@ pub(crate) fn put_given(
         5 => out.part(array, filled),
         10 => put_stats(out, session.network_stats(record.epoch)),
         12 => put_events(out, session.events),
-        13 => put_all(out, session.messages(front(array, record.buffer))),
+        13 => put_all(out, session.messages(text::filled(array, record.buffer))),
         14 => put_getters(out, session),
         15 => out.u32(crc32(array)),
         16 => put_advanced(out, session),
@@ -98,7 +97,7 @@ fn put_request(out: Out, request: Request, size: u32) -> Out {
 fn put_synced(out: Out, input: SyncedInput, size: u32) -> Out {
     let bytes = input.input;
     let status = input.status;
-    out.bytes(front(&bytes, size as usize))
+    out.bytes(text::filled(&bytes, size as usize))
         .u8(status_number(status))
 }
 
@@ -166,7 +165,8 @@ fn put_place(out: Out, input: PlayerInput, played: bool, size: u32) -> Out {
         return out;
     }
     let bytes = input.input;
-    out.frame(input.frame).bytes(front(&bytes, size as usize))
+    out.frame(input.frame)
+        .bytes(text::filled(&bytes, size as usize))
 }
 
 fn put_events(out: Out, events: SessionEvents) -> Out {

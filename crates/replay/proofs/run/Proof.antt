@@ -7,13 +7,16 @@ use Rattle.replay.proofs.run.Statement.{statement}
 use Rattle.replay.proofs.run.Tie as tie
 
 abbrev Inv-loop : tie.InvT-loop
-Inv-loop digest a₀ b₀ c₀ payload₀ sides₀ left₀ a b c payload sides left = (length a ≡ length a₀) × (length b ≡ length b₀) × (length c ≡ length c₀) × (length payload ≡ length payload₀)
+Inv-loop digest a₀ b₀ c₀ payload₀ first₀ second₀ third₀ left₀ a b c payload first second third left = (length a ≡ length a₀) × (length b ≡ length b₀) × (length c ≡ length c₀) × (length payload ≡ length payload₀)
 
 abbrev μ-loop : tie.MeasureT-loop
-μ-loop digest a₀ b₀ c₀ payload₀ sides₀ left₀ a b c payload sides left = left
+μ-loop digest a₀ b₀ c₀ payload₀ first₀ second₀ third₀ left₀ a b c payload first second third left = left
 
-none-requires : tie.Need-none-requires Inv-loop μ-loop
-none-requires c κs = search needs
+absent-requires : tie.Need-absent-requires Inv-loop μ-loop
+absent-requires c κs = search needs
+
+absent-requires-2 : tie.Need-absent-requires-2 Inv-loop μ-loop
+absent-requires-2 c κs = search needs
 
 loop-holds : tie.Need-loop-holds Inv-loop μ-loop
 loop-holds c = (omega arith, omega arith, omega arith, omega arith)
@@ -36,22 +39,28 @@ same-length-4 c = search needs
 returns : tie.Need-returns Inv-loop μ-loop
 returns c = search needs
 
-after-requires : tie.Need-after-requires Inv-loop μ-loop
-after-requires c κs = search needs
+answered-requires : tie.Need-answered-requires Inv-loop μ-loop
+answered-requires c κs = search needs
+
+answered-requires-2 : tie.Need-answered-requires-2 Inv-loop μ-loop
+answered-requires-2 c κs = search needs
+
+answered-by-watcher-requires : tie.Need-answered-by-watcher-requires Inv-loop μ-loop
+answered-by-watcher-requires c κs = search needs
 
 sub-left : tie.Need-sub-left Inv-loop μ-loop
-sub-left c = omega (arith, c .before .before .before .before .before .before .before .before .before .before .before .before .before .before .before .before .before .before .before .before .loop-test .taken)
+sub-left c = omega (arith, c .before .before .before .before .before .before .before .before .before .before .before .before .before .before .before .before .before .before .before .before .before .before .before .before .loop-test .taken)
 
 loop-less : tie.Need-loop-less Inv-loop μ-loop
-loop-less c = omega (arith, c .before .before .before .before .before .before .before .before .before .before .before .before .before .before .before .before .before .before .before .before .loop-test .taken)
+loop-less c = omega (arith, c .before .before .before .before .before .before .before .before .before .before .before .before .before .before .before .before .before .before .before .before .before .before .before .before .loop-test .taken)
 
 loop-again : tie.Need-loop-again Inv-loop μ-loop
 loop-again c =
-    let l = c .before .before .before .before .before .before .before .before .before .before .before .before .before .before .before .before .before .before .before .before .before .loop in (
-      omega (arith, l .inv .0),
-      omega (arith, l .inv .1),
-      omega (arith, l .inv .2),
-      omega (arith, l .inv .3, c .before .before .before .before .before .before .before .before .before .before .before .before .before .before .payload .given),
+    let l = c .before .before .before .before .before .before .before .before .before .before .before .before .before .before .before .before .before .before .before .before .before .before .before .before .before .loop in (
+      omega (arith, l .inv .0, c .before .before .before .before .before .before .before .before .before .before .before .a .given),
+      omega (arith, l .inv .1, c .before .before .before .before .before .before .b .given),
+      omega (arith, l .inv .2, c .before .c .given),
+      omega (arith, l .inv .3, c .before .before .before .before .before .before .before .before .before .before .before .before .before .before .before .before .before .before .payload .given),
     )
 
 same-length-5 : tie.Need-same-length-5 Inv-loop μ-loop
@@ -75,7 +84,8 @@ run-spec =
     (tie.spec
     Inv-loop
     μ-loop
-    none-requires
+    absent-requires
+    absent-requires-2
     loop-holds
     next-record-requires
     same-length
@@ -83,7 +93,9 @@ run-spec =
     same-length-3
     same-length-4
     returns
-    after-requires
+    answered-requires
+    answered-requires-2
+    answered-by-watcher-requires
     sub-left
     loop-less
     loop-again

@@ -20,9 +20,6 @@ slice-aggregate-changed c = sym (length-take-le _ _ (search needs))
 changed-requires : tie.Need-changed-requires
 changed-requires c κs = search needs
 
-there-requires : tie.Need-there-requires
-there-requires c κs = search needs
-
 same-length : tie.Need-same-length
 same-length c = search needs
 
@@ -38,6 +35,5 @@ called-spec =
     slice-relend-prefix-changed
     slice-aggregate-changed
     changed-requires
-    there-requires
     same-length
     returns-2)
