@@ -30,7 +30,7 @@ use Rattle.history.specs.History.{received}
 use Rattle.nonces.specs.Nonces.{outstanding}
 use Rattle.checksums.specs.Checksums.{stored}
 use Rattle.events.specs.Events.{held as heldEvents}
-use Rattle.setup.specs.Setup.{badSetup, termsWith}
+use Rattle.setup.specs.Setup.{listed, badSetup, termsWith}
 use Rattle.timers.specs.Timers.{badClock, badClocks}
 use Rattle.setup.specs.declared.Setup.{Setup}
 use Rattle.protocol.specs.Seen.{Seen, isRunning, isShutdown}
@@ -55,6 +55,7 @@ use Rattle.endpoint.specs.declared.getters.StatsResult.the-variants as StatsRes
 use Rattle.endpoint.specs.Endpoint.{seen, DidAs, DoneAs}
 use Rattle.endpoint.specs.Made.{MadeAs}
 use Rattle.endpoint.specs.Told.{told, shownStatus, shownStats}
+use Rattle.endpoint.proofs.Tells.{tells-handles}
 use Rattle.unusable.specs.Unusable.{Version, Meets}
 
 -- ---- an endpoint of which a state is seen
@@ -231,7 +232,7 @@ right =
       «network_stats» = λ e epoch.
           pick (eqb (step (Call.networkStats epoch) (seen e) .answer) 0) (StatsResult.Stats (statsOf (seen e))) (StatsResult.Refused (answerOf (step (Call.networkStats epoch) (seen e) .answer)));
       «peer_connect_status» = λ e handle. pick (badHandle handle (seen e)) StatusResult.BadHandle (StatusResult.Status (getD (seen e .statuses) handle defaultStatus));
-      handles = λ e. e .setup .handles;
+      handles = λ e. record { list = e .setup .handles .list; count = length (listed (e .setup .handles)) };
       «is_synchronized» = λ e. synchronizedIn (e .sync .phase);
       «is_running» = λ e. isRunning (e .sync .phase);
       «is_handling_message» = λ e from. eqb from (e .setup .«peer_addr»);
@@ -287,7 +288,7 @@ right-meets =
       messages = λ e out. refl;
       «network_stats» = stats-shown;
       «peer_connect_status» = status-shown;
-      handles = λ e. refl;
+      handles = λ e. tells-handles e (length (listed (e .setup .handles))) refl;
       «is_synchronized» = λ e. refl;
       «is_running» = λ e. refl;
       «is_handling_message» = λ e from. refl;

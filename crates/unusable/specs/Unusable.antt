@@ -16,7 +16,6 @@ use Rattle.status.specs.declared.list.Statuses.{Statuses}
 use Rattle.nonces.specs.Nonces.{outstanding, isOutstanding}
 use Rattle.checksums.specs.Checksums.{stored}
 use Rattle.checksums.specs.declared.Checksums.{Checksums}
-use Rattle.setup.specs.Setup.{listed}
 use Rattle.setup.specs.declared.Setup.{Setup}
 use Rattle.setup.specs.declared.Handles.{Handles}
 use Rattle.outbox.specs.Outbox.{sizes}
@@ -34,7 +33,7 @@ use Rattle.endpoint.specs.declared.getters.StatsResult.{StatsResult}
 use Rattle.endpoint.specs.Endpoint.{seen, DidAs, DoneAs}
 use Rattle.endpoint.specs.Made.{MadeAs}
 use Rattle.endpoint.specs.Taken.{TakenAs}
-use Rattle.endpoint.specs.Told.{told, shownStatus, shownStats}
+use Rattle.endpoint.specs.Told.{told, HandlesAs, shownStatus, shownStats}
 
 -- one function for each public function of the endpoint, with its arguments and its answer. Of a buffer that is lent to be written, `out`, the bytes that it
 -- has before the call are an argument, and those that it has after it stand beside the answer
@@ -90,7 +89,7 @@ pub record Meets (v : Version) : Type 0 where
   pub messages : (e : Endpoint) (out : List ℕ) → v .messages e out ≡ take (handedBack (length out) (seen e)) out
   pub «network_stats» : (e : Endpoint) (epoch : ℕ) → shownStats (v .«network_stats» e epoch) ≡ told (Call.networkStats epoch) (seen e)
   pub «peer_connect_status» : (e : Endpoint) (handle : ℕ) → shownStatus (v .«peer_connect_status» e handle) ≡ told (Call.peerConnectStatus handle) (seen e)
-  pub handles : (e : Endpoint) → Value.numbers (listed (v .handles e)) ≡ valueOf Call.handles (seen e)
+  pub handles : (e : Endpoint) → HandlesAs (seen e) (v .handles e)
   pub «is_synchronized» : (e : Endpoint) → Value.flag (v .«is_synchronized» e) ≡ valueOf Call.isSynchronized (seen e)
   pub «is_running» : (e : Endpoint) → Value.flag (v .«is_running» e) ≡ valueOf Call.isRunning (seen e)
   pub «is_handling_message» : (e : Endpoint) (from : ℕ) → Value.flag (v .«is_handling_message» e from) ≡ valueOf (Call.isHandlingMessage from) (seen e)
