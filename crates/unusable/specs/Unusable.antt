@@ -46,7 +46,7 @@ pub record Version : Type 0 where
   pub «send_input» : Endpoint → (frame : ℕ) → (bytes : List ℕ) → Statuses → (now : ℕ) → (out : List ℕ) → Ended × List ℕ
   pub disconnect : Endpoint → (now : ℕ) → Ended
   pub «send_checksum_report» : Endpoint → (frame : ℕ) → Wide → (now : ℕ) → (out : List ℕ) → Ended × List ℕ
-  pub «update_local_frame_advantage» : Endpoint → (local : ℕ) → Ended
+  pub «update_local_frame_advantage» : Endpoint → («local_frame» : ℕ) → Ended
   pub «take_events» : Endpoint → TakenEvents
   pub «take_messages» : Endpoint → (out : List ℕ) → Ended
   pub messages : Endpoint → (out : List ℕ) → List ℕ
@@ -66,7 +66,7 @@ abbrev pub Did : (e : Endpoint) → Call → (out : List ℕ) → Ended × List 
 Did e c out r = DidAs e (step c (seen e)) out (r .0) (r .1)
 
 pub record Meets (v : Version) : Type 0 where
-  pub new : (g : Setup) (now : ℕ) → MadeAs g now (v .new g now)
+  pub new : (setup : Setup) (now : ℕ) → MadeAs setup now (v .new setup now)
   pub synchronize : (e : Endpoint) (now epoch nonce : ℕ) (out : List ℕ)
       → Did e (Call.synchronize now epoch nonce (length out)) out (v .synchronize e now epoch nonce out)
   pub message : (e : Endpoint) (from : ℕ) (message : Message) (payload : List ℕ) (now epoch nonce : ℕ) (out : List ℕ)
@@ -82,8 +82,8 @@ pub record Meets (v : Version) : Type 0 where
   pub disconnect : (e : Endpoint) (now : ℕ) → DoneAs e (step (Call.disconnect now) (seen e)) (v .disconnect e now)
   pub «send_checksum_report» : (e : Endpoint) (frame : ℕ) (checksum : Wide) (now : ℕ) (out : List ℕ)
       → Did e (Call.sendChecksumReport frame checksum now (length out)) out (v .«send_checksum_report» e frame checksum now out)
-  pub «update_local_frame_advantage» : (e : Endpoint) (local : ℕ)
-      → DoneAs e (step (Call.updateLocalFrameAdvantage local) (seen e)) (v .«update_local_frame_advantage» e local)
+  pub «update_local_frame_advantage» : (e : Endpoint) («local_frame» : ℕ)
+      → DoneAs e (step (Call.updateLocalFrameAdvantage «local_frame») (seen e)) (v .«update_local_frame_advantage» e «local_frame»)
   pub «take_events» : (e : Endpoint) → TakenAs e (v .«take_events» e)
   pub «take_messages» : (e : Endpoint) (out : List ℕ) → DoneAs e (step (Call.takeMessages (length out)) (seen e)) (v .«take_messages» e out)
   pub messages : (e : Endpoint) (out : List ℕ) → v .messages e out ≡ take (handedBack (length out) (seen e)) out
