@@ -60,13 +60,13 @@ made-at = refl
 
 module _ (v : Version) (m : Meets v) where
   -- the version's own endpoint of the worked bouts
-  abbrev own : Endpoint
+  abbrev pub own : Endpoint
   own = v .new (setupWith 1) 1000 .endpoint
 
   own-reached : Reached v own
   own-reached = Reached.made (setupWith 1) 1000 setup-taken
 
-  own-seen : seen own ≡ new
+  pub own-seen : seen own ≡ new
   own-seen = m .new (setupWith 1) 1000 .made
 
 pub not-refuses-all : (v : Version) → RefusesAll v → Meets v → ⊥
@@ -100,7 +100,7 @@ unfolding kept has without xors framesOf unpack pack decodableLength decodable z
 newest-two = refl
 
 -- the packets as values, their reports in an array of four
-abbrev input : (start : ℕ) → Message
+abbrev pub input : (start : ℕ) → Message
 input start = record { magic = 9; body = Input false start nullFrame; reports = record { list = none ++ none; count = 2 } }
 
 abbrev p5 : Wire
@@ -131,7 +131,7 @@ p5-fits =
     bytes (suc i) = omega arith
 
 module _ (v : Version) (m : Meets v) where
-  abbrev buffer : List ℕ
+  abbrev pub buffer : List ℕ
   buffer = replicate 65536 0
 
   long : length buffer ≡ 65536
@@ -152,7 +152,7 @@ module _ (v : Version) (m : Meets v) where
   first-newest : newest (seen first) ≡ fr 1
   first-newest = rw first-seen newest-one
 
-  first-received : Received first
+  pub first-received : Received first
   first-received e = let z : fr 1 ≡ nullFrame = sym first-newest ∙ e in omega arith
 
   -- then P5's, either way
