@@ -65,7 +65,7 @@ impl Endpoint {
         let body = message.body;
         let kind = codec::kind_of(body);
         match kind {
-            // One that counts is told, and another request goes out or the handshake is over.
+            // SyncReply: one that counts is told, and another request goes out or the handshake is over; any other is only heard.
             1 => {
                 let reply = bodies::reply_of(body);
                 if let Phase::Synchronizing = phase {
@@ -114,7 +114,8 @@ impl Endpoint {
                     };
                 }
             }
-            // One that is discarded is only heard.
+            // Input: one that is discarded is only heard. Of another the frames above the newest are announced, what it acknowledges is dropped, and inputs that
+            // can be read are kept and acknowledged.
             2 => {
                 let head = bodies::input_of(body);
                 let reports = message.reports;
@@ -193,7 +194,6 @@ impl Endpoint {
                     self.clocks = clocks;
                     self.flags = flags;
                     self.statuses = statuses;
-                    // Inputs that can be read are kept, and the newest is acknowledged.
                     if opened.readable {
                         let history = self.history.take_in(
                             payload,
@@ -226,6 +226,7 @@ impl Endpoint {
                     };
                 }
             }
+            // InputAck.
             3 => {
                 let ack_frame = bodies::ack_of(body);
                 if full {
@@ -240,6 +241,7 @@ impl Endpoint {
                 self.pending = pending;
                 self.acked = acked;
             }
+            // ChecksumReport.
             6 => {
                 let checksum = bodies::checksum_of(body);
                 let reported = self.checksums.report(
@@ -259,6 +261,7 @@ impl Endpoint {
                 let checksums = reported.checksums;
                 self.checksums = checksums;
             }
+            // SyncRequest, QualityReport, QualityReply, KeepAlive.
             0 | 4 | 5 | 7 => {
                 let reacted = reacting::react(
                     body,
