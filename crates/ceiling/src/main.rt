@@ -18,13 +18,16 @@ const A: u16 = 65;
 const B: u16 = 66;
 
 fn main() {
-    let full = show(BIAS32 + 100, report(falling(), BIAS32 + 100));
-    let refused = show(BIAS32 + 99, report(full, BIAS32 + 99));
+    let full = show(BIAS32 + 100, report(falling(), BIAS32 + 100, 110));
+    let refused = show(BIAS32 + 99, report(full, BIAS32 + 99, 120));
     if same(full.checksums(), refused.checksums()) {
         io::write_all(STDOUT_FILENO, b"All 64 are as they were\n");
     }
-    let later = show(BIAS32 + 164, report(refused, BIAS32 + 164));
-    show(BIAS32 + 99, report(later, BIAS32 + 99));
+    if unheard(full, refused) {
+        io::write_all(STDOUT_FILENO, b"And nothing was heard, told or queued\n");
+    }
+    let later = show(BIAS32 + 164, report(refused, BIAS32 + 164, 130));
+    show(BIAS32 + 99, report(later, BIAS32 + 99, 140));
 }
 
 // B after A's reports of frames 163 down to 101.
@@ -33,14 +36,14 @@ fn falling() -> Endpoint {
     let mut frame = BIAS32 + 164;
     while BIAS32 + 101 < frame {
         frame -= 1;
-        let ended = report(b, frame);
+        let ended = report(b, frame, 100);
         b = ended.endpoint;
     }
     b
 }
 
 // A's report of a frame arrives at B. The frame's number serves as its checksum.
-fn report(b: Endpoint, frame: u32) -> Ended {
+fn report(b: Endpoint, frame: u32, now: u64) -> Ended {
     let checksum = Wide {
         low: frame as u64,
         high: 0,
@@ -51,7 +54,7 @@ fn report(b: Endpoint, frame: u32) -> Ended {
         reports: codec::no_reports(),
     };
     let mut queue = [0u8; 64];
-    b.message(A as u32, message, b"", 100, 100, 0, &mut queue)
+    b.message(A as u32, message, b"", now, now, 0, &mut queue)
 }
 
 // What a report was answered, and the checksums then held.
@@ -92,4 +95,12 @@ fn same(before: Checksums, after: Checksums) -> bool {
         i += 1;
     }
     before.count() == after.count()
+}
+
+// What any other message would have changed, the receive time first of all.
+fn unheard(before: Endpoint, after: Endpoint) -> bool {
+    (before.clocks.last_recv_time == after.clocks.last_recv_time)
+        & (before.events.count() == after.events.count())
+        & (before.queued == after.queued)
+        & (before.last_recv_frame() == after.last_recv_frame())
 }
