@@ -1,9 +1,9 @@
 #!/usr/bin/env python3
-"""memory.py: what our calls copy, the size of the state, and the stack that the calls need, of the programs `bench` and `replay` as they were last built.
+"""memory.py: what our calls copy, the size of the state, and the stack that the calls need, of the programs `test_bench` and `test_replay` as they were last built.
 
 Copies: `copies.c` is loaded before the C library and counts memcpy by size; a run of 200 less one of 100 is that of 100 calls. Stack: the frames
 in the disassembly, added up along the deepest chain of calls; and the smallest stack in which a run ends well. What of a call is a function of its
-own depends on the program: `replay` makes every call, so the larger of the two counts."""
+own depends on the program: `test_replay` makes every call, so the larger of the two counts."""
 import os, pathlib, platform, re, resource, shutil, subprocess, sys, tempfile
 from items import CALLS, KEEP_ALIVE
 
@@ -23,7 +23,7 @@ STORES = {"events": 20488, "pending": 8784, "history": 2256, "checksums": 1544, 
 
 def copied(counter, item, count):
     """How often each size was copied."""
-    run = subprocess.run([TOP / "launch", "bench"], input=item.record(count), capture_output=True, check=True, env={**os.environ, "PRELOAD": counter})
+    run = subprocess.run([TOP / "launch", "test_bench"], input=item.record(count), capture_output=True, check=True, env={**os.environ, "PRELOAD": counter})
     return {int(size): int(times) for size, times in (line.split() for line in run.stderr.decode().splitlines())}
 
 
@@ -77,7 +77,7 @@ def ends_within(item, kib):
     def limit():
         resource.setrlimit(resource.RLIMIT_STACK, (kib * 1024, kib * 1024))
 
-    loaded = [TOOLS / "lib/ld-linux-x86-64.so.2", "--library-path", TOOLS / "lib", PROGRAMS / "bench"]
+    loaded = [TOOLS / "lib/ld-linux-x86-64.so.2", "--library-path", TOOLS / "lib", PROGRAMS / "test_bench"]
     if MACHINE == "x86_64":
         run = subprocess.run(loaded, input=item.record(REPEATED), capture_output=True, preexec_fn=limit)
     else:
@@ -97,14 +97,14 @@ def least_stack(item):
 
 def stack():
     needs = {}
-    for program in ("bench", "replay"):
+    for program in ("test_bench", "test_replay"):
         frame, calls = frames(program)
         for name in frame:
             if name.startswith("endpoint::Endpoint::"):
                 needs[name] = max(needs.get(name, (0, 0, "")), (deepest(name, frame, calls), frame[name], program))
-    print(f"\n| {'function':34} | its frame | with what it calls | in     |\n|{'-' * 36}|----------:|-------------------:|--------|")
+    print(f"\n| {'function':34} | its frame | with what it calls | in          |\n|{'-' * 36}|----------:|-------------------:|-------------|")
     for name, (deep, own, program) in sorted(needs.items()):
-        print(f"| {name:34} | {own:9,} | {deep:18,} | {program:6} |")
+        print(f"| {name:34} | {own:9,} | {deep:18,} | {program:11} |")
     print(f"\nthe exchange ends well with a stack of {least_stack(CALLS[-1])} KiB, and not with 4 KiB less")
 
 

@@ -1,5 +1,5 @@
 #!/usr/bin/env python3
-"""times.py JUDGE BENCH: times the crate (`judge bench`) and ours (the program `bench`) on the same items and prints a table.
+"""times.py JUDGE BENCH: times the crate (`judge bench`) and ours (the program `test_bench`) on the same items and prints a table.
 
 Ours runs with N and with 2N repetitions: the processor time of the second less that of the first is that of N, without start-up. The crate times
 itself in batches. The runs take turns, so that both meet the same load, and the best of the rounds counts. Both print a sum over what came out,

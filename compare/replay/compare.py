@@ -1,5 +1,5 @@
 #!/usr/bin/env python3
-"""compare.py DIR COMMAND..: runs DIR's scripts on the command that starts `replay` and holds what it writes against DIR's answers."""
+"""compare.py DIR COMMAND..: runs DIR's scripts on the command that starts `test_replay` and holds what it writes against DIR's answers."""
 
 import os
 import struct

@@ -1,6 +1,6 @@
 //! What a reader must answer to a datagram: bincode's own outcome on the whole
-//! message, and document 01's two additions, 12 and 13, which bincode does not
-//! know.
+//! message, and two refusals that bincode does not know: 12 (too long) and 13
+//! (bytes left over).
 
 use std::io::{Cursor, ErrorKind::UnexpectedEof};
 
@@ -8,10 +8,10 @@ use bincode::ErrorKind;
 use serde::de::DeserializeOwned;
 use serde::Deserialize;
 
+use crate::frame::Frame;
 use crate::messages::Message;
-use crate::Frame;
 
-// Document 01, 'Refusal numbers'.
+// The refusal numbers of docs/RULES.md.
 pub const SHORT: u8 = 9;
 pub const BAD_KIND: u8 = 10;
 pub const BAD_BOOL: u8 = 11;
@@ -43,7 +43,7 @@ enum Kind {
     KeepAlive,
 }
 
-/// Document 01's number for what bincode found wrong.
+/// The refusal number for what bincode found wrong.
 fn number(error: &ErrorKind) -> u8 {
     match error {
         ErrorKind::Io(io) if io.kind() == UnexpectedEof => SHORT,
@@ -51,7 +51,7 @@ fn number(error: &ErrorKind) -> u8 {
         // there is no error kind for it, only this text.
         ErrorKind::Custom(text) if text.contains("expected variant index") => BAD_KIND,
         ErrorKind::InvalidBoolEncoding(_) => BAD_BOOL,
-        other => panic!("document 01 has no number for bincode's error: {other}"),
+        other => panic!("no refusal number stands for bincode's error: {other}"),
     }
 }
 
@@ -139,7 +139,7 @@ pub fn answer(datagram: &[u8]) -> Answer {
     }
 }
 
-/// Whether bincode alone, without document 01's limits, reads the datagram.
+/// Whether bincode alone, without our limits on counts, reads the datagram.
 pub fn bincode_reads(datagram: &[u8]) -> bool {
     bincode::deserialize::<Message>(datagram).is_ok()
 }

@@ -3,12 +3,13 @@
 use std::collections::HashSet;
 
 use crate::answer::{MOST_PAYLOAD, MOST_STATUSES};
+use crate::frame::{Frame, NULL_FRAME};
 use crate::messages::{
-    ChecksumReport, ConnectionStatus, Input, InputAck, Message, MessageBody, MessageHeader,
-    QualityReply, QualityReport, SyncReply, SyncRequest,
+    ChecksumReport, ConnectionStatus, Input, InputAck, MessageBody, QualityReply, QualityReport,
+    SyncReply, SyncRequest,
 };
 use crate::random::Random;
-use crate::{Frame, NULL_FRAME};
+use crate::wire::{bytes, message};
 
 type Datagrams = Vec<Vec<u8>>;
 
@@ -59,17 +60,6 @@ fn disconnect_at(n: usize) -> usize {
 
 fn payload_count_at(n: usize) -> usize {
     disconnect_at(n) + 1 + 4 + 4
-}
-
-pub fn message(magic: u16, body: MessageBody) -> Message {
-    Message {
-        header: MessageHeader { magic },
-        body,
-    }
-}
-
-pub fn bytes(message: &Message) -> Vec<u8> {
-    bincode::serialize(message).expect("bincode writes every message")
 }
 
 fn datagram(body: MessageBody) -> Vec<u8> {

@@ -6,9 +6,11 @@
 
 mod answer;
 mod datagrams;
+mod frame;
 mod print;
 mod random;
 mod tally;
+mod wire;
 
 /// The crate's own file, unchanged; build.rs has found it.
 mod messages {
@@ -18,9 +20,8 @@ mod messages {
 use answer::Answer;
 use tally::Tally;
 
-// The two names that messages.rs takes from the crate's lib.rs.
-pub type Frame = i32;
-pub const NULL_FRAME: Frame = -1;
+// messages.rs looks for these in the root; our own modules take them from `frame`.
+pub use frame::{Frame, NULL_FRAME};
 
 /// The file stays in the repository and is read by a proved program, so it is
 /// kept small.
@@ -37,7 +38,7 @@ fn expected(datagram: &[u8], answer: &Answer) -> String {
     match answer {
         Answer::Refused(number) => format!("refused {number}"),
         Answer::Read(message) => {
-            let written = datagrams::bytes(message);
+            let written = wire::bytes(message);
             let verdict = if written == datagram {
                 "same"
             } else {

@@ -1,11 +1,11 @@
 //! A small generator with a fixed seed (splitmix64), so that every run makes
 //! the same datagrams.
 
-use crate::datagrams::{bytes, message};
 use crate::messages::{
     ChecksumReport, ConnectionStatus, Input, InputAck, MessageBody, QualityReply, QualityReport,
     SyncReply, SyncRequest,
 };
+use crate::wire::{bytes, message};
 
 const SEED: u64 = 0x6767_7273_2030_3133;
 

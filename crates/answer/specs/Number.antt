@@ -1,4 +1,4 @@
--- Document 01, "Refusal numbers": the number of each answer, and that the number tells the answer.
+-- The number of each answer (N-1 to N-18), and that the number tells the answer.
 use mathlib.Core.List.{List, [], _∷_}
 use mathlib.Core.Path.{_≡_, refl, sym, _∙_, ap}
 use native.Mathlib.Nat.{zero-add, add-zero}
@@ -57,8 +57,8 @@ back PredictionThreshold = refl
 back SpectatorTooFarBehind = refl
 
 -- two answers with one number are equal
-pub number-tells : (a b : Answer) → numberOf a ≡ numberOf b → a ≡ b
-number-tells a b e = sym (back a) ∙ ap answerOf e ∙ back b
+pub number-determines : (a b : Answer) → numberOf a ≡ numberOf b → a ≡ b
+number-determines a b e = sym (back a) ∙ ap answerOf e ∙ back b
 
 -- and every number up to 17 is its answer's
 abbrev from : (first count : ℕ) → List ℕ

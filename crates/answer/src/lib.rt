@@ -1,4 +1,4 @@
-// What a call answers: done, or one of document 01's refusals. One enum for every crate, so that a
+// What a call answers: done, or one of the refusals N-1 to N-17. One enum for every crate, so that a
 // caller reads one table.
 ghost use mathlib.Core.Path.{_≡_};
 ghost use Rattle.answer.specs.Number.{numberOf};
@@ -25,7 +25,7 @@ pub enum Answer {
 }
 
 impl Answer {
-    // Document 01's number.
+    // The number of N-1 to N-17, 0 for done.
     pub fn number(self) -> u32
         ensures { λ r. ⌜ r ≡ numberOf self ⌝ }
     {

@@ -1,4 +1,4 @@
--- The refusals of a call, as one list in document 01's order: the number beside the first test that holds, 0 where none does.
+-- The refusals of a call, as one list in their order (N-20): the number beside the first test that holds, 0 where none does.
 use mathlib.Core.Bool.{Bool, true, false}
 use mathlib.Core.List.{List, [], _∷_}
 use mathlib.Core.Path.{_≡_, refl}

@@ -1,4 +1,4 @@
--- The checksums reported, and what one more report does to them (document 01, Checksums; the crate's `on_checksum_report`).
+-- The checksums reported, and what one more report does to them (E-35 to E-38; the crate's `on_checksum_report`).
 use mathlib.Core.Bool.{Bool, true, false}
 use mathlib.Core.List.{List, [], _∷_}
 use mathlib.Core.Path.{_≡_, refl}
@@ -6,6 +6,7 @@ use Prim.Native.Nat.{ℕ, _-_, _*_}
 use lib.Dec.{leb, ltb}
 use lib.ListN.{length, take}
 use Rattle.base.specs.Pick.{pick}
+use Rattle.ceilings.specs.Ceilings.{mostChecksums, cleanChecksums}
 use Rattle.base.specs.Keyed.{kept, has, firstWith, put}
 use Rattle.checksums.specs.declared.Checksum.{Checksum}
 use Rattle.checksums.specs.declared.Checksums.{Checksums}
@@ -29,22 +30,22 @@ keptFrom oldest l = kept (λ c. leb oldest (c .frame)) l
 
 -- with 32 or more stored, those are kept that are at most 31 intervals older than the arriving frame
 unfoldable pub cleaned : (frame interval : ℕ) → List Checksum → List Checksum
-cleaned frame interval l = pick (leb 32 (length l)) (keptFrom (frame - 31 * interval) l) l
+cleaned frame interval l = pick (leb cleanChecksums (length l)) (keptFrom (frame - 31 * interval) l) l
 
 -- the frame from which on the clean-up keeps: with fewer than 32 stored the least, so all
 unfoldable pub keepLine : (count frame interval : ℕ) → ℕ
-keepLine count frame interval = pick (leb 32 count) (frame - 31 * interval) 0
+keepLine count frame interval = pick (leb cleanChecksums count) (frame - 31 * interval) 0
 
--- 6: frame - 31 x interval leaves i32 (a biased frame falls below 0), tested only with 32 or more stored
+-- 6 (E-38): the line of the clean-up leaves i32, as a biased frame falls below 0; with fewer than 32 stored there is none
 unfoldable pub tooEarly : (count frame interval : ℕ) → Bool
-tooEarly count frame interval = pick (leb 32 count) (ltb frame (31 * interval)) false
+tooEarly count frame interval = pick (leb cleanChecksums count) (ltb frame (31 * interval)) false
 
 abbrev pub overflows : (frame interval : ℕ) → List Checksum → Bool
 overflows frame interval l = tooEarly (length l) frame interval
 
--- 5: 64 others are stored
+-- 5: 64 others are stored (C-15)
 unfoldable pub isFull : ℕ → List Checksum → Bool
-isFull frame l = pick (has frameOf frame l) false (leb 64 (length l))
+isFull frame l = pick (has frameOf frame l) false (leb mostChecksums (length l))
 
 pub record FoundAs (s : Checksums) (frame : ℕ) (r : Found) : Type 0 where
   pub found : r .found ≡ has frameOf frame (stored s)

@@ -6,6 +6,8 @@ ghost use Prim.Native.Nat.{_-_, _*_};
 ghost use lib.ListN.{length, getD};
 ghost use Rattle.base.specs.Keyed.{place};
 ghost use Rattle.checksums.specs.Checksums.{stored, frameOf, keepLine, tooEarly, blank, FoundAs, ReportedAs};
+use ceilings::CLEAN_CHECKSUMS;
+use ceilings::MOST_CHECKSUMS;
 
 pub struct Checksum {
     pub frame: u32,
@@ -14,7 +16,7 @@ pub struct Checksum {
 }
 
 pub struct Checksums {
-    pub entries: [Checksum; 64],
+    pub entries: [Checksum; MOST_CHECKSUMS],
     pub used: usize,
 }
 
@@ -44,11 +46,11 @@ fn oldest(frame: u32, interval: u32) -> u32
     }
 }
 
-// The oldest frame to keep would lie below all frames: told only where the clean-up needs it.
+// The oldest frame to keep would lie below all frames: tested only where the clean-up needs it.
 fn too_early(count: usize, frame: u32, interval: u32) -> bool
     ensures { λ r. ⌜ r ≡ tooEarly count frame interval ⌝ }
 {
-    if count < 32 {
+    if count < CLEAN_CHECKSUMS {
         return false;
     }
     (frame as u64) < 31 * (interval as u64)
@@ -58,7 +60,7 @@ fn too_early(count: usize, frame: u32, interval: u32) -> bool
 fn keep_line(count: usize, frame: u32, interval: u32) -> u32
     ensures { λ r. ⌜ r ≡ keepLine count frame interval ⌝ }
 {
-    if 32 <= count {
+    if CLEAN_CHECKSUMS <= count {
         oldest(frame, interval)
     } else {
         0
@@ -74,7 +76,7 @@ impl Checksums {
                 frame: 0,
                 low: 0,
                 high: 0,
-            }; 64],
+            }; MOST_CHECKSUMS],
             used: 0,
         }
     }
@@ -83,7 +85,11 @@ impl Checksums {
         ensures { λ r. ⌜ r ≡ length (stored self) ⌝ }
     {
         let used = self.used;
-        if used < 64 { used } else { 64 }
+        if used < MOST_CHECKSUMS {
+            used
+        } else {
+            MOST_CHECKSUMS
+        }
     }
 
     // The i-th, or zeros.
@@ -159,7 +165,7 @@ impl Checksums {
             i += 1;
         }
         // Without room all 64 stayed: each was written where it stood, so the store is as it was.
-        if 64 <= at {
+        if MOST_CHECKSUMS <= at {
             return Reported {
                 checksums: self,
                 overflow: false,

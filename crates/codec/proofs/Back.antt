@@ -15,7 +15,7 @@ use Rattle.base.proofs.Little.{le-unle, unle-bound}
 use Rattle.base.proofs.Bytes.{bytes-take, bytes-drop}
 use Rattle.frame.specs.Bias.{bias32, bias16, bitsOf}
 use Rattle.frame.proofs.Bits.{bits-below, bits-bits}
-use Rattle.codec.specs.Sizes.{maxStatuses, maxPayload}
+use Rattle.ceilings.specs.Ceilings.{mostPlayers, mostPayload}
 use Rattle.codec.specs.Message.{kindOf, isInput, FitsWide, FitsBody, FitsReports, Fits}
 use Rattle.codec.specs.Bytes.{flagBytes, frameBytes, advantageBytes, wideBytes, reportBytes, reportsBytes, statusesBytes, inputBytes, bodyBytes, head, bytes}
 use Rattle.codec.specs.Read.{Got, Reads, after, give, part, refuse, number, flagOf, flag, frame, advantage, wide, report, reports, input, plain, kinds, message}
@@ -36,7 +36,7 @@ start h = record { whole = refl; bytes = h }
 known : {d a b left : List ℕ} → Splits d a left → a ≡ b → Splits d b left
 known s e = record { whole = s .whole ∙ rw e; bytes = s .bytes }
 
--- a reading of d that gave a value read that value's bytes, and the value has its width; one that stopped tells a fault of the reader's
+-- a reading of d that gave a value read that value's bytes, and the value has its width; one that stopped gives one of the reader's numbers
 pub data Right {A : Type 0} (enc : A → List ℕ) (width : A → Type 0) (d : List ℕ) : Got A → Type 0 where
   right : {a : A} {left : List ℕ} → Splits d (enc a) left → width a → Right enc width d (got a left)
   stopped : {n : ℕ} → (9 ≤ n) × (n ≤ 12) → Right enc width d (fault n)
@@ -142,21 +142,21 @@ module _ (magic : ℕ) (small : magic < 2 ^ 16) where
   unfolding input bytes head bodyBytes kindOf statusesBytes inputBytes isInput
   input-right d l s =
       then s (number-right 8 l)
-      (λ n l1 s1 w1. then s1 (long-right (ltb maxStatuses n) l1)
+      (λ n l1 s1 w1. then s1 (long-right (ltb mostPlayers n) l1)
       (λ u l2 s2 w2. then s2 (all-right n l2)
       (λ rs l3 s3 w3. then s3 (flag-right l3)
       (λ b l4 s4 w4. then s4 (frame-right l4)
       (λ st l5 s5 w5. then s5 (frame-right l5)
       (λ ak l6 s6 w6. then s6 (number-right 8 l6)
-      (λ k l7 s7 w7. then s7 (long-right (ltb maxPayload k) l7)
+      (λ k l7 s7 w7. then s7 (long-right (ltb mostPayload k) l7)
       (λ u′ l8 s8 w8. then s8 (part-right k l8)
       (λ p left s9 w9. right (known s9 (rw (← w3 .1, ← w9 .0) (simp append-assoc)))
       (record {
         magic = small;
         body = (w5, w6);
         frames = w3 .0;
-        statuses = omega (arith, ltb-false maxStatuses n w2, w3 .1);
-        length = omega (arith, ltb-false maxPayload k w8, w9 .0);
+        statuses = omega (arith, ltb-false mostPlayers n w2, w3 .1);
+        length = omega (arith, ltb-false mostPayload k w8, w9 .0);
         bytes = w9 .1;
         none = λ e. let z : _≡_ {A = ℕ} 0 1 = cc in absurd (omega arith);
       }))))))))))
@@ -187,5 +187,5 @@ pub took : {A : Type 0} {enc : A → List ℕ} {width : A → Type 0} {d left : 
     → (d ≡ enc a ++ left) × width a
 took (right s w) = (s .whole, w)
 
-pub told : {A : Type 0} {enc : A → List ℕ} {width : A → Type 0} {d : List ℕ} {n : ℕ} → Right enc width d (fault n) → (9 ≤ n) × (n ≤ 12)
-told (stopped k) = k
+pub fault-bounds : {A : Type 0} {enc : A → List ℕ} {width : A → Type 0} {d : List ℕ} {n : ℕ} → Right enc width d (fault n) → (9 ≤ n) × (n ≤ 12)
+fault-bounds (stopped k) = k

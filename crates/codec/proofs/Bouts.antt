@@ -1,4 +1,4 @@
--- P1 and P2 of document 01's worked bouts, for the table that proves them all.
+-- The worked bouts P1 and P2 (B-1, B-2), for the table that proves them all.
 use mathlib.Core.Path.{_≡_, refl}
 use mathlib.Core.List.{List, [], _∷_, _++_}
 use Prim.Native.Nat.{ℕ}
@@ -31,7 +31,7 @@ pub P2-extra : (b : ℕ) → numberIn (datagram (p1Bytes ++ b ∷ [])) ≡ 13
 unfolding datagram message kinds frame number part unle bitsOf
 P2-extra b = refl
 
--- P1's message is one that its bytes tell
+-- P1's message is one that its bytes determine
 pub p1-fits : Fits p1Message
 unfolding isInput
 p1-fits =

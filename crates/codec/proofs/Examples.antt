@@ -1,4 +1,4 @@
--- Worked examples, as two tables: messages of every kind with their bytes, both ways, and bytes that are refused with document 01's numbers.
+-- Worked examples, as tables: messages of every kind with their bytes, both ways, bytes that are refused with their numbers (N-9 to N-13), and a queue with the ends of its messages.
 use mathlib.Core.Path.{_≡_, refl}
 use mathlib.Core.Bool.{true, false}
 use mathlib.Core.List.{List, [], _∷_, _++_, map}
@@ -9,6 +9,7 @@ use Rattle.codec.specs.Message.{Wire, kindOf}
 use Rattle.codec.specs.Bytes.{flagBytes, frameBytes, advantageBytes, wideBytes, reportBytes, reportsBytes, statusesBytes, inputBytes, bodyBytes, head, bytes}
 use Rattle.codec.specs.Read.{part, number, flag, frame, advantage, wide, report, reports, input, plain, kinds, message, datagram, numberIn}
 use Rattle.codec.specs.Read.Got.{got}
+use Rattle.codec.specs.Calls.{messageEnd}
 use Rattle.codec.proofs.Bouts.{p1Message, p1Bytes}
 use Rattle.codec.specs.declared.MessageBody.the-variants.{SyncRequest, SyncReply, Input, QualityReport, QualityReply, ChecksumReport, KeepAlive}
 
@@ -102,3 +103,11 @@ refused =
 each-refused : map (λ (row : List ℕ × ℕ). numberIn (datagram (row .0))) refused ≡ map (λ (row : List ℕ × ℕ). row .1) refused
 unfolding datagram message kinds input reports report wide advantage frame flag number part unle bitsOf
 each-refused = refl
+
+-- a KeepAlive, an InputAck and three bytes that are no message: where the message at each place ends
+abbrev queued : List ℕ
+queued = 1 ∷ 2 ∷ 7 ∷ 0 ∷ 0 ∷ 0 ∷ [] ++ p1Bytes ++ 0 ∷ 0 ∷ 8 ∷ []
+
+each-end : map (messageEnd queued) (0 ∷ 6 ∷ 16 ∷ 19 ∷ 25 ∷ []) ≡ 6 ∷ 16 ∷ 19 ∷ 19 ∷ 19 ∷ []
+unfolding messageEnd message kinds frame number part unle bitsOf
+each-end = refl

@@ -1,24 +1,22 @@
 -- What a reading that failed, and one of a fixed size, say of the answer.
-use borrow.Author.Tests.{ne-eqb}
 use mathlib.Core.Path.{_≡_, refl, sym, _∙_, ap}
 use mathlib.Core.Logic.{inl, inr}
 use mathlib.Core.List.{List, [], _∷_}
-use Prim.Native.Nat.{ℕ, zero, suc, _-_, _<_, _≤_}
+use Prim.Native.Nat.{ℕ, _+_, _-_, _<_, _≤_}
 use native.Mathlib.Omega.{arith}
 use native.Mathlib.Nat.{sub-self, sub-zero}
-use lib.Dec.{eqb}
 use lib.ListN.{length, take, drop, length-take, length-drop, drop-of-length-le}
 use lib.Seq.{drop-length, take-all}
-use Rattle.base.specs.Pick.{pick}
 use Rattle.base.proofs.Digits.{below-or-not}
 use Rattle.answer.specs.Number.{numberOf}
 use Rattle.answer.specs.declared.Answer.{Answer}
 use Rattle.answer.specs.declared.Answer.the-variants.{Done}
 use Rattle.codec.specs.Message.{Wire, meant}
-use Rattle.codec.specs.Read.{Got, after, plain, ended, message, datagram, blank, numberIn, wireIn, leftIn}
+use Rattle.codec.specs.Read.{Got, after, plain, ended, message, datagram, wireIn, leftIn}
 use Rattle.codec.specs.Read.Got.{got, fault}
 use Rattle.codec.specs.Front.{numberAt, endIn, FrontAs, RefusedAs, PlainAs}
-use Rattle.codec.specs.Calls.{PayloadAs, CutAs, payloadIn}
+use Rattle.codec.specs.Calls.{PayloadAs, payloadIn, messageEnd}
+use Rattle.codec.proofs.Left.{message-shortens}
 use Rattle.codec.proofs.Statuses.{fault-of}
 use Rattle.codec.specs.declared.Message.{Message}
 use Rattle.codec.specs.declared.MessageBody.{MessageBody}
@@ -100,15 +98,26 @@ module _ (d : List ℕ) (r : Front) (h : FrontAs d (message d) r) where
 no-fault : (n : ℕ) (w : Wire) (left : List ℕ) → fault n ≡ got w left → ⊥
 no-fault n w left e = let z : _≡_ {A = ℕ} 0 1 = cc in omega arith
 
-ends : (d : List ℕ) (g : Got Wire) (left : List ℕ) → (numberIn g ≡ 0 → g ≡ got (wireIn g) left)
-    → endIn d g ≡ pick (eqb (numberIn g) 0) (length d - length (leftIn g)) 0
-ends d (got w left) l f = refl
-ends d (fault zero) l f = absurd (no-fault 0 blank l (f refl))
-ends d (fault (suc n)) l f = rw (ne-eqb (suc n) 0 (λ e. omega arith))
+-- the public calls' answers: the end of the message at a place inside a queue, from the size of what was read there, 0 where nothing was
+module _ (queue : List ℕ) (at : ℕ) (inside : at < length queue) (r : Front) (h : FrontAs (drop at queue) (message (drop at queue)) r) where
+  shorter : length (leftIn (message (drop at queue))) < length queue - at
+  shorter = rw length-drop at (message-shortens (drop at queue) (rw length-drop (omega arith)))
 
--- the public calls' answers
-pub cut-front : (d : List ℕ) (r : Front) → FrontAs d (message d) r → CutAs d (record { answer = r .answer; end = r .end })
-cut-front d r h = record { answer = h .answer; end = h .end ∙ ends d (message d) (drop (r .end) d) (λ z. h .left (h .answer ∙ z)) }
+  pub end-none : r .end ≡ 0 → length queue ≡ messageEnd queue at
+  unfolding messageEnd
+  end-none none = go (message (drop at queue)) (h .end) shorter
+    where
+      go : (g : Got Wire) → r .end ≡ endIn (drop at queue) g → length (leftIn g) < length queue - at → length queue ≡ length queue - length (leftIn g)
+      go (got w left) e l = absurd (omega (arith, length-drop at queue))
+      go (fault n) e l = omega arith
+
+  pub end-found : (r .end ≡ 0 → ⊥) → at + r .end ≡ messageEnd queue at
+  unfolding messageEnd
+  end-found some = go (message (drop at queue)) (h .end) shorter
+    where
+      go : (g : Got Wire) → r .end ≡ endIn (drop at queue) g → length (leftIn g) < length queue - at → at + r .end ≡ length queue - length (leftIn g)
+      go (got w left) e l = omega (arith, length-drop at queue)
+      go (fault n) e l = absurd (some e)
 
 -- a datagram that reads has nothing after its message, so that its payload is its last part
 same-left : (v w : Wire) (l left : List ℕ) → got v l ≡ got w left → left ≡ l

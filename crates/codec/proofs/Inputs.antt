@@ -12,9 +12,9 @@ use lib.ListN.{length, take, drop, getD, length-drop}
 use lib.Seq.{drop-drop}
 use Rattle.base.proofs.Digits.{below-or-not}
 use Rattle.frame.specs.Bias.{bias32, bitsOf}
-use Rattle.codec.specs.Sizes.{maxStatuses, maxPayload}
+use Rattle.ceilings.specs.Ceilings.{mostPlayers, mostPayload}
 use Rattle.codec.specs.Message.{Wire}
-use Rattle.codec.specs.Read.{Got, Reads, after, _>>=_, give, part, refuse, reports, input, kinds, message}
+use Rattle.codec.specs.Read.{Reads, after, _>>=_, give, part, refuse, reports, input, kinds, message}
 use Rattle.codec.specs.Read.Got.{got, fault}
 use Rattle.codec.specs.Front.{numberAt, afterReports}
 use Rattle.codec.proofs.Takes.{takes-part, takes-number, takes-frame, head-whole}
@@ -35,7 +35,7 @@ inputAt magic rs at b d =
 -- the payload's count was read
 ending : ℕ → List StatusReport → Bool → ℕ → ℕ → ℕ → Reads Wire
 ending magic rs disconnect start ack b = do
-  _ ← refuse (ltb maxPayload b) 12
+  _ ← refuse (ltb mostPayload b) 12
   payload ← part b
   give (record { magic = magic; body = Input disconnect start ack; reports = rs; payload = payload })
 
@@ -97,15 +97,15 @@ module _ (d : List ℕ) (at magic : ℕ) (rs : List StatusReport) where
               add-assoc at 9 8,
             )
 
-        pub long-payload : maxPayload < numberAt 8 (at + 9) d → afterReports magic rs (drop at d) ≡ fault 12
+        pub long-payload : mostPayload < numberAt 8 (at + 9) d → afterReports magic rs (drop at d) ≡ fault 12
         unfolding ending
-        long-payload m = fields ∙ rw (lt-ltb maxPayload (numberAt 8 (at + 9) d) m)
+        long-payload m = fields ∙ rw (lt-ltb mostPayload (numberAt 8 (at + 9) d) m)
 
-        module _ (m : numberAt 8 (at + 9) d ≤ maxPayload) where
+        module _ (m : numberAt 8 (at + 9) d ≤ mostPayload) where
           pub short-payload : length d < at + 17 + numberAt 8 (at + 9) d → afterReports magic rs (drop at d) ≡ fault 9
           unfolding ending
           short-payload n =
-              fields ∙ rw (le-ltb maxPayload (numberAt 8 (at + 9) d) m, takes-part (numberAt 8 (at + 9) d) .short (drop (at + 17) d) (rw length-drop (omega arith)))
+              fields ∙ rw (le-ltb mostPayload (numberAt 8 (at + 9) d) m, takes-part (numberAt 8 (at + 9) d) .short (drop (at + 17) d) (rw length-drop (omega arith)))
 
           pub whole-input : at + 17 + numberAt 8 (at + 9) d ≤ length d
               → afterReports magic rs (drop at d) ≡ got (inputAt magic rs at (numberAt 8 (at + 9) d) d) (drop (at + 17 + numberAt 8 (at + 9) d) d)
@@ -113,7 +113,7 @@ module _ (d : List ℕ) (at magic : ℕ) (rs : List StatusReport) where
           whole-input n =
               fields
               ∙ rw (
-                le-ltb maxPayload (numberAt 8 (at + 9) d) m,
+                le-ltb mostPayload (numberAt 8 (at + 9) d) m,
                 takes-part (numberAt 8 (at + 9) d) .whole (drop (at + 17) d) (rw length-drop (omega arith)),
                 drop-drop (numberAt 8 (at + 9) d) (at + 17) d,
               )
@@ -129,12 +129,12 @@ module _ (d : List ℕ) (h : 6 ≤ length d) (two : numberAt 4 2 d ≡ 2) where
   no-count l = begun ∙ rw (takes-number 8 .short (drop 6 d) (rw length-drop (omega arith)))
 
   module _ (l : 14 ≤ length d) where
-    pub many-statuses : maxStatuses < numberAt 8 6 d → message d ≡ fault 12
+    pub many-statuses : mostPlayers < numberAt 8 6 d → message d ≡ fault 12
     unfolding input numberAt
     many-statuses m =
-        begun ∙ rw (takes-number 8 .whole (drop 6 d) (rw length-drop (omega arith)), lt-ltb maxStatuses (numberAt 8 6 d) m)
+        begun ∙ rw (takes-number 8 .whole (drop 6 d) (rw length-drop (omega arith)), lt-ltb mostPlayers (numberAt 8 6 d) m)
 
-    module _ (m : numberAt 8 6 d ≤ maxStatuses) where
+    module _ (m : numberAt 8 6 d ≤ mostPlayers) where
       pub with-statuses : message d ≡ after (reports (numberAt 8 6 d) [] (drop 14 d)) (λ rs. afterReports (numberAt 2 0 d) rs)
       unfolding input numberAt afterReports
       with-statuses =
@@ -142,5 +142,5 @@ module _ (d : List ℕ) (h : 6 ≤ length d) (two : numberAt 4 2 d ≡ 2) where
           ∙ rw (
             takes-number 8 .whole (drop 6 d) (rw length-drop (omega arith)),
             drop-drop 8 6 d,
-            le-ltb maxStatuses (numberAt 8 6 d) m,
+            le-ltb mostPlayers (numberAt 8 6 d) m,
           )

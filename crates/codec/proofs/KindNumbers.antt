@@ -1,4 +1,4 @@
--- A kind's number tells the body, for crates that branch by the number.
+-- A kind's number determines the body, for crates that branch by the number.
 use mathlib.Core.Bool.{Bool}
 use mathlib.Core.Path.{_≡_, refl, sym, _∙_, subst}
 use mathlib.Core.List.{List}

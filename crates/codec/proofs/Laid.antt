@@ -17,7 +17,7 @@ use Rattle.codec.specs.Message.{Wire, Fits, isInput, listed, meant}
 use Rattle.codec.specs.Bytes.{bodyBytes, head, bytes}
 use Rattle.codec.specs.Put.{HeadPut}
 use Rattle.codec.specs.Calls.{tooLong, sizeFor, writeRefusal, LaidAs, HeadAs, WrittenAs}
-use Rattle.codec.specs.Sizes.{maxStatuses, maxPayload}
+use Rattle.ceilings.specs.Ceilings.{mostPlayers, mostPayload}
 use Rattle.codec.proofs.Sizes.{input-counts}
 use Rattle.base.specs.Pick.{pick}
 use Rattle.codec.specs.declared.StatusReport.{StatusReport}
@@ -61,9 +61,9 @@ module _ (m : Message) (n : ℕ) (t : tooLong m n ≡ false) where
         body = h .fits;
         frames = h .frames;
         statuses =
-            chosen-length (listed (m .reports)) maxStatuses (isInput (m .body))
+            chosen-length (listed (m .reports)) mostPlayers (isInput (m .body))
             (λ e. omega (arith, input-counts m n t e .0, length-take (m .reports .count) (m .reports .list)));
-        length = chosen-length [] maxPayload (isInput (m .body)) (λ e. omega arith);
+        length = chosen-length [] mostPayload (isInput (m .body)) (λ e. omega arith);
         bytes = chosen-bytes [] (isInput (m .body)) (λ i. omega arith);
         none = λ e. rw e (refl, refl);
       }
@@ -77,7 +77,7 @@ module _ (m : Message) (n : ℕ) (t : tooLong m n ≡ false) where
         body = f .body;
         frames = f .frames;
         statuses = f .statuses;
-        length = chosen-length payload maxPayload (isInput (m .body)) (λ e. omega (arith, input-counts m n t e .1));
+        length = chosen-length payload mostPayload (isInput (m .body)) (λ e. omega (arith, input-counts m n t e .1));
         bytes = chosen-bytes payload (isInput (m .body)) q;
         none = λ e. rw e (refl, refl);
       }

@@ -1,39 +1,37 @@
--- What other crates cite of messages and their bytes: each tells the other, sizes, an Input's head and payload, and a queue cut into its messages.
-use borrow.Author.Tests.{le-ltb, ne-eqb}
+-- What other crates cite of messages and their bytes: each determines the other, sizes, an Input's head and payload. `Queue.antt` has a queue cut into its messages.
+use borrow.Author.Tests.{le-ltb}
 use mathlib.Core.Path.{_≡_, refl, sym, _∙_, ap}
 use mathlib.Core.Bool.{Bool, true, false}
-use mathlib.Core.List.{List, [], _∷_, _++_, append-assoc, append-nil, map, flatten}
-use Prim.Native.Nat.{ℕ, zero, suc, _+_, _*_, _-_, _/_, _%_, _^_, _<_, _≤_}
+use mathlib.Core.List.{List, [], _∷_, _++_, append-assoc, append-nil}
+use Prim.Native.Nat.{ℕ, _+_, _*_, _/_, _%_, _^_, _<_, _≤_}
 use native.Mathlib.Omega.{arith}
 use native.Mathlib.Nat.{add-zero}
-use lib.Dec.{eqb}
-use lib.ListN.{length, take, drop, length-append, length-take}
-use lib.Seq.{take-append-seam, drop-append-seam}
+use lib.ListN.{length, length-append, length-take}
 use Rattle.base.specs.Pick.{pick}
 use Rattle.base.specs.Little.{Bytes, le}
 use Rattle.base.specs.Lay.{noRoom, laidAt}
 use Rattle.base.proofs.Little.{le-pieces}
 use Rattle.base.proofs.Lay.{laid-join}
-use Rattle.answer.specs.Number.{numberOf, number-tells}
+use Rattle.answer.specs.Number.{numberOf, number-determines}
 use Rattle.answer.specs.declared.Answer.the-variants.{Done}
-use Rattle.codec.specs.Sizes.{fixedSize, maxStatuses, maxPayload}
-use Rattle.codec.specs.Message.{Wire, Fits, FitAll, kindOf, isInput, listed, meant, sizeWith, sizeOf, bodySize, tableSize}
-use Rattle.codec.specs.Bytes.{wideBytes, head, bytes, queueOf}
-use Rattle.codec.specs.Read.{Got, after, number, part, message, ended, datagram, numberIn, wireIn, leftIn}
+use Rattle.ceilings.specs.Ceilings.{mostPlayers, mostPayload}
+use Rattle.codec.specs.Sizes.{fixedSize}
+use Rattle.codec.specs.Message.{Wire, Fits, kindOf, isInput, listed, meant, sizeWith, bodySize, tableSize}
+use Rattle.codec.specs.Bytes.{wideBytes, head, bytes}
+use Rattle.codec.specs.Read.{Got, after, message, ended, datagram, numberIn, wireIn, leftIn}
 use Rattle.codec.specs.Read.Got.{got, fault}
-use Rattle.codec.specs.Calls.{tooLong, writeRefusal, HeadAs, WrittenAs, ReadAs, PayloadAs, payloadIn, CutAs}
+use Rattle.codec.specs.Calls.{tooLong, writeRefusal, HeadAs, WrittenAs, ReadAs, PayloadAs, payloadIn}
 use Rattle.codec.proofs.Lengths.{head-length, head-parts}
 use Rattle.codec.proofs.Sizes.{kind-below, input-counts, size-head}
 use Rattle.codec.proofs.Laid.{bytes-input, bytes-other, still-refused, not-long, head-end, head-lent, input-written}
 use Rattle.codec.proofs.RoundTrip.{number-le, body-read}
-use Rattle.codec.proofs.Back.{message-right, took, told}
+use Rattle.codec.proofs.Back.{message-right, took, fault-bounds}
 use Rattle.codec.specs.declared.Wide.{Wide}
 use Rattle.codec.specs.declared.Message.{Message}
 use Rattle.codec.specs.declared.MessageBody.{MessageBody}
 use Rattle.codec.specs.declared.MessageBody.the-variants.{SyncRequest, SyncReply, Input, InputAck, QualityReport, QualityReply, ChecksumReport, KeepAlive}
 use Rattle.codec.specs.declared.Written.{Written}
 use Rattle.codec.specs.declared.Received.{Received}
-use Rattle.codec.specs.declared.Cut.{Cut}
 
 -- a message is read back from its bytes, whatever stands after them
 pub message-bytes : (w : Wire) (rest : List ℕ) → Fits w → message (bytes w ++ rest) ≡ got w rest
@@ -53,8 +51,8 @@ bytes-first w w′ rest rest′ h h′ e =
     let q : got w rest ≡ got w′ rest′ = sym (message-bytes w rest h) ∙ ap message e ∙ message-bytes w′ rest′ h′ in
     (ap wireIn q, ap leftIn q)
 
-pub bytes-tell : (w w′ : Wire) → Fits w → Fits w′ → bytes w ≡ bytes w′ → w ≡ w′
-bytes-tell w w′ h h′ e = bytes-first w w′ [] [] h h′ (rw e) .0
+pub bytes-determine : (w w′ : Wire) → Fits w → Fits w′ → bytes w ≡ bytes w′ → w ≡ w′
+bytes-determine w w′ h h′ e = bytes-first w w′ [] [] h h′ (rw e) .0
 
 -- bytes that read are those of the message that was read
 pub bytes-message : (d : List ℕ) (w : Wire) (rest : List ℕ) → Bytes d → message d ≡ got w rest → (d ≡ bytes w ++ rest) × Fits w
@@ -71,9 +69,9 @@ bytes-read d w rest h e = go (message d) refl e
     go (got v (b ∷ bs)) m q = let z : _≡_ {A = ℕ} 0 1 = cc in absurd (omega arith)
     go (fault n) m q = let z : _≡_ {A = ℕ} 0 1 = cc in absurd (omega arith)
 
--- a reading that stops tells one of the reader's numbers; 13 is a datagram's, after a whole message
+-- a reading that stops gives one of the reader's numbers; 13 is a datagram's, after a whole message
 pub fault-range : (d : List ℕ) (n : ℕ) → Bytes d → message d ≡ fault n → (9 ≤ n) × (n ≤ 12)
-fault-range d n h e = told (rw e at (message-right d h))
+fault-range d n h e = fault-bounds (rw e at (message-right d h))
 
 pub datagram-fault-range : (d : List ℕ) (n : ℕ) → Bytes d → datagram d ≡ fault n → (9 ≤ n) × (n ≤ 13)
 unfolding datagram
@@ -92,19 +90,7 @@ wide-is x h =
     let d : (x .low + 2 ^ 64 * x .high) / 256 ^ 8 ≡ x .high = omega arith in
     rw (m, d) at (le-pieces 8 8 (x .low + 2 ^ 64 * x .high))
 
--- sizes: those of the table
-pub bytes-length : (w : Wire) → Fits w → length (bytes w) ≡ sizeOf w
-unfolding bytes sizeOf sizeWith
-bytes-length w h = simp (length-append, head-length) (go (isInput (w .body)) (h .none))
-  where
-    fixed : ℕ
-    fixed = fixedSize (kindOf (w .body))
-
-    go : (t : Bool) → (t ≡ false → (w .reports ≡ []) × (w .payload ≡ []))
-        → fixed + pick t (5 * length (w .reports)) 0 + length (w .payload) ≡ fixed + pick t (5 * length (w .reports) + length (w .payload)) 0
-    go true f = omega arith
-    go false f = rw (f refl .1) (omega arith)
-
+-- sizes: those of the table, in the form that computes by the body's case
 table : (body : MessageBody) (n b : ℕ) → sizeWith body n b ≡ bodySize body n b
 unfolding sizeWith kindOf isInput
 table (SyncRequest x) n b = refl
@@ -116,9 +102,17 @@ table (QualityReply x) n b = refl
 table (ChecksumReport x f) n b = refl
 table KeepAlive n b = refl
 
-pub size-table : (w : Wire) → sizeOf w ≡ tableSize w
-unfolding sizeOf
-size-table w = table (w .body) (length (w .reports)) (length (w .payload))
+pub bytes-length : (w : Wire) → Fits w → length (bytes w) ≡ tableSize w
+unfolding bytes sizeWith
+bytes-length w h = simp (length-append, head-length) (go (isInput (w .body)) (h .none)) ∙ table (w .body) (length (w .reports)) (length (w .payload))
+  where
+    fixed : ℕ
+    fixed = fixedSize (kindOf (w .body))
+
+    go : (t : Bool) → (t ≡ false → (w .reports ≡ []) × (w .payload ≡ []))
+        → fixed + pick t (5 * length (w .reports)) 0 + length (w .payload) ≡ fixed + pick t (5 * length (w .reports) + length (w .payload)) 0
+    go true f = omega arith
+    go false f = rw (f refl .1) (omega arith)
 
 -- a head is as long as a message without a payload
 pub head-length-law : (w : Wire) (n : ℕ) → length (head w n) ≡ bodySize (w .body) (length (w .reports)) 0
@@ -129,8 +123,7 @@ pub least : (w : Wire) → 6 ≤ length (bytes w)
 unfolding bytes
 least w = simp length-append (omega (arith, head-parts w (length (w .payload))))
 
-most : (body : MessageBody) (statuses n : ℕ) → statuses ≤ maxStatuses → n ≤ maxPayload → sizeWith body statuses n ≤ 8307
-unfolding sizeWith kindOf isInput
+most : (body : MessageBody) (statuses n : ℕ) → statuses ≤ mostPlayers → n ≤ mostPayload → bodySize body statuses n ≤ 8307
 most (SyncRequest x) k n h l = omega arith
 most (SyncReply x) k n h l = omega arith
 most (Input d s a) k n h l = omega arith
@@ -140,19 +133,19 @@ most (QualityReply x) k n h l = omega arith
 most (ChecksumReport x f) k n h l = omega arith
 most KeepAlive k n h l = omega arith
 
-pub largest : (w : Wire) → Fits w → sizeOf w ≤ 8307
-unfolding sizeOf
+pub largest : (w : Wire) → Fits w → tableSize w ≤ 8307
 largest w h = most (w .body) (length (w .reports)) (length (w .payload)) (h .statuses) (h .length)
 
-pub read-length : (d : List ℕ) (w : Wire) (rest : List ℕ) → Bytes d → datagram d ≡ got w rest → length d ≡ sizeOf w
+pub read-length : (d : List ℕ) (w : Wire) (rest : List ℕ) → Bytes d → datagram d ≡ got w rest → length d ≡ tableSize w
 read-length d w rest h e = let t = bytes-read d w rest h e in ap length (sym (t .0)) ∙ bytes-length w (t .1)
 
 -- what the writer's room test counts is the size of what it writes
 pub size-meant : (m : Message) (p : List ℕ) → tooLong m (length p) ≡ false → length (m .reports .list) ≡ 4
-    → sizeWith (m .body) (m .reports .count) (length p) ≡ sizeOf (meant m p)
-unfolding sizeOf sizeWith meant
+    → sizeWith (m .body) (m .reports .count) (length p) ≡ tableSize (meant m p)
+unfolding sizeWith meant
 size-meant m p short four =
     go (isInput (m .body)) (λ h. omega (arith, input-counts m (length p) short h .0, length-take (m .reports .count) (m .reports .list)))
+    ∙ table (m .body) (length (meant m p .reports)) (length (meant m p .payload))
   where
     fixed : ℕ
     fixed = fixedSize (kindOf (m .body))
@@ -163,18 +156,18 @@ size-meant m p short four =
     go false f = refl
 
 -- a message within the counts is refused for want of room alone
-within-counts : (m : Message) (n : ℕ) → m .reports .count ≤ maxStatuses → n ≤ maxPayload → tooLong m n ≡ false
+within-counts : (m : Message) (n : ℕ) → m .reports .count ≤ mostPlayers → n ≤ mostPayload → tooLong m n ≡ false
 unfolding tooLong
 within-counts m n few short =
-    rw (le-ltb maxStatuses (m .reports .count) few, le-ltb maxPayload n short)
+    rw (le-ltb mostPlayers (m .reports .count) few, le-ltb mostPayload n short)
     (elim (isInput (m .body)) as (λ t. pick t false false ≡ false) [ true ↦ refl | false ↦ refl ])
 
-pub refused-room : (buffer : List ℕ) (at : ℕ) (m : Message) (p : List ℕ) → m .reports .count ≤ maxStatuses → length p ≤ maxPayload
+pub refused-room : (buffer : List ℕ) (at : ℕ) (m : Message) (p : List ℕ) → m .reports .count ≤ mostPlayers → length p ≤ mostPayload
     → length (m .reports .list) ≡ 4 → writeRefusal buffer at m (length p) ≡ pick (noRoom buffer at (tableSize (meant m p))) 5 0
 unfolding writeRefusal
 refused-room buffer at m p few short four =
     let within = within-counts m (length p) few short in
-    rw (within, size-meant m p within four, size-table)
+    rw (within, size-meant m p within four)
 
 -- a message's bytes are its head's and, of an Input, the payload's
 pub head-payload : (m : Message) (p : List ℕ) → isInput (m .body) ≡ true → bytes (meant m p) ≡ head (meant m []) (length p) ++ p
@@ -212,7 +205,7 @@ head-refused = still-refused
 
 -- what the writer and the reader answer: of a message that fits, and of bytes that read
 pub written-end : (buffer : List ℕ) (at : ℕ) (m : Message) (p : List ℕ) (r : Written) (buffer′ : List ℕ) → WrittenAs buffer at m p r buffer′
-    → numberOf (r .answer) ≡ 0 → r .end ≡ at + sizeOf (meant m p)
+    → numberOf (r .answer) ≡ 0 → r .end ≡ at + tableSize (meant m p)
 written-end buffer at m p r buffer′ h done =
     let none : writeRefusal buffer at m (length p) ≡ 0 = sym (h .answer) ∙ done in
     (rw none at (h .end)) ∙ rw (bytes-length (meant m p) (h .fits none))
@@ -224,7 +217,7 @@ pub received : (w : Wire) (r : Received) → Fits w → ReadAs (bytes w) r
     → (r .answer ≡ Done) × (meant (r .message) (w .payload) ≡ w) × (r .message .reports .count ≡ length (w .reports))
 received w r h c =
     let e = read-bytes w h in
-    (number-tells (r .answer) Done (rw e at (c .answer)), rw (payload-in w h, e) at (c .message), rw e at (c .count))
+    (number-determines (r .answer) Done (rw e at (c .answer)), rw (payload-in w h, e) at (c .message), rw e at (c .count))
 
 pub read-back : (d : List ℕ) (r : Received) → Bytes d → ReadAs d r → numberOf (r .answer) ≡ 0
     → (bytes (meant (r .message) (payloadIn d)) ≡ d) × Fits (meant (r .message) (payloadIn d))
@@ -236,61 +229,3 @@ read-back d r h c done = rw (c .message) (go (datagram d) refl (sym (c .answer) 
 
 pub payload-received : (w : Wire) (p : List ℕ) → Fits w → PayloadAs (bytes w) p → p ≡ w .payload
 payload-received w p h c = c .payload ∙ payload-in w h
-
--- where the first message of a queue ends, by what `first_end` answers: 0 where none can be read
-unfoldable pub firstEnd : List ℕ → ℕ
-firstEnd queue = pick (eqb (numberIn (message queue)) 0) (length queue - length (leftIn (message queue))) 0
-
--- a queue cut message by message, at most k of them, until none can be read
-unfoldable pub cutAll : ℕ → List ℕ → List (List ℕ)
-cutAll zero queue = []
-cutAll (suc k) queue = pick (eqb (firstEnd queue) 0) [] (take (firstEnd queue) queue ∷ cutAll k (drop (firstEnd queue) queue))
-
-pub first-end : (w : Wire) (rest : List ℕ) → Fits w → firstEnd (bytes w ++ rest) ≡ length (bytes w)
-unfolding firstEnd
-first-end w rest h = rw (message-bytes w rest h) (simp length-append (omega arith))
-
-pub cut-end : (queue : List ℕ) (r : Cut) → CutAs queue r → r .end ≡ firstEnd queue
-unfolding firstEnd
-cut-end queue r c = c .end
-
-pub first-cut : (w : Wire) (rest : List ℕ) (r : Cut) → Fits w → CutAs (bytes w ++ rest) r → r ≡ record { answer = Done; end = length (bytes w) }
-first-cut w rest r h c =
-    let a : r .answer ≡ Done = number-tells (r .answer) Done (rw (message-bytes w rest h) at (c .answer)) in
-    let e : r .end ≡ length (bytes w) = cut-end (bytes w ++ rest) r c ∙ first-end w rest h in
-    λ i. record { answer = a i; end = e i }
-
-none-left : (k : ℕ) → cutAll k [] ≡ []
-unfolding cutAll firstEnd message number part
-none-left zero = refl
-none-left (suc k) = refl
-
-pub cut-all : (ws : List Wire) (k : ℕ) → FitAll ws → length ws ≤ k → cutAll k (queueOf ws) ≡ map bytes ws
-unfolding cutAll flatten
-cut-all [] k h l = none-left k
-cut-all (w ∷ ws) zero h l = absurd (omega arith)
-cut-all (w ∷ ws) (suc k) h l =
-    rw (
-      first-end w (queueOf ws) (h .0),
-      ne-eqb (length (bytes w)) 0 (λ e. omega (arith, least w)),
-      take-append-seam (bytes w) (queueOf ws),
-      drop-append-seam (bytes w) (queueOf ws),
-      cut-all ws k (h .1) (omega arith),
-    )
-
--- the queue's own length is count enough
-pub cut-queue : (ws : List Wire) → FitAll ws → cutAll (length (queueOf ws)) (queueOf ws) ≡ map bytes ws
-unfolding flatten
-cut-queue ws h = cut-all ws (length (queueOf ws)) h (count ws)
-  where
-    count : (ws : List Wire) → length ws ≤ length (queueOf ws)
-    count [] = omega arith
-    count (w ∷ ws) = simp length-append (omega (arith, least w, count ws))
-
--- and the messages come back
-pub read-all : (ws : List Wire) (k : ℕ) → FitAll ws → length ws ≤ k → map (λ d. wireIn (datagram d)) (cutAll k (queueOf ws)) ≡ ws
-read-all ws k h l = rw (cut-all ws k h l) (each ws h)
-  where
-    each : (ws : List Wire) → FitAll ws → map (λ d. wireIn (datagram d)) (map bytes ws) ≡ ws
-    each [] h = refl
-    each (w ∷ ws) h = rw (read-bytes w (h .0), each ws (h .1))

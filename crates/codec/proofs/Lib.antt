@@ -14,6 +14,8 @@ pub mod Inputs
 pub mod RoundTrip
 pub mod Back
 pub mod Laws
+pub mod Left
+pub mod Queue
 pub mod Settled
 pub mod Examples
 pub mod Bouts

@@ -1,5 +1,5 @@
--- Pieces put one after another are their sequence put at once, and the buffer keeps its length.
-use mathlib.Core.Path.{_≡_, refl, sym, _∙_}
+-- Pieces put one after another are their sequence put at once.
+use mathlib.Core.Path.{refl, sym, _∙_}
 use mathlib.Core.List.{List, [], _∷_, _++_}
 use Prim.Native.Nat.{ℕ, _+_, _/_, _%_, _^_, _<_, _≤_}
 use native.Mathlib.Omega.{arith}
@@ -7,13 +7,10 @@ use native.Mathlib.Nat.{add-assoc}
 use lib.ListN.{length, set, length-append, length-set}
 use Rattle.base.specs.Little.{le}
 use Rattle.base.proofs.Little.{le-pieces, le-length}
-use Rattle.base.proofs.Lay.{laid-length, laid-join, laid-one}
+use Rattle.base.proofs.Lay.{laid-join, laid-one}
 use Rattle.codec.specs.Put.{PutAs}
 
 module _ (b : List ℕ) (at : ℕ) (x : List ℕ) (r : ℕ) (b′ : List ℕ) (p : PutAs b at x r b′) where
-  pub put-length : at + length x ≤ length b → length b′ ≡ length b
-  put-length h = rw (p .laid) (laid-length b at x h)
-
   pub put-then : (y : List ℕ) (r′ : ℕ) (b″ : List ℕ) → PutAs b′ r y r′ b″ → at + length x + length y ≤ length b → PutAs b at (x ++ y) r′ b″
   put-then y r′ b″ q h =
       record {

@@ -11,7 +11,7 @@ use Rattle.base.specs.Little.{le}
 use Rattle.base.proofs.Little.{le-length, unle-le}
 use Rattle.frame.specs.Bias.{bias32, bias16, bitsOf}
 use Rattle.frame.proofs.Bits.{bits-below, bits-bits}
-use Rattle.codec.specs.Sizes.{maxStatuses, maxPayload}
+use Rattle.ceilings.specs.Ceilings.{mostPlayers, mostPayload}
 use Rattle.codec.specs.Message.{Wire, kindOf, isInput, FitsWide, FitsBody, FitsReports}
 use Rattle.codec.specs.Bytes.{flagBytes, frameBytes, advantageBytes, wideBytes, reportBytes, reportsBytes, statusesBytes, inputBytes, bodyBytes}
 use Rattle.codec.specs.Read.{Got, part, number, flag, frame, advantage, wide, report, reports, input, kinds}
@@ -64,24 +64,24 @@ module _ (magic : ℕ) (rs : List StatusReport) (p rest : List ℕ) where
   abbrev pub made : MessageBody → Got Wire
   made body = got (record { magic = magic; body = body; reports = rs; payload = p }) rest
 
-  input-read : (d : Bool) (s a : ℕ) → s < 2 ^ 32 → a < 2 ^ 32 → FitsReports rs → length rs ≤ maxStatuses → length p ≤ maxPayload
+  input-read : (d : Bool) (s a : ℕ) → s < 2 ^ 32 → a < 2 ^ 32 → FitsReports rs → length rs ≤ mostPlayers → length p ≤ mostPayload
       → input magic (statusesBytes rs ++ inputBytes d s a (length p) ++ (p ++ rest)) ≡ made (Input d s a)
   unfolding input statusesBytes inputBytes
   input-read d s a hs ha hr four many =
       simp append-assoc
       (rw (
         number-le 8 (length rs) (omega arith),
-        le-ltb maxStatuses (length rs) four,
+        le-ltb mostPlayers (length rs) four,
         reports-bytes rs [] hr,
         flag-bytes d,
         frame-bytes s hs,
         frame-bytes a ha,
         number-le 8 (length p) (omega arith),
-        le-ltb maxPayload (length p) many,
+        le-ltb mostPayload (length p) many,
         part-append (length p) p rest refl,
       ))
 
-  pub body-read : (body : MessageBody) → FitsBody body → FitsReports rs → length rs ≤ maxStatuses → length p ≤ maxPayload
+  pub body-read : (body : MessageBody) → FitsBody body → FitsReports rs → length rs ≤ mostPlayers → length p ≤ mostPayload
       → (isInput body ≡ false → (rs ≡ []) × (p ≡ []))
       → kinds (kindOf body) magic (bodyBytes body rs (length p) ++ (p ++ rest)) ≡ made body
   unfolding kinds kindOf bodyBytes isInput

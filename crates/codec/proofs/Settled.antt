@@ -7,11 +7,11 @@ use Prim.Native.Nat.{ℕ}
 use native.Mathlib.Omega.{arith}
 use Rattle.base.specs.Little.{unle}
 use Rattle.base.specs.Pick.{pick}
-use Rattle.answer.specs.Number.{number-tells}
+use Rattle.answer.specs.Number.{number-determines}
 use Rattle.answer.specs.declared.Answer.the-variants.{Done}
 use Rattle.codec.specs.Message.{Wire, kindOf, isInput, listed, meant}
 use Rattle.codec.specs.Read.{part, number, kinds, message, datagram, wireIn}
-use Rattle.codec.specs.Calls.{shownSize, sizeAs, LaidAs, WrittenAs, HeadAs, ReadAs, PayloadAs, CutAs}
+use Rattle.codec.specs.Calls.{shownSize, sizeAs, LaidAs, WrittenAs, HeadAs, ReadAs, PayloadAs, messageEnd}
 use Rattle.codec.specs.declared.StatusReport.{StatusReport}
 use Rattle.codec.specs.declared.StatusReports.{StatusReports}
 use Rattle.codec.specs.declared.Message.{Message}
@@ -21,26 +21,25 @@ use Rattle.codec.specs.declared.Size.{Size}
 use Rattle.codec.specs.declared.Size.the-variants.{Bytes, TooLong}
 use Rattle.codec.specs.declared.Written.{Written}
 use Rattle.codec.specs.declared.Received.{Received}
-use Rattle.codec.specs.declared.Cut.{Cut}
 
 pub kind-of-settled : (body : MessageBody) (r s : ℕ) → r ≡ kindOf body → s ≡ kindOf body → r ≡ s
 kind-of-settled body r s e f = e ∙ sym f
 
-size-tells : (r s : Size) → shownSize r ≡ shownSize s → r ≡ s
-size-tells (Bytes a) (Bytes b) e = ap Bytes (ap (λ (p : ℕ × ℕ). p .1) e)
-size-tells (Bytes a) TooLong e = let z : _≡_ {A = ℕ} 0 12 = ap (λ (p : ℕ × ℕ). p .0) e in absurd (omega arith)
-size-tells TooLong (Bytes b) e = let z : _≡_ {A = ℕ} 12 0 = ap (λ (p : ℕ × ℕ). p .0) e in absurd (omega arith)
-size-tells TooLong TooLong e = refl
+size-determines : (r s : Size) → shownSize r ≡ shownSize s → r ≡ s
+size-determines (Bytes a) (Bytes b) e = ap Bytes (ap (λ (p : ℕ × ℕ). p .1) e)
+size-determines (Bytes a) TooLong e = let z : _≡_ {A = ℕ} 0 12 = ap (λ (p : ℕ × ℕ). p .0) e in absurd (omega arith)
+size-determines TooLong (Bytes b) e = let z : _≡_ {A = ℕ} 12 0 = ap (λ (p : ℕ × ℕ). p .0) e in absurd (omega arith)
+size-determines TooLong TooLong e = refl
 
 pub size-of-settled : (m : Message) (n : ℕ) (r s : Size) → shownSize r ≡ sizeAs m n → shownSize s ≡ sizeAs m n → r ≡ s
-size-of-settled m n r s e f = size-tells r s (e ∙ sym f)
+size-of-settled m n r s e f = size-determines r s (e ∙ sym f)
 
 -- both writers: the answer and the lent buffer
 module _ (r s : Written) (buffer′ buffer″ : List ℕ) where
   laid-settled : (buffer : List ℕ) (at refusal : ℕ) (w : Wire) (piece : List ℕ) → LaidAs buffer at refusal w piece r buffer′
       → LaidAs buffer at refusal w piece s buffer″ → (r ≡ s) × (buffer′ ≡ buffer″)
   laid-settled buffer at refusal w piece x y =
-      let a : r .answer ≡ s .answer = number-tells (r .answer) (s .answer) (x .answer ∙ sym (y .answer)) in
+      let a : r .answer ≡ s .answer = number-determines (r .answer) (s .answer) (x .answer ∙ sym (y .answer)) in
       let e : r .end ≡ s .end = x .end ∙ sym (y .end) in
       ((λ i. record { answer = a i; end = e i }), x .lent ∙ sym (y .lent))
 
@@ -72,7 +71,7 @@ pub read-settled : (d : List ℕ) (r s : Received) → ReadAs d r → ReadAs d s
     × (listed (r .message .reports) ≡ listed (s .message .reports)) × (r .message .reports .count ≡ s .message .reports .count)
 unfolding meant
 read-settled d r s x y = (
-  number-tells (r .answer) (s .answer) (x .answer ∙ sym (y .answer)),
+  number-determines (r .answer) (s .answer) (x .answer ∙ sym (y .answer)),
   ap (λ (w : Wire). w .magic) (x .message ∙ sym (y .message)),
   ap (λ (w : Wire). w .body) (x .message ∙ sym (y .message)),
   read-list d r x ∙ sym (read-list d s y),
@@ -88,8 +87,5 @@ read-open l = record { answer = refl; message = refl; count = refl }
 pub payload-of-settled : (d r s : List ℕ) → PayloadAs d r → PayloadAs d s → r ≡ s
 payload-of-settled d r s x y = x .payload ∙ sym (y .payload)
 
-pub first-end-settled : (queue : List ℕ) (r s : Cut) → CutAs queue r → CutAs queue s → r ≡ s
-first-end-settled queue r s x y =
-    let a : r .answer ≡ s .answer = number-tells (r .answer) (s .answer) (x .answer ∙ sym (y .answer)) in
-    let e : r .end ≡ s .end = x .end ∙ sym (y .end) in
-    λ i. record { answer = a i; end = e i }
+pub message-end-settled : (queue : List ℕ) (at r s : ℕ) → r ≡ messageEnd queue at → s ≡ messageEnd queue at → r ≡ s
+message-end-settled queue at r s e f = e ∙ sym f

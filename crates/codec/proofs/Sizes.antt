@@ -9,9 +9,10 @@ use native.Mathlib.Nat.{add-zero}
 use lib.Dec.{ltb}
 use lib.ListN.{length, length-take}
 use Rattle.base.specs.Pick.{pick}
-use Rattle.codec.specs.Sizes.{fixedSize, maxStatuses, maxPayload}
+use Rattle.ceilings.specs.Ceilings.{mostPlayers, mostPayload}
+use Rattle.codec.specs.Sizes.{fixedSize}
 use Rattle.codec.specs.Message.{kindOf, isInput, listed, meant, sizeWith}
-use Rattle.codec.specs.Bytes.{head, bytes}
+use Rattle.codec.specs.Bytes.{head}
 use Rattle.codec.specs.Calls.{tooLong, sizeFor, sizeAs}
 use Rattle.codec.proofs.Lengths.{head-length}
 use Rattle.codec.specs.declared.StatusReport.{StatusReport}
@@ -58,15 +59,15 @@ module _ (m : Message) (n : ℕ) where
   size-other h = rw (kind-other (m .body) h, add-zero)
 
   module _ (h : kindOf (m .body) ≡ 2) where
-    pub size-statuses : maxStatuses < m .reports .count → (12, 0) ≡ sizeAs m n
+    pub size-statuses : mostPlayers < m .reports .count → (12, 0) ≡ sizeAs m n
     unfolding tooLong
     size-statuses k = rw (kind-input (m .body) h, lt-ltb _ _ k)
 
-    pub size-payload : m .reports .count ≤ maxStatuses → maxPayload < n → (12, 0) ≡ sizeAs m n
+    pub size-payload : m .reports .count ≤ mostPlayers → mostPayload < n → (12, 0) ≡ sizeAs m n
     unfolding tooLong
     size-payload k l = rw (kind-input (m .body) h, le-ltb _ _ k, lt-ltb _ _ l)
 
-    pub size-input : m .reports .count ≤ maxStatuses → n ≤ maxPayload → (0, fixedSize (kindOf (m .body)) + (5 * m .reports .count + n)) ≡ sizeAs m n
+    pub size-input : m .reports .count ≤ mostPlayers → n ≤ mostPayload → (0, fixedSize (kindOf (m .body)) + (5 * m .reports .count + n)) ≡ sizeAs m n
     unfolding tooLong sizeWith
     size-input k l = rw (kind-input (m .body) h, le-ltb _ _ k, le-ltb _ _ l)
 
@@ -87,17 +88,17 @@ module _ (m : Message) (n : ℕ) where
   is-size s = unsized (tooLong m n) s (sizeFor m n)
 
   -- an Input that is not too long
-  within : (t u : Bool) → pick t (pick u true (ltb maxPayload n)) false ≡ false → t ≡ true → (u ≡ false) × (ltb maxPayload n ≡ false)
+  within : (t u : Bool) → pick t (pick u true (ltb mostPayload n)) false ≡ false → t ≡ true → (u ≡ false) × (ltb mostPayload n ≡ false)
   within true true e h = let z : _≡_ {A = ℕ} 0 1 = cc in absurd (omega arith)
   within true false e h = (refl, e)
   within false u e h = let z : _≡_ {A = ℕ} 0 1 = cc in absurd (omega arith)
 
   module _ (short : tooLong m n ≡ false) where
-    pub input-counts : isInput (m .body) ≡ true → (m .reports .count ≤ maxStatuses) × (n ≤ maxPayload)
+    pub input-counts : isInput (m .body) ≡ true → (m .reports .count ≤ mostPlayers) × (n ≤ mostPayload)
     unfolding tooLong
     input-counts h =
-        let w = within (isInput (m .body)) (ltb maxStatuses (m .reports .count)) short h in
-        (ltb-false maxStatuses (m .reports .count) (w .0), ltb-false maxPayload n (w .1))
+        let w = within (isInput (m .body)) (ltb mostPlayers (m .reports .count)) short h in
+        (ltb-false mostPlayers (m .reports .count) (w .0), ltb-false mostPayload n (w .1))
 
     -- a message's bytes are its head's and an Input's payload
     pub size-head : length (m .reports .list) ≡ 4 → sizeFor m n ≡ length (head (meant m []) n) + pick (isInput (m .body)) n 0

@@ -11,12 +11,11 @@ use lib.Seq.{drop-drop}
 use Rattle.base.specs.Little.{unle}
 use Rattle.base.proofs.Digits.{below-or-not}
 use Rattle.frame.specs.Bias.{bias32, bias16, bitsOf}
-use Rattle.codec.specs.Read.{Got, Reads, after, _>>=_, give, part, number, frame, advantage, wide, kinds, message, plain}
+use Rattle.codec.specs.Read.{Reads, _>>=_, give, part, number, frame, advantage, wide, kinds, message, plain}
 use Rattle.codec.specs.Read.Got.{got, fault}
 use Rattle.codec.specs.Sizes.{fixedSize}
 use Rattle.codec.specs.Message.{Wire}
 use Rattle.codec.specs.Front.{numberAt, wideAt}
-use Rattle.codec.specs.declared.MessageBody.{MessageBody}
 use Rattle.codec.specs.declared.MessageBody.the-variants.{SyncRequest, SyncReply, InputAck, QualityReport, QualityReply, ChecksumReport, KeepAlive}
 
 pub record Takes {A : Type 0} (p : Reads A) (k : ℕ) (v : List ℕ → A) : Type 0 where

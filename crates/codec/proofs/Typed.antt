@@ -1,4 +1,4 @@
--- A message of the code's types has every field in its range. `Is` says that a value is what a machine value of its type means; every function is told so of its
+-- A message of the code's types has every field in its range. `Is` says that a value is what a machine value of its type means; every function knows that of its
 -- parameters (`c .good`) and of what a call hands back.
 use mathlib.Core.Bool.{Bool, true, false}
 use mathlib.Core.List.{List, [], _∷_, map}

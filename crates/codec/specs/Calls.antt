@@ -9,7 +9,7 @@ use Rattle.base.specs.Pick.{pick}
 use Rattle.base.specs.First.{firstOf}
 use Rattle.base.specs.Lay.{noRoom, laidAt}
 use Rattle.answer.specs.Number.{numberOf}
-use Rattle.codec.specs.Sizes.{maxStatuses, maxPayload}
+use Rattle.ceilings.specs.Ceilings.{mostPlayers, mostPayload}
 use Rattle.codec.specs.Message.{Wire, Fits, isInput, meant, sizeWith}
 use Rattle.codec.specs.Bytes.{head, bytes}
 use Rattle.codec.specs.Read.{message, datagram, numberIn, wireIn, leftIn}
@@ -18,17 +18,16 @@ use Rattle.codec.specs.declared.Size.{Size}
 use Rattle.codec.specs.declared.Size.the-variants.{Bytes, TooLong}
 use Rattle.codec.specs.declared.Written.{Written}
 use Rattle.codec.specs.declared.Received.{Received}
-use Rattle.codec.specs.declared.Cut.{Cut}
 
--- more than 4 statuses or 8,256 payload bytes to be written: only an Input has either
+-- 12 (N-12) of what is to be written; only an Input has statuses and a payload (W-13)
 unfoldable pub tooLong : Message → ℕ → Bool
-tooLong m n = pick (isInput (m .body)) (pick (ltb maxStatuses (m .reports .count)) true (ltb maxPayload n)) false
+tooLong m n = pick (isInput (m .body)) (pick (ltb mostPlayers (m .reports .count)) true (ltb mostPayload n)) false
 
 -- the bytes of a message with a payload of n bytes
 abbrev pub sizeFor : Message → ℕ → ℕ
 sizeFor m n = sizeWith (m .body) (m .reports .count) n
 
--- document 01's number and value for each case
+-- the number and the value of each case (N-12)
 abbrev pub shownSize : Size → ℕ × ℕ
 shownSize (Bytes n) = (0, n)
 shownSize TooLong = (12, 0)
@@ -40,7 +39,7 @@ sizeAs m n = pick (tooLong m n) (12, 0) (0, sizeFor m n)
 unfoldable pub writeRefusal : List ℕ → ℕ → Message → ℕ → ℕ
 writeRefusal buffer at m n = firstOf ((tooLong m n, 12) ∷ (noRoom buffer at (sizeFor m n), 5) ∷ [])
 
--- on a refusal nothing is written; otherwise the piece of a message stands at its place and the answer tells where it ends. What is written
+-- on a refusal nothing is written; otherwise the piece of a message stands at its place and the answer has the place after it. What is written
 -- fits, as every value of the code's types within the counts does
 pub record LaidAs (buffer : List ℕ) (at refusal : ℕ) (w : Wire) (piece : List ℕ) (r : Written) (buffer′ : List ℕ) : Type 0 where
   pub answer : numberOf (r .answer) ≡ refusal
@@ -69,6 +68,7 @@ pub record PayloadAs (d r : List ℕ) : Type 0 where
   pub part : r ≡ drop (length d - length (payloadIn d)) d
   pub payload : r ≡ payloadIn d
 
-pub record CutAs (queue : List ℕ) (r : Cut) : Type 0 where
-  pub answer : numberOf (r .answer) ≡ numberIn (message queue)
-  pub end : r .end ≡ pick (eqb (numberIn (message queue)) 0) (length queue - length (leftIn (message queue))) 0
+-- where the message ends that begins at a place of a queue: where what is left after it begins. Nothing is left after bytes that cannot be read, so
+-- that they end with the queue
+unfoldable pub messageEnd : List ℕ → ℕ → ℕ
+messageEnd queue at = length queue - length (leftIn (message (drop at queue)))

@@ -14,7 +14,7 @@ use Rattle.codec.specs.Read.{Got, Reads, _>>=_, give, part, number, flag
 use Rattle.codec.specs.Read.Got.{got, fault}
 use Rattle.codec.specs.declared.Wide.{Wide}
 use Rattle.codec.specs.declared.StatusReport.{StatusReport}
-use Rattle.codec.specs.Sizes.{maxPayload}
+use Rattle.ceilings.specs.Ceilings.{mostPayload}
 use Rattle.codec.specs.declared.MessageBody.{MessageBody}
 use Rattle.codec.specs.declared.MessageBody.the-variants.{Input}
 use Rattle.codec.specs.declared.reader.Front.{Front}
@@ -70,7 +70,7 @@ afterReports magic rs = do
   start ← frame
   ack ← frame
   b ← number 8
-  _ ← refuse (ltb maxPayload b) 12
+  _ ← refuse (ltb mostPayload b) 12
   payload ← part b
   give (record { magic = magic; body = Input disconnect start ack; reports = rs; payload = payload })
 

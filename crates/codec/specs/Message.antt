@@ -1,4 +1,4 @@
--- A message as a value: its kind, its size, and which values its bytes can tell.
+-- A message as a value: its kind, its size, and which values its bytes determine.
 use mathlib.Core.Path.{_≡_}
 use mathlib.Core.Bool.{Bool, true, false}
 use mathlib.Core.List.{List, [], _∷_}
@@ -6,7 +6,8 @@ use Prim.Native.Nat.{ℕ, _+_, _*_, _^_, _<_, _≤_}
 use lib.ListN.{length, take, getD}
 use Rattle.base.specs.Pick.{pick}
 use Rattle.base.specs.Little.{Bytes}
-use Rattle.codec.specs.Sizes.{fixedSize, maxStatuses, maxPayload}
+use Rattle.ceilings.specs.Ceilings.{mostPlayers, mostPayload}
+use Rattle.codec.specs.Sizes.{fixedSize}
 use Rattle.codec.specs.declared.Wide.{Wide}
 use Rattle.codec.specs.declared.StatusReport.{StatusReport}
 use Rattle.codec.specs.declared.StatusReports.{StatusReports}
@@ -59,9 +60,6 @@ meant m payload =
 unfoldable pub sizeWith : MessageBody → ℕ → ℕ → ℕ
 sizeWith body statuses n = fixedSize (kindOf body) + pick (isInput body) (5 * statuses + n) 0
 
-unfoldable pub sizeOf : Wire → ℕ
-sizeOf w = sizeWith (w .body) (length (w .reports)) (length (w .payload))
-
 -- the same table by the body's case, in a form that computes on a literal body: with n statuses and b payload bytes
 abbrev pub bodySize : MessageBody → ℕ → ℕ → ℕ
 bodySize (SyncRequest nonce) n b = fixedSize 0
@@ -93,13 +91,13 @@ FitsBody KeepAlive = Unit {0}
 abbrev pub FitsReports : List StatusReport → Type 0
 FitsReports rs = (i : ℕ) (d : StatusReport) → i < length rs → getD rs i d .«last_frame» < 2 ^ 32
 
--- the messages that their bytes tell
+-- the messages that their bytes determine
 pub record Fits (w : Wire) : Type 0 where
   pub magic : w .magic < 2 ^ 16
   pub body : FitsBody (w .body)
   pub frames : FitsReports (w .reports)
-  pub statuses : length (w .reports) ≤ maxStatuses
-  pub length : lib.ListN.length (w .payload) ≤ maxPayload
+  pub statuses : length (w .reports) ≤ mostPlayers
+  pub length : lib.ListN.length (w .payload) ≤ mostPayload
   pub bytes : Bytes (w .payload)
   pub none : isInput (w .body) ≡ false → (w .reports ≡ []) × (w .payload ≡ [])
 

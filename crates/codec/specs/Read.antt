@@ -1,4 +1,4 @@
--- Reading any bytes, field by field: the first fault wins (document 01, "Refusal numbers": 9, 10, 11, 12, and 13 last).
+-- Reading any bytes, field by field: the first fault wins (W-8 to W-10), and 13 comes last.
 use mathlib.Core.Bool.{Bool, true, false}
 use mathlib.Core.List.{List, [], _∷_, _++_}
 use Prim.Native.Nat.{ℕ, zero, suc}
@@ -7,14 +7,14 @@ use lib.ListN.{length, take, drop}
 use Rattle.base.specs.Pick.{pick}
 use Rattle.base.specs.Little.{unle}
 use Rattle.frame.specs.Bias.{bias32, bias16, bitsOf}
-use Rattle.codec.specs.Sizes.{maxStatuses, maxPayload}
+use Rattle.ceilings.specs.Ceilings.{mostPlayers, mostPayload}
 use Rattle.codec.specs.Message.{Wire}
 use Rattle.codec.specs.declared.Wide.{Wide}
 use Rattle.codec.specs.declared.StatusReport.{StatusReport}
 use Rattle.codec.specs.declared.MessageBody.{MessageBody}
 use Rattle.codec.specs.declared.MessageBody.the-variants.{SyncRequest, SyncReply, Input, InputAck, QualityReport, QualityReply, ChecksumReport, KeepAlive}
 
--- a value and the bytes that are left, or document 01's number
+-- a value and the bytes that are left, or the number of the fault
 pub data Got (A : Type 0) : Type 0 where
   got : A → List ℕ → Got A
   fault : ℕ → Got A
@@ -33,7 +33,7 @@ _>>=_ first next d = after (first d) next
 abbrev pub give : {A : Type 0} → A → Reads A
 give a d = got a d
 
--- 9 where fewer than n bytes are left
+-- 9 where fewer than n bytes are left (N-9)
 unfoldable pub part : ℕ → Reads (List ℕ)
 part n d = pick (ltb (length d) n) (fault 9) (got (take n d) (drop n d))
 
@@ -42,7 +42,7 @@ number k = do
   bs ← part k
   give (unle bs)
 
--- 11 where the byte is neither 0 nor 1
+-- 11 where the byte is neither 0 nor 1 (N-11)
 abbrev pub flagOf : ℕ → Reads Bool
 flagOf zero = give false
 flagOf (suc zero) = give true
@@ -93,17 +93,17 @@ plain magic body = record { magic = magic; body = body; reports = []; payload = 
 unfoldable pub input : ℕ → Reads Wire
 input magic = do
   n ← number 8
-  _ ← refuse (ltb maxStatuses n) 12
+  _ ← refuse (ltb mostPlayers n) 12
   rs ← reports n []
   disconnect ← flag
   start ← frame
   ack ← frame
   b ← number 8
-  _ ← refuse (ltb maxPayload b) 12
+  _ ← refuse (ltb mostPayload b) 12
   payload ← part b
   give (record { magic = magic; body = Input disconnect start ack; reports = rs; payload = payload })
 
--- 10 for a kind above 7
+-- 10 for a kind above 7 (N-10)
 unfoldable pub kinds : ℕ → ℕ → Reads Wire
 kinds zero magic = do
   nonce ← number 4
@@ -136,7 +136,7 @@ message = do
   kind ← number 4
   kinds kind magic
 
--- 13 where bytes are left
+-- 13 where bytes are left (N-13)
 abbrev pub ended : Wire → Reads Wire
 ended w [] = got w []
 ended w (b ∷ bs) = fault 13

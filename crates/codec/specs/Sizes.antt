@@ -1,4 +1,4 @@
--- Document 01, "Messages": the one table of sizes, and the two counts that are limited.
+-- The one table of sizes (W-7).
 use mathlib.Core.List.{List, [], _∷_}
 use Prim.Native.Nat.{ℕ}
 use lib.ListN.{getD}
@@ -9,9 +9,3 @@ sizes = 10 ∷ 10 ∷ 31 ∷ 10 ∷ 24 ∷ 22 ∷ 26 ∷ 6 ∷ []
 
 abbrev pub fixedSize : ℕ → ℕ
 fixedSize kind = getD sizes kind 0
-
-abbrev pub maxStatuses : ℕ
-maxStatuses = 4
-
-abbrev pub maxPayload : ℕ
-maxPayload = 8256

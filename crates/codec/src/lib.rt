@@ -5,7 +5,7 @@ mod reader;
 mod writer;
 
 use answer::Answer;
-pub use reader::first_end;
+pub use reader::message_end;
 pub use reader::no_reports;
 pub use reader::payload_of;
 pub use reader::read;
@@ -20,17 +20,13 @@ pub const SIZES: [usize; 8] = [10, 10, 31, 10, 24, 22, 26, 6];
 
 pub const STATUS_SIZE: usize = 5;
 
-pub const MAX_STATUSES: usize = 4;
-
-pub const MAX_PAYLOAD: usize = 8256;
-
 // The wire's two fields of a player's status.
 pub struct StatusReport {
     pub disconnected: bool,
     pub last_frame: u32,
 }
 
-// An Input's status list, with the count as given: a writer refuses one above MAX_STATUSES.
+// An Input's status list, with the count as given: a writer refuses one above MOST_PLAYERS.
 pub struct StatusReports {
     pub list: [StatusReport; 4],
     pub count: usize,
@@ -94,12 +90,6 @@ pub struct Written {
 pub struct Received {
     pub answer: Answer,
     pub message: Message,
-}
-
-// Where the first message of a queue ends, 0 with a refusal.
-pub struct Cut {
-    pub answer: Answer,
-    pub end: usize,
 }
 
 pub fn kind_of(body: MessageBody) -> u32

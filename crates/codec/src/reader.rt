@@ -1,7 +1,4 @@
 // The reader: any bytes, field by field, the first fault wins.
-use crate::Cut;
-use crate::MAX_PAYLOAD;
-use crate::MAX_STATUSES;
 use crate::Message;
 use crate::MessageBody;
 use crate::Received;
@@ -11,6 +8,8 @@ use crate::StatusReport;
 use crate::StatusReports;
 use crate::Wide;
 use answer::Answer;
+use ceilings::MOST_PAYLOAD;
+use ceilings::MOST_PLAYERS;
 use frame::NULL_FRAME;
 ghost use mathlib.Core.Path.{_≡_};
 ghost use Prim.Native.Nat.{_+_, _*_, _≤_, _<_};
@@ -19,7 +18,7 @@ ghost use Rattle.frame.specs.Bias.{bias32, bitsOf};
 ghost use Rattle.answer.specs.Number.{numberOf};
 ghost use Rattle.codec.specs.Message.{listed};
 ghost use Rattle.codec.specs.Read.{message, datagram, report, numberIn};
-ghost use Rattle.codec.specs.Calls.{ReadAs, PayloadAs, CutAs};
+ghost use Rattle.codec.specs.Calls.{ReadAs, PayloadAs, messageEnd};
 ghost use Rattle.codec.specs.Front.{numberAt, wideAt, reportAt, afterReports, RefusedAs, PlainAs, FrontAs, ReportsAs};
 
 // Where an Input's reports start: after magic, kind and count.
@@ -58,16 +57,21 @@ pub fn payload_of(datagram: &[u8]) -> &[u8]
     &datagram[start..end]
 }
 
-// Where the first message of a queue ends, or why it has none.
-pub fn first_end(queue: &[u8]) -> Cut
-    ensures { λ r. ⌜ CutAs (now (queue .entry)) r ⌝ }
+// Where the message ends that begins at a place of a queue: `queue[at..end]` is one datagram. Bytes that cannot
+// be read are one message up to the queue's end, so that a loop over a queue always ends and whoever gets that
+// datagram refuses it. From the queue's end on the answer is the queue's end.
+pub fn message_end(queue: &[u8], at: usize) -> usize
+    ensures { λ r. ⌜ r ≡ messageEnd (now (queue .entry)) at ⌝ }
 {
-    let front = front_of(queue);
-    let answer = front.answer;
-    Cut {
-        answer,
-        end: front.end,
+    if queue.len() <= at {
+        return queue.len();
     }
+    let front = front_of(&queue[at..]);
+    let size = front.end;
+    if size == 0 {
+        return queue.len();
+    }
+    at + size
 }
 
 // A message with nothing after it.
@@ -166,7 +170,7 @@ fn input(d: &[u8]) -> Front
         return refused(Answer::Short);
     }
     let n = number8(d, 6);
-    if (MAX_STATUSES as u64) < n {
+    if (MOST_PLAYERS as u64) < n {
         return refused(Answer::TooLong);
     }
     let statuses = statuses_of(d, n as usize);
@@ -251,7 +255,7 @@ fn after_statuses(d: &[u8], reports: StatusReports) -> Front
         return refused(Answer::Short);
     }
     let b = number8(d, at + 9);
-    if (MAX_PAYLOAD as u64) < b {
+    if (MOST_PAYLOAD as u64) < b {
         return refused(Answer::TooLong);
     }
     let length = b as usize;

@@ -1,7 +1,5 @@
 // The writer: a message's bytes at a place of a lent buffer. Everything is known to fit before the
 // first byte is written, so a refusal leaves the buffer as it was.
-use crate::MAX_PAYLOAD;
-use crate::MAX_STATUSES;
 use crate::Message;
 use crate::MessageBody;
 use crate::SIZES;
@@ -13,6 +11,8 @@ use crate::Wide;
 use crate::Written;
 use crate::kind_of;
 use answer::Answer;
+use ceilings::MOST_PAYLOAD;
+use ceilings::MOST_PLAYERS;
 ghost use mathlib.Core.Path.{_≡_};
 ghost use mathlib.Core.Bool.{true};
 ghost use mathlib.Core.List.{[], _++_};
@@ -35,10 +35,10 @@ pub fn size_of(message: Message, length: usize) -> Size
         return Size::Bytes(fixed);
     }
     let count = message.reports.count;
-    if MAX_STATUSES < count {
+    if MOST_PLAYERS < count {
         return Size::TooLong;
     }
-    if MAX_PAYLOAD < length {
+    if MOST_PAYLOAD < length {
         return Size::TooLong;
     }
     Size::Bytes(fixed + (STATUS_SIZE * count + length))

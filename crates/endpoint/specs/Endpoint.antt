@@ -12,8 +12,8 @@ use Rattle.status.specs.Statuses.{held as heldStatuses}
 use Rattle.checksums.specs.Checksums.{stored}
 use Rattle.events.specs.Events.{held as heldEvents}
 use Rattle.setup.specs.Setup.{termsOf}
-use Rattle.protocol.specs.Seen.{Seen}
-use Rattle.protocol.specs.Did.{Did}
+use Rattle.endpoint_rules.specs.Seen.{Seen}
+use Rattle.endpoint_rules.specs.Did.{Did}
 use Rattle.endpoint.specs.declared.Endpoint.{Endpoint}
 use Rattle.endpoint.specs.declared.Ended.{Ended}
 

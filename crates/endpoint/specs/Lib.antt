@@ -1,17 +1,7 @@
+-- What a caller reads: the contracts' records.
 pub mod Endpoint
-pub mod Heard
 pub mod Made
-pub mod Told
+pub mod Shown
 pub mod Taken
-pub mod Sent
-pub mod Handshaking
-pub mod Informed
-pub mod Readable
-pub mod News
-pub mod Opened
-pub mod Reacted
-pub mod Frames
-pub mod Filter
-pub mod Arrived
-pub mod Due
-pub mod Batch
+-- What the functions over plain parts inside the crate say.
+pub mod Inside

@@ -3,7 +3,7 @@ use mathlib.Core.Path.{_≡_}
 use Prim.Native.Nat.{ℕ}
 use Rattle.answer.specs.Number.{numberOf}
 use Rattle.setup.specs.declared.Setup.{Setup}
-use Rattle.protocol.specs.Step.{fresh}
+use Rattle.endpoint_rules.specs.Step.{fresh}
 use Rattle.endpoint.specs.declared.Ended.{Ended}
 use Rattle.endpoint.specs.Endpoint.{seen}
 

@@ -1,9 +1,9 @@
 -- What taking events hands back.
 use mathlib.Core.Path.{_≡_}
 use Rattle.events.specs.Events.{held}
-use Rattle.protocol.specs.Call.{Call}
-use Rattle.protocol.specs.Step.{step}
-use Rattle.protocol.specs.Value.{Value, valueOf}
+use Rattle.endpoint_rules.specs.Call.{Call}
+use Rattle.endpoint_rules.specs.Step.{step}
+use Rattle.endpoint_rules.specs.Value.{Value, valueOf}
 use Rattle.endpoint.specs.declared.Endpoint.{Endpoint}
 use Rattle.endpoint.specs.declared.taking.TakenEvents.{TakenEvents}
 use Rattle.endpoint.specs.Endpoint.{seen}

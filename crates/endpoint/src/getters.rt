@@ -1,23 +1,23 @@
-// What an endpoint tells of itself: nothing changes.
+// What an endpoint shows of itself: nothing changes.
 ghost use mathlib.Core.Bool.{not, _||_};
 ghost use mathlib.Core.Path.{_≡_};
 ghost use Prim.Native.Nat.{_-_};
 ghost use lib.Dec.{ltb};
 ghost use Rattle.checksums.specs.Checksums.{stored};
-ghost use Rattle.protocol.specs.Seen.{isSynchronizing, isRunning};
-ghost use Rattle.protocol.specs.Call.{Call};
-ghost use Rattle.protocol.specs.Value.{Value, valueOf, synchronizedIn};
+ghost use Rattle.endpoint_rules.specs.Seen.{isSynchronizing, isRunning};
+ghost use Rattle.endpoint_rules.specs.Call.{Call, Question};
+ghost use Rattle.endpoint_rules.specs.Value.{Value, valueOf, synchronizedIn};
 ghost use Rattle.endpoint.specs.Endpoint.{seen};
-ghost use Rattle.endpoint.specs.Told.{told, HandlesAs, shownStatus, shownStats};
+ghost use Rattle.endpoint.specs.Shown.{shown, HandlesAs, shownStatus, shownStats};
 use crate::Endpoint;
 use answer::Answer;
 use checksums::Checksums;
-use protocol::Phase;
+use endpoint_rules::Phase;
 use quality::NetworkStats;
 use setup::Handles;
 use status::ConnectionStatus;
 
-// Statistics are told after a whole second.
+// Statistics are shown after a whole second.
 const STATS_WAIT: u64 = 1000;
 
 // The answer of `peer_connect_status`.
@@ -79,7 +79,7 @@ impl Endpoint {
 
     // Also after the end.
     pub fn is_synchronized(self) -> bool
-        ensures { λ r. ⌜ Value.flag r ≡ valueOf Call.isSynchronized (seen self) ⌝ }
+        ensures { λ r. ⌜ Value.flag r ≡ valueOf (Call.ask Question.isSynchronized) (seen self) ⌝ }
     {
         let sync = self.sync;
         let phase = sync.phase;
@@ -87,7 +87,7 @@ impl Endpoint {
     }
 
     pub fn is_running(self) -> bool
-        ensures { λ r. ⌜ Value.flag r ≡ valueOf Call.isRunning (seen self) ⌝ }
+        ensures { λ r. ⌜ Value.flag r ≡ valueOf (Call.ask Question.isRunning) (seen self) ⌝ }
     {
         let sync = self.sync;
         let phase = sync.phase;
@@ -99,20 +99,20 @@ impl Endpoint {
 
     // Whether a peer is the one that this endpoint serves.
     pub fn is_handling_message(self, from: u32) -> bool
-        ensures { λ r. ⌜ Value.flag r ≡ valueOf (Call.isHandlingMessage from) (seen self) ⌝ }
+        ensures { λ r. ⌜ Value.flag r ≡ valueOf (Call.ask (Question.isHandlingMessage from)) (seen self) ⌝ }
     {
         from == self.setup.peer_addr
     }
 
     // The newest frame received, -1 while there is none.
     pub fn last_recv_frame(self) -> u32
-        ensures { λ r. ⌜ Value.frame r ≡ valueOf Call.newestFrame (seen self) ⌝ }
+        ensures { λ r. ⌜ Value.frame r ≡ valueOf (Call.ask Question.newestFrame) (seen self) ⌝ }
     {
         self.history.newest()
     }
 
     pub fn state(self) -> Phase
-        ensures { λ r. ⌜ Value.phase r ≡ valueOf Call.state (seen self) ⌝ }
+        ensures { λ r. ⌜ Value.phase r ≡ valueOf (Call.ask Question.state) (seen self) ⌝ }
     {
         let sync = self.sync;
         sync.phase
@@ -120,14 +120,14 @@ impl Endpoint {
 
     // Those that the other end reported.
     pub fn checksums(self) -> Checksums
-        ensures { λ r. ⌜ Value.checksums (stored r) ≡ valueOf Call.checksums (seen self) ⌝ }
+        ensures { λ r. ⌜ Value.checksums (stored r) ≡ valueOf (Call.ask Question.checksums) (seen self) ⌝ }
     {
         self.checksums
     }
 
     // What the other end reported of a player.
     pub fn peer_connect_status(self, handle: usize) -> StatusResult
-        ensures { λ r. ⌜ shownStatus r ≡ told (Call.peerConnectStatus handle) (seen self) ⌝ }
+        ensures { λ r. ⌜ shownStatus r ≡ shown (Call.peerConnectStatus handle) (seen self) ⌝ }
     {
         if self.setup.num_players as usize <= handle {
             return StatusResult::BadHandle;
@@ -136,7 +136,7 @@ impl Endpoint {
     }
 
     pub fn network_stats(self, epoch: u64) -> StatsResult
-        ensures { λ r. ⌜ shownStats r ≡ told (Call.networkStats epoch) (seen self) ⌝ }
+        ensures { λ r. ⌜ shownStats r ≡ shown (Call.networkStats epoch) (seen self) ⌝ }
     {
         if timers::is_bad(epoch) {
             return StatsResult::Refused(Answer::BadClock);

@@ -1,46 +1,37 @@
 // The handshake: requests, and replies that count by their nonce.
 ghost use mathlib.Core.Path.{_≡_};
-ghost use Prim.Native.Nat.{_-_};
 ghost use lib.ListN.{length};
-ghost use Rattle.events.specs.Events.{plain};
-ghost use Rattle.protocol.specs.Call.{Call};
-ghost use Rattle.protocol.specs.Step.{step};
+ghost use Rattle.events.specs.Events.{withoutInput};
+ghost use Rattle.endpoint_rules.specs.Call.{Call};
+ghost use Rattle.endpoint_rules.specs.Step.{step};
 ghost use Rattle.endpoint.specs.Endpoint.{seen, DidAs};
-ghost use Rattle.endpoint.specs.Handshaking.{RequestedAs, progressOf, CountedAs};
+ghost use Rattle.endpoint.specs.Inside.Handshake.{RequestedAs, progressOf, CountedAs};
 use crate::Ended;
 use crate::Endpoint;
 use crate::NUM_SYNC_PACKETS;
 use crate::Sync;
 use answer::Answer;
 use codec::MessageBody;
+use endpoint_rules::Phase;
 use events::Entry;
 use events::Event;
-use protocol::Phase;
+use events::NO_INPUT;
+use events::SYNCHRONIZED;
 use timers::Clocks;
 
-// The clocks after a request and where the queue ends; where it does not fit, as they were and told so.
+// The clocks after a request and where the queue ends; where it does not fit, as they were and not ok.
 pub struct Requested {
     pub clocks: Clocks,
     pub end: usize,
     pub ok: bool,
 }
 
-// The plain parts of an endpoint after a reply that counts, and where the queue ends; where what it brings does not fit, told so.
+// The plain parts of an endpoint after a reply that counts, and where the queue ends; where what it brings does not fit, not ok.
 pub struct Counted {
     pub sync: Sync,
     pub clocks: Clocks,
     pub end: usize,
     pub ok: bool,
-}
-
-// The difference, or 0 where it would be negative.
-pub(crate) fn less(a: u32, b: u32) -> u32
-    ensures { λ r. ⌜ r ≡ a - b ⌝ }
-{
-    if a < b {
-        return 0;
-    }
-    a - b
 }
 
 // A request, where what goes with it had room, its nonce or the event of a reply: written where it fits too, and then the times are noted.
@@ -86,26 +77,23 @@ pub(crate) fn request(
     }
 }
 
-// How far the handshake is, as it is told; with no reply to come it is over.
+// How far the handshake is, as it is announced; with no reply to come it is over.
 pub(crate) fn progress(remaining: u32) -> Entry
-    ensures { λ r. ⌜ r ≡ plain (progressOf remaining) ⌝ }
+    ensures { λ r. ⌜ r ≡ withoutInput (progressOf remaining) ⌝ }
 {
     if 0 < remaining {
         return Entry {
             event: Event::Synchronizing {
                 total: NUM_SYNC_PACKETS,
-                count: less(NUM_SYNC_PACKETS, remaining),
+                count: numbers::minus_u32(NUM_SYNC_PACKETS, remaining),
             },
-            input: [0u8; 16],
+            input: NO_INPUT,
         };
     }
-    Entry {
-        event: Event::Synchronized,
-        input: [0u8; 16],
-    }
+    SYNCHRONIZED
 }
 
-// With replies to come the next request goes out; the last reply's magic is what the filter asks for from then on. `roomy`: what is told of it has room.
+// With replies to come the next request goes out; the last reply's magic is what the filter asks for from then on. `roomy`: what is announced of it has room.
 pub(crate) fn count_reply(
     roomy: bool,
     sync: Sync,

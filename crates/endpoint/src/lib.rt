@@ -1,39 +1,39 @@
 // The peer endpoint of ggrs (protocol.rs): a state by value, clocks and nonces as arguments, the send queue in a lent buffer. Each call gives its
-// answer and the endpoint after it; on a refusal that is the very endpoint it was called on. What a call does is `step` of the crate `protocol`.
-mod acting;
-mod admitting;
-mod arriving;
-mod batch;
-mod bodies;
-mod closing;
-mod dispatch;
+// answer and the endpoint after it; on a refusal that is the very endpoint it was called on. What a call does is `step` of the crate `endpoint_rules`.
+mod act;
+mod creation;
+mod disconnecting;
 mod getters;
 mod handshake;
-mod hearing;
-mod informing;
-mod making;
-mod packet;
-mod plan;
-mod reacting;
+mod message;
 mod reports;
+mod room;
 mod sending;
 mod taking;
-mod telling;
 
-use answer::Answer;
-use checksums::Checksums;
-use events::Events;
+// What a caller meets, so that `use endpoint::Setup` is enough.
+pub use answer::Answer;
+pub use checksums::Checksum;
+pub use checksums::Checksums;
+use endpoint_rules::Flags;
+pub use endpoint_rules::Phase;
+pub use events::Entry;
+pub use events::Event;
+pub use events::Events;
 pub use getters::StatsResult;
 pub use getters::StatusResult;
 use history::History;
 use nonces::Nonces;
 use packing::InputBytes;
 use pending::Pending;
-use protocol::Flags;
-use protocol::Phase;
+pub use quality::NetworkStats;
 use quality::Quality;
-use setup::Setup;
-use status::Statuses;
+pub use setup::Choices;
+pub use setup::DesyncDetection;
+pub use setup::Handles;
+pub use setup::Setup;
+pub use status::ConnectionStatus;
+pub use status::Statuses;
 pub use taking::TakenEvents;
 use timers::Clocks;
 

@@ -1,7 +1,7 @@
 // What an endpoint reports of itself: the checksums of its frames, and its frame advantage.
 ghost use lib.ListN.{length};
-ghost use Rattle.protocol.specs.Call.{Call};
-ghost use Rattle.protocol.specs.Step.{step};
+ghost use Rattle.endpoint_rules.specs.Call.{Call};
+ghost use Rattle.endpoint_rules.specs.Step.{step};
 ghost use Rattle.endpoint.specs.Endpoint.{seen, DidAs, DoneAs};
 use crate::Ended;
 use crate::Endpoint;
@@ -49,7 +49,7 @@ impl Endpoint {
         }
     }
 
-    // Nothing changes while either frame is -1.
+    // Both frames must be known (E-41).
     pub fn update_local_frame_advantage(mut self, local_frame: u32) -> Ended
         ensures { λ r. ⌜ DoneAs self (step (Call.updateLocalFrameAdvantage «local_frame») (seen self)) r ⌝ }
     {

@@ -2,21 +2,19 @@
 ghost use mathlib.Core.Path.{_≡_};
 ghost use lib.ListN.{length};
 ghost use Rattle.status.specs.Statuses.{held};
-ghost use Rattle.protocol.specs.Call.{Call};
-ghost use Rattle.protocol.specs.Step.{step};
+ghost use Rattle.endpoint_rules.specs.Call.{Call};
+ghost use Rattle.endpoint_rules.specs.Step.{step};
 ghost use Rattle.endpoint.specs.Endpoint.{seen, DidAs};
-ghost use Rattle.endpoint.specs.Frames.{badAfter};
+ghost use Rattle.endpoint_rules.specs.Sending.{badAfter};
 use crate::Ended;
 use crate::Endpoint;
-use crate::batch;
-use crate::telling;
+use crate::room;
 use answer::Answer;
-use events::Entry;
-use events::Event;
+use ceilings::MOST_PENDING;
+use endpoint_rules::Phase;
+use events::DISCONNECTED;
 use frame::BIAS32;
 use packing::InputBytes;
-use pending::MOST_PENDING;
-use protocol::Phase;
 use status::Statuses;
 
 // A negative frame is none: no frame to send, and no last one to follow.
@@ -30,7 +28,7 @@ fn is_bad_frame(frame: u32, last: u32) -> bool
 }
 
 impl Endpoint {
-    // Outside Running nothing is sent. The 129th pending input is kept and told as a disconnect, which is not marked as told.
+    // Outside Running nothing is sent (E-56). The 129th pending input announces a disconnect, which is not marked as announced (E-59).
     pub fn send_input(
         mut self,
         frame: u32,
@@ -86,24 +84,21 @@ impl Endpoint {
         }
         let pending = pushed.pending;
         let tells = MOST_PENDING <= pending.count();
-        if telling::is_crowded(tells, self.events.count()) {
+        if room::events_full(tells, self.events.count()) {
             return Ended {
                 endpoint: self,
                 answer: Answer::Full,
             };
         }
         let size = outbox::input_size(statuses, pending, width);
-        if batch::is_full(out.len(), self.queued, size) {
+        if room::buffer_full(out.len(), self.queued, size) {
             return Ended {
                 endpoint: self,
                 answer: Answer::Full,
             };
         }
         if tells {
-            let told = self.events.push(Entry {
-                event: Event::Disconnected,
-                input: [0u8; 16],
-            });
+            let told = self.events.push(DISCONNECTED);
             let events = told.events;
             self.events = events;
         }

@@ -4,17 +4,17 @@ ghost use mathlib.Core.Path.{_≡_};
 ghost use lib.Dec.{ltb};
 ghost use lib.ListN.{length, take};
 ghost use Rattle.base.specs.Pick.{pick};
-ghost use Rattle.protocol.specs.Seen.{isShutdown};
-ghost use Rattle.protocol.specs.Call.{Call};
-ghost use Rattle.protocol.specs.Step.{step};
-ghost use Rattle.protocol.specs.Value.{handedBack};
+ghost use Rattle.endpoint_rules.specs.Seen.{isShutdown};
+ghost use Rattle.endpoint_rules.specs.Call.{Call};
+ghost use Rattle.endpoint_rules.specs.Step.{step};
+ghost use Rattle.endpoint_rules.specs.Value.{handedBack};
 ghost use Rattle.endpoint.specs.Endpoint.{seen, DoneAs};
 ghost use Rattle.endpoint.specs.Taken.{TakenAs};
 use crate::Ended;
 use crate::Endpoint;
 use answer::Answer;
+use endpoint_rules::Phase;
 use events::Events;
-use protocol::Phase;
 
 pub struct TakenEvents {
     pub endpoint: Endpoint,

@@ -1,7 +1,7 @@
 -- The pieces of each event's words, put into a draft one after another.
 use mathlib.Core.Path.{_≡_}
-use mathlib.Core.List.{List, _∷_, [], _++_}
-use Prim.Native.Nat.{ℕ, _*_, _^_, _<_, _≤_}
+use mathlib.Core.List.{List, _++_}
+use Prim.Native.Nat.{ℕ, _^_, _<_, _≤_}
 use native.Mathlib.Omega.{arith}
 use lib.Dec.{lit≤}
 use lib.ListN.{length, take, length-take}
@@ -9,7 +9,7 @@ use Rattle.frame.specs.Bias.{bias32}
 use Rattle.text.specs.Ascii.{ascii}
 use Rattle.text.specs.Decimal.{decimalOf, signedOf}
 use Rattle.text.specs.Hex.{hexOf}
-use Rattle.text.specs.Draft.{drafted, added, DraftedAs, Holds, Adds}
+use Rattle.text.specs.Draft.{drafted, added, DraftedAs, Adds}
 use Rattle.text.specs.declared.draft.Draft.{Draft}
 use Rattle.text.proofs.DecimalLaws.{decimal-32, decimal-64, signed-length}
 use Rattle.text.proofs.HexLaws.{hex-length}

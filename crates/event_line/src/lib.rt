@@ -1,4 +1,4 @@
-// The printed lines of events: what an event tells, and the lines of all events under an end's letter.
+// The printed lines of events: the words of one event, and the lines of all events under an end's letter.
 mod words;
 
 use events::Entry;

@@ -177,16 +177,16 @@ pushed-behind e more entries to h b =
     let t = le-leb (length (held e) + length more) 640 h in record { ok = sym t; view = rw t (b .view); same = λ q. cc }
 
 -- how many events there are to tell
-pub told-most : (b : Bool) → pick b 1 0 ≤ 1
-told-most true = omega arith
-told-most false = omega arith
+pub count-if-most : (b : Bool) → pick b 1 0 ≤ 1
+count-if-most true = omega arith
+count-if-most false = omega arith
 
-pub told-one : (b : Bool) (m : ℕ) → b ≡ true → m ≡ pick b 1 0 → m ≡ 1
-told-one b m h e = rw h at e
+pub count-if-one : (b : Bool) (m : ℕ) → b ≡ true → m ≡ pick b 1 0 → m ≡ 1
+count-if-one b m h e = rw h at e
 
-pub told-length : (b : Bool) (x : Entry) → length (pick b (x ∷ []) []) ≡ pick b 1 0
-told-length true x = refl
-told-length false x = refl
+pub count-if-length : (b : Bool) (x : Entry) → length (pick b (x ∷ []) []) ≡ pick b 1 0
+count-if-length true x = refl
+count-if-length false x = refl
 
 pub both-length : (first : Bool) (one : Entry) (second : Bool) (other : Entry) → length (both first one second other) ≡ pick first 1 0 + pick second 1 0
 unfolding both

@@ -1,4 +1,4 @@
--- The events held, and how frames are announced (document 01, Input: "announce each frame above the newest, once per handle ascending").
+-- The events held, and how frames are announced (E-26, E-27).
 use mathlib.Core.Bool.{Bool, true, false}
 use mathlib.Core.List.{List, [], _∷_, _++_}
 use mathlib.Core.Path.{_≡_, refl}
@@ -6,6 +6,7 @@ use Prim.Native.Nat.{ℕ, _+_, _-_, _*_, _^_}
 use lib.Dec.{leb}
 use lib.ListN.{length, take, drop, replicate}
 use Rattle.base.specs.Pick.{pick}
+use Rattle.ceilings.specs.Ceilings.{mostEvents, mostInputSize}
 use Rattle.events.specs.declared.Entry.{Entry}
 use Rattle.events.specs.declared.Events.{Events}
 use Rattle.events.specs.declared.Pushed.{Pushed}
@@ -18,26 +19,26 @@ held e = take (e .used) (e .entries)
 
 -- room for n more
 unfoldable pub hasRoom : List Entry → ℕ → Bool
-hasRoom l n = leb (length l + n) 640
+hasRoom l n = leb (length l + n) mostEvents
 
 -- 16 bytes: an input, zeros after it
 unfoldable pub inputOf : List ℕ → List ℕ
-inputOf bytes = take 16 bytes ++ replicate (16 - length bytes) 0
+inputOf bytes = take mostInputSize bytes ++ replicate (mostInputSize - length bytes) 0
 
 -- an event that has no input
-abbrev pub plain : Event → Entry
-plain e = record { event = e; input = replicate 16 0 }
+abbrev pub withoutInput : Event → Entry
+withoutInput e = record { event = e; input = replicate mostInputSize 0 }
 
 unfoldable pub blankEntry : Entry
-blankEntry = plain Event.Synchronized
+blankEntry = withoutInput Event.Synchronized
 
--- two events in their order, each where it is told
+-- two events in their order, each where it is announced
 unfoldable pub both : Bool → Entry → Bool → Entry → List Entry
 both first one second other = pick first (one ∷ []) [] ++ pick second (other ∷ []) []
 
--- what an Input may tell ahead of its inputs
+-- what an Input may announce ahead of its inputs
 unfoldable pub ahead : (resumed disconnected : Bool) → List Entry
-ahead resumed disconnected = both resumed (plain Event.NetworkResumed) disconnected (plain Event.Disconnected)
+ahead resumed disconnected = both resumed (withoutInput Event.NetworkResumed) disconnected (withoutInput Event.Disconnected)
 
 -- one player's input of a frame
 unfoldable pub inputEntry : (frame player : ℕ) → List ℕ → Entry
@@ -74,10 +75,10 @@ unfolding announced announcedAll
 packet-example = refl
 
 -- worked: of two events the first alone, and both in their order
-first-example : both true (plain Event.NetworkResumed) false (plain Event.Disconnected) ≡ plain Event.NetworkResumed ∷ []
+first-example : both true (withoutInput Event.NetworkResumed) false (withoutInput Event.Disconnected) ≡ withoutInput Event.NetworkResumed ∷ []
 unfolding both
 first-example = refl
 
-ahead-example : ahead true true ≡ plain Event.NetworkResumed ∷ plain Event.Disconnected ∷ []
+ahead-example : ahead true true ≡ withoutInput Event.NetworkResumed ∷ withoutInput Event.Disconnected ∷ []
 unfolding ahead both
 ahead-example = refl

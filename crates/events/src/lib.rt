@@ -5,12 +5,14 @@ ghost use Prim.Native.Nat.{_+_, _*_, _^_, _≤_, min};
 ghost use mathlib.Core.Bool.{false};
 ghost use lib.Dec.{leb};
 ghost use Rattle.base.specs.Pick.{pick};
+ghost use Rattle.ceilings.specs.Ceilings.{mostEvents};
 ghost use Rattle.packing.specs.Packing.{framesOf};
 ghost use lib.ListN.{length, take, drop, getD};
 ghost use Rattle.events.specs.Events.{held, hasRoom, inputEntry, announcedAll, packetFits, blankEntry, both, ahead, PushedAs};
-
-// As many events as may wait to be taken.
-pub const MOST_EVENTS: usize = 640;
+use ceilings::MOST_EVENTS;
+use ceilings::MOST_INPUT_SIZE;
+use ceilings::MOST_PLAYERS;
+use ceilings::MOST_WIDTH;
 
 pub enum Event {
     Synchronizing { total: u32, count: u32 },
@@ -24,11 +26,30 @@ pub enum Event {
 // An event with its input, zeros past the input's size; all zeros beside any event but Input.
 pub struct Entry {
     pub event: Event,
-    pub input: [u8; 16],
+    pub input: [u8; MOST_INPUT_SIZE],
 }
 
+// The input beside any event but Input.
+pub const NO_INPUT: [u8; MOST_INPUT_SIZE] = [0; MOST_INPUT_SIZE];
+
+// The events that have neither numbers nor an input.
+pub const SYNCHRONIZED: Entry = Entry {
+    event: Event::Synchronized,
+    input: NO_INPUT,
+};
+
+pub const DISCONNECTED: Entry = Entry {
+    event: Event::Disconnected,
+    input: NO_INPUT,
+};
+
+pub const NETWORK_RESUMED: Entry = Entry {
+    event: Event::NetworkResumed,
+    input: NO_INPUT,
+};
+
 pub struct Events {
-    pub entries: [Entry; 640],
+    pub entries: [Entry; MOST_EVENTS],
     pub used: usize,
 }
 
@@ -36,12 +57,6 @@ pub struct Events {
 pub struct Pushed {
     pub events: Events,
     pub ok: bool,
-}
-
-fn least(a: usize, b: usize) -> usize
-    ensures { λ r. ⌜ r ≡ min a b ⌝ }
-{
-    if a < b { a } else { b }
 }
 
 // A place further on, or the end: a size is any number.
@@ -53,12 +68,12 @@ fn onward(at: usize, size: usize, end: usize) -> usize
 }
 
 // One player's input of a frame: its part of the frame's bytes.
-fn input_entry(frame: u32, player: u32, bytes: [u8; 64], at: usize, size: usize) -> Entry
+fn input_entry(frame: u32, player: u32, bytes: [u8; MOST_WIDTH], at: usize, size: usize) -> Entry
     requires { ⌜ at ≤ 64 ⌝ }
     ensures { λ r. ⌜ r ≡ inputEntry frame player (take size (drop at bytes)) ⌝ }
 {
-    let n = least(16, least(size, 64 - at));
-    let mut input = [0u8; 16];
+    let n = numbers::least(MOST_INPUT_SIZE, numbers::least(size, MOST_WIDTH - at));
+    let mut input = NO_INPUT;
     let mut i = 0;
     while i < n {
         input[i] = bytes[at + i];
@@ -70,19 +85,12 @@ fn input_entry(frame: u32, player: u32, bytes: [u8; 64], at: usize, size: usize)
     }
 }
 
-// How many events there are to tell.
-fn told(tells: bool) -> usize
-    ensures { λ r. ⌜ r ≡ pick tells 1 0 ⌝ }
-{
-    if tells { 1 } else { 0 }
-}
-
 // Whether a packet's events fit behind `used`, and its frames' numbers are frames.
 fn packet_fits(used: usize, frame: u32, count: u32, players: usize) -> bool
     requires { ⌜ (used ≤ 642) × (players ≤ 4) ⌝ }
-    ensures { λ r. ⌜ r ≡ pick (leb (frame + count) (2 ^ 32)) (leb (used + count * players) 640) false ⌝ }
+    ensures { λ r. ⌜ r ≡ pick (leb (frame + count) (2 ^ 32)) (leb (used + count * players) mostEvents) false ⌝ }
 {
-    if 0x1_0000_0000 < (frame as u64) + (count as u64) {
+    if numbers::WORD < (frame as u64) + (count as u64) {
         return false;
     }
     used + (count as usize) * players <= MOST_EVENTS
@@ -93,10 +101,7 @@ impl Events {
         ensures { λ r. ⌜ held r ≡ [] ⌝ }
     {
         Events {
-            entries: [Entry {
-                event: Event::Synchronized,
-                input: [0; 16],
-            }; 640],
+            entries: [SYNCHRONIZED; MOST_EVENTS],
             used: 0,
         }
     }
@@ -120,10 +125,7 @@ impl Events {
         if i < n {
             return self.entries[i];
         }
-        Entry {
-            event: Event::Synchronized,
-            input: [0; 16],
-        }
+        SYNCHRONIZED
     }
 
     // One more at the end; where there is no room, unchanged.
@@ -139,12 +141,12 @@ impl Events {
         Pushed { events: self, ok }
     }
 
-    // Two in their order, each where there is something to tell; where there is no room for all, unchanged.
+    // Two in their order, each where it is to be announced; where there is no room for all, unchanged.
     pub fn push_both(mut self, first: bool, one: Entry, second: bool, other: Entry) -> Pushed
         ensures { λ r. ⌜ PushedAs self (hasRoom (held self) (length (both first one second other))) (both first one second other) r ⌝ }
     {
         let used = self.count();
-        let ok = used + told(first) + told(second) <= MOST_EVENTS;
+        let ok = used + numbers::count_if(first, 1) + numbers::count_if(second, 1) <= MOST_EVENTS;
         if ok {
             let mut to = used;
             if first {
@@ -160,7 +162,7 @@ impl Events {
         Pushed { events: self, ok }
     }
 
-    // What an Input tells: the end of an interruption, a disconnect, and the packet's Input events, frame by frame, in each one per handle: `count`
+    // What an Input announces: the end of an interruption, a disconnect, and the packet's Input events, frame by frame, in each one per handle: `count`
     // frames of `width` bytes from a place of the payload on, each XOR the reference, the first being `frame`. Where there is no room for all, or a
     // number would be no frame, unchanged. All of it is done in here, so that the store is handed over once.
     pub fn push_packet(
@@ -172,18 +174,18 @@ impl Events {
         payload: &[u8],
         at: usize,
         width: usize,
-        reference: [u8; 64],
-        handles: [u32; 4],
+        reference: [u8; MOST_WIDTH],
+        handles: [u32; MOST_PLAYERS],
         handle_count: usize,
         size: usize,
     ) -> Pushed
         ensures { λ r. ⌜ PushedAs self (packetFits (held self ++ ahead resumed disconnected) frame count (take «handle_count» handles))
             (ahead resumed disconnected ++ announcedAll frame size (take «handle_count» handles) (framesOf width reference count (drop at (now (payload .entry))))) r ⌝ }
     {
-        let players = least(handle_count, 4);
+        let players = numbers::least(handle_count, MOST_PLAYERS);
         let used = self.count();
         let ok = packet_fits(
-            used + told(resumed) + told(disconnected),
+            used + numbers::count_if(resumed, 1) + numbers::count_if(disconnected, 1),
             frame,
             count,
             players,
@@ -192,20 +194,14 @@ impl Events {
             let end = payload.len();
             let mut to = used;
             if resumed {
-                self.entries[to] = Entry {
-                    event: Event::NetworkResumed,
-                    input: [0; 16],
-                };
+                self.entries[to] = NETWORK_RESUMED;
                 to += 1;
             }
             if disconnected {
-                self.entries[to] = Entry {
-                    event: Event::Disconnected,
-                    input: [0; 16],
-                };
+                self.entries[to] = DISCONNECTED;
                 to += 1;
             }
-            let mut from = least(at, end);
+            let mut from = numbers::least(at, end);
             let mut k = 0;
             'frames: while k < count {
                 let bytes = packing::frame_at(payload, from, width, reference);

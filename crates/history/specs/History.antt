@@ -41,7 +41,7 @@ unfoldable pub foundIn : ℕ → List InputBytes → Found
 foundIn f [] = record { held = false; input = blank }
 foundIn f (x ∷ xs) = pick (eqb (x .frame) f) (record { held = true; input = x }) (foundIn f xs)
 
--- the reference of a packet is NULL_FRAME while nothing is received, else frame start_frame - 1: by numbers alone, and of what is held
+-- the frame of a packet's reference (E-22): by numbers alone, and of what is held
 abbrev pub referenceBy : (newest start : ℕ) → ℕ
 referenceBy newest start = pick (eqb newest nullFrame) nullFrame (start - 1)
 
@@ -56,7 +56,7 @@ beside newest found = record { input = found .input; held = found .held; newest 
 unfoldable pub lookedAt : ℕ → List InputBytes → Looked
 lookedAt start l = beside (newestOf l) (foundIn (referenceFrame start l) l)
 
--- at or above the keep line: frame >= newest - 2 max_prediction
+-- at or above the keep line: frame >= newest - 2 max_prediction (E-29)
 abbrev pub stays : ℕ → ℕ → ℕ → Bool
 stays newest maxPrediction frame = leb newest (frame + 2 * maxPrediction)
 

@@ -4,16 +4,23 @@ ghost use mathlib.Core.List.{[], _∷_, _++_};
 ghost use Prim.Native.Nat.{_-_, _*_, _≤_, _^_, min};
 ghost use lib.ListN.{length, take};
 ghost use Rattle.base.specs.Keyed.{kept};
+ghost use Rattle.ceilings.specs.Ceilings.{mostReceived};
 ghost use Rattle.packing.specs.Packing.{frameCount, framesOf};
 ghost use Rattle.history.specs.History.{received, blank, newestOf, referenceBy, lookedAt, newestAfter, stays, fresh, numbered, packetOf, takenAbove};
+use ceilings::MOST_RECEIVED;
+use ceilings::MOST_WIDTH;
+use frame::FRAMES;
 use frame::NULL_FRAME;
 use packing::InputBytes;
 
-// 2 * 16 + 1, the most that the keep line leaves.
-pub const MOST_RECEIVED: usize = 33;
+// The blank frame -1: what the first packet is packed against.
+pub const BLANK: InputBytes = InputBytes {
+    frame: NULL_FRAME,
+    bytes: [0u8; MOST_WIDTH],
+};
 
 pub struct History {
-    pub slots: [InputBytes; 33],
+    pub slots: [InputBytes; MOST_RECEIVED],
     pub used: usize,
 }
 
@@ -56,7 +63,7 @@ fn arriving(length: usize, width: usize, start: u32) -> usize
     ensures { λ r. ⌜ r ≡ min (2 ^ 32 - start) (frameCount width length) ⌝ }
 {
     let n = packing::frame_count(length, width);
-    let most = 4294967296 - (start as usize);
+    let most = FRAMES - (start as usize);
     if most < n { most } else { n }
 }
 
@@ -76,16 +83,12 @@ fn after(newest: u32, start: u32, count: usize) -> u32
 }
 
 impl History {
-    // Frame -1 with zero bytes: what the first packet is packed against.
+    // Holds the blank frame alone.
     pub fn new() -> History
         ensures { λ r. ⌜ received r ≡ blank ∷ [] ⌝ }
     {
-        let none = InputBytes {
-            frame: NULL_FRAME,
-            bytes: [0u8; 64],
-        };
         History {
-            slots: [none; 33],
+            slots: [BLANK; MOST_RECEIVED],
             used: 1,
         }
     }
@@ -126,10 +129,7 @@ impl History {
     pub fn look(self, start: u32) -> Looked
         ensures { λ r. ⌜ r ≡ lookedAt start (received self) ⌝ }
     {
-        let blank = InputBytes {
-            frame: NULL_FRAME,
-            bytes: [0u8; 64],
-        };
+        let blank = BLANK;
         let n = self.count();
         if n == 0 {
             return Looked {
@@ -199,7 +199,7 @@ impl History {
         max_prediction: u32,
     ) -> History
         requires { ⌜ (count ≤ 2 ^ 32 - start) × (count * width ≤ length (now payload)) ⌝ }
-        ensures { λ r. ⌜ received r ≡ take 33 (received self ++ kept (λ x. fresh newest last «max_prediction» (x .frame)) (numbered start (framesOf width (reference .bytes) count (now (payload .entry))))) ⌝ }
+        ensures { λ r. ⌜ received r ≡ take mostReceived (received self ++ kept (λ x. fresh newest last «max_prediction» (x .frame)) (numbered start (framesOf width (reference .bytes) count (now (payload .entry))))) ⌝ }
     {
         let bytes = reference.bytes;
         let mut at = self.count();
@@ -230,7 +230,7 @@ impl History {
         newest: u32,
         max_prediction: u32,
     ) -> History
-        ensures { λ r. ⌜ received r ≡ take 33 (takenAbove newest «max_prediction» (received self) (packetOf start width (reference .bytes) (now (payload .entry)))) ⌝ }
+        ensures { λ r. ⌜ received r ≡ take mostReceived (takenAbove newest «max_prediction» (received self) (packetOf start width (reference .bytes) (now (payload .entry)))) ⌝ }
     {
         let count = arriving(payload.len(), width, start);
         let last = after(newest, start, count);

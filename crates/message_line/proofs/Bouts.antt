@@ -1,4 +1,4 @@
--- P1 of document 01, the printed part: the codec's laws and the line's definition.
+-- P1 (B-1), the printed part: the codec's laws and the line's definition.
 use mathlib.Core.Path.{_≡_, sym, _∙_, ap}
 use mathlib.Core.List.{[], _∷_, _++_}
 use Rattle.text.specs.Decimal.{decimalOf, signedOf, digits}

@@ -85,7 +85,7 @@ refusedLine n = ascii "refused " ++ decimalOf n
 unfoldable pub lineOf : List ℕ → List ℕ
 lineOf d = pick (eqb (numberIn (datagram d)) 0) (wireLine (wireIn (datagram d))) (refusedLine (numberIn (datagram d)))
 
--- worked: P1 of document 01; an Input with two statuses and a payload, and one with neither; an advantage below 0 and a u128; a message with no field; a refusal
+-- worked: P1 (B-1); an Input with two statuses and a payload, and one with neither; an advantage below 0 and a u128; a message with no field; a refusal
 wire : MessageBody → List StatusReport → List ℕ → Wire
 wire body rs payload = record { magic = 4660; body = body; reports = rs; payload = payload }
 

@@ -1,4 +1,4 @@
--- The nonces that are outstanding, and what issuing and spending one does (document 01, Handshake).
+-- The nonces that are outstanding, and what issuing and spending one does (E-4, E-5, E-7).
 use mathlib.Core.Bool.{Bool, true, false}
 use mathlib.Core.List.{List, [], _∷_, _++_}
 use mathlib.Core.Path.{_≡_, refl}
@@ -6,6 +6,7 @@ use Prim.Native.Nat.{ℕ, _≤_}
 use lib.Dec.{ltb}
 use lib.ListN.{length, take, drop, replicate}
 use Rattle.base.specs.Pick.{pick}
+use Rattle.ceilings.specs.Ceilings.{mostNonces}
 use Rattle.base.specs.Keyed.{kept, has, without}
 use Rattle.nonces.specs.declared.Nonces.{Nonces}
 use Rattle.nonces.specs.declared.Issued.{Issued}
@@ -15,7 +16,7 @@ use Rattle.nonces.specs.declared.Spent.{Spent}
 unfoldable pub outstanding : Nonces → List ℕ
 outstanding s = take (s .used) (s .list)
 
--- a reply counts only if its nonce is outstanding
+-- whether a nonce is outstanding, so that its reply may count (E-7)
 abbrev pub isOutstanding : ℕ → List ℕ → Bool
 isOutstanding nonce l = has (λ x. x) nonce l
 
@@ -23,13 +24,13 @@ isOutstanding nonce l = has (λ x. x) nonce l
 abbrev pub spent : ℕ → List ℕ → List ℕ
 spent nonce l = without (λ x. x) nonce l
 
--- equal nonces count as one, from the latest issue
+-- equal nonces count as one, from the latest issue (E-5)
 unfoldable pub issued : ℕ → List ℕ → List ℕ
 issued nonce l = spent nonce l ++ nonce ∷ []
 
 -- there is room for a nonce: fewer than 256 others are outstanding
 unfoldable pub fits : ℕ → List ℕ → Bool
-fits nonce l = ltb (length (spent nonce l)) 256
+fits nonce l = ltb (length (spent nonce l)) mostNonces
 
 -- the first n of l without the nonce, m of them, stand at the front of r, and what stands past the n is as before
 pub record KeptAs (l : List ℕ) (n nonce m : ℕ) (r : List ℕ) : Type 0 where

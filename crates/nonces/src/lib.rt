@@ -3,10 +3,12 @@ ghost use mathlib.Core.Path.{_≡_};
 ghost use mathlib.Core.List.{[]};
 ghost use Prim.Native.Nat.{_≤_};
 ghost use lib.ListN.{length};
+ghost use Rattle.ceilings.specs.Ceilings.{mostNonces};
 ghost use Rattle.nonces.specs.Nonces.{outstanding, KeptAs, IssuedAs, SpentAs};
+use ceilings::MOST_NONCES;
 
 pub struct Nonces {
-    pub list: [u32; 256],
+    pub list: [u32; MOST_NONCES],
     pub used: usize,
 }
 
@@ -23,8 +25,8 @@ pub struct Spent {
 
 // All of the first n but the nonce, in their order, and how many they are: each that stays is written behind those that stayed before it.
 // The array is lent, so no copy of it is made. Of what is lent the proof does not know the length, so the caller says it.
-fn keep_others(list: &mut [u32; 256], n: usize, nonce: u32) -> usize
-    requires { ⌜ (n ≤ 256) × (length (now list) ≡ 256) ⌝ }
+fn keep_others(list: &mut [u32; MOST_NONCES], n: usize, nonce: u32) -> usize
+    requires { ⌜ (n ≤ mostNonces) × (length (now list) ≡ mostNonces) ⌝ }
     ensures { λ r. ⌜ KeptAs (now (list .entry)) n nonce r (now (list .exit)) ⌝ }
 {
     let mut kept = 0;
@@ -45,7 +47,7 @@ impl Nonces {
         ensures { λ r. ⌜ outstanding r ≡ [] ⌝ }
     {
         Nonces {
-            list: [0; 256],
+            list: [0; MOST_NONCES],
             used: 0,
         }
     }
@@ -54,7 +56,11 @@ impl Nonces {
         ensures { λ r. ⌜ r ≡ length (outstanding self) ⌝ }
     {
         let used = self.used;
-        if used < 256 { used } else { 256 }
+        if used < MOST_NONCES {
+            used
+        } else {
+            MOST_NONCES
+        }
     }
 
     // The nonce at the end, and nowhere else; where 256 others are outstanding, unchanged.
@@ -63,7 +69,7 @@ impl Nonces {
     {
         let n = self.count();
         let at = keep_others(&mut self.list, n, nonce);
-        let ok = at < 256;
+        let ok = at < MOST_NONCES;
         if ok {
             self.list[at] = nonce;
             self.used = at + 1;

@@ -10,7 +10,7 @@ use Rattle.base.specs.Lay.{laidAt}
 use Rattle.base.proofs.Lay.{laid-none, laid-length, laid-join}
 use Rattle.codec.specs.Message.{Wire, Fits, FitAll, tableSize}
 use Rattle.codec.specs.Bytes.{bytes, queueOf}
-use Rattle.codec.proofs.Laws.{bytes-length, size-table}
+use Rattle.codec.proofs.Laws.{bytes-length}
 use Rattle.outbox.specs.declared.Queued.{Queued}
 use Rattle.outbox.specs.Outbox.{sizes, QueuedAs}
 
@@ -30,7 +30,7 @@ module _ (b : List ℕ) (at : ℕ) (w : Wire) (r : Queued) (b′ : List ℕ) (h 
 
 -- the bytes of messages are as many as the table says
 pub bytes-size : (w : Wire) → Fits w → length (bytes w) ≡ tableSize w
-bytes-size w h = bytes-length w h ∙ size-table w
+bytes-size = bytes-length
 
 pub queue-size : (ws : List Wire) → FitAll ws → length (queueOf ws) ≡ sizes ws
 unfolding sizes flatten

@@ -18,7 +18,8 @@ use Rattle.status.specs.declared.ConnectionStatus.{ConnectionStatus}
 use Rattle.packing.specs.Packing.{LaidAs}
 use Rattle.packing.specs.declared.input_bytes.InputBytes.{InputBytes}
 use Rattle.pending.specs.Pending.{firstFrame, payload}
-use Rattle.codec.specs.Sizes.{fixedSize, maxStatuses, maxPayload}
+use Rattle.ceilings.specs.Ceilings.{mostPlayers, mostPayload}
+use Rattle.codec.specs.Sizes.{fixedSize}
 use Rattle.codec.specs.Message.{Wire, meant, tableSize}
 use Rattle.codec.specs.Bytes.{head, bytes}
 use Rattle.codec.specs.Calls.{writeRefusal, HeadAs}
@@ -49,13 +50,13 @@ laid-prepend b at a p room =
 -- what is known before anything is written: with the head's n bytes and the payload's
 pub record Prepared (statuses : List ConnectionStatus) (inputs : List InputBytes) (width : ℕ) (acked : InputBytes) (start : ℕ) (rs : StatusReports) (n size : ℕ)
     : Type 0 where
-  pub few : length statuses ≤ maxStatuses
+  pub few : length statuses ≤ mostPlayers
   pub first : start ≡ firstFrame nullFrame inputs
   pub reports : ReportsAs statuses rs
   pub four : length (rs .list) ≡ 4
   pub front : n ≡ fixedSize 2 + 5 * length statuses
   pub packed : length (payload width acked inputs) ≡ size
-  pub short : size ≤ maxPayload
+  pub short : size ≤ mostPayload
 
 module _ (b : List ℕ) (at magic ack : ℕ) (statuses : List ConnectionStatus) (inputs : List InputBytes) (width : ℕ) (acked : InputBytes) (start : ℕ)
     (rs : StatusReports) (n size : ℕ) (ready : Prepared statuses inputs width acked start rs n size) where

@@ -8,12 +8,12 @@ use lib.ListN.{length}
 use Rattle.base.specs.Pick.{pick}
 use Rattle.base.specs.Lay.{noRoom}
 use Rattle.answer.specs.Number.{numberOf}
-use Rattle.codec.specs.Sizes.{maxStatuses, maxPayload}
+use Rattle.ceilings.specs.Ceilings.{mostPlayers, mostPayload}
 use Rattle.codec.specs.Message.{Wire, meant, tableSize}
 use Rattle.codec.specs.Calls.{writeRefusal, WrittenAs}
 use Rattle.codec.specs.declared.Message.{Message}
 use Rattle.codec.specs.declared.Written.{Written}
-use Rattle.codec.proofs.Laws.{size-table, refused-room, written-end}
+use Rattle.codec.proofs.Laws.{refused-room, written-end}
 use Rattle.outbox.specs.Outbox.{QueuedAs}
 
 room-told : (t : Bool) → _≡_ {A = ℕ} (pick t 5 0) 0 → t ≡ false
@@ -24,7 +24,7 @@ full-told : (t : Bool) → (_≡_ {A = ℕ} (pick t 5 0) 0 → ⊥) → t ≡ tr
 full-told true n = refl
 full-told false n = absurd (n refl)
 
-module _ (b : List ℕ) (at : ℕ) (m : Message) (p : List ℕ) (few : m .reports .count ≤ maxStatuses) (short : length p ≤ maxPayload)
+module _ (b : List ℕ) (at : ℕ) (m : Message) (p : List ℕ) (few : m .reports .count ≤ mostPlayers) (short : length p ≤ mostPayload)
     (four : length (m .reports .list) ≡ 4) (w : Wire) (is : meant m p ≡ w) (r : Written) (b′ : List ℕ) (h : WrittenAs b at m p r b′) where
   refusal : writeRefusal b at m (length p) ≡ pick (noRoom b at (tableSize w)) 5 0
   refusal = rw (← is) (refused-room b at m p few short four)
@@ -35,7 +35,7 @@ module _ (b : List ℕ) (at : ℕ) (m : Message) (p : List ℕ) (few : m .report
       let room : noRoom b at (tableSize w) ≡ false = room-told _ (sym refusal ∙ none) in
       record {
         ok = rw room;
-        end = written-end b at m p r b′ h done ∙ rw (size-table, is);
+        end = written-end b at m p r b′ h done ∙ rw is;
         lent = rw is at (rw none at (h .lent));
         fits = λ e. rw is at (h .fits none);
       }

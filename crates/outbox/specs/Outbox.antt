@@ -27,7 +27,7 @@ pub record QueuedAs (buffer : List ℕ) (at : ℕ) (w : Wire) (r : Queued) (buff
   pub lent : buffer′ ≡ pick (r .ok) (laidAt buffer at (bytes w)) buffer
   pub fits : r .ok ≡ true → Fits w
 
--- the bytes that messages take by document 01's table
+-- the bytes that messages take by the table of sizes (W-7)
 unfoldable pub sizes : List Wire → ℕ
 sizes [] = 0
 sizes (w ∷ ws) = tableSize w + sizes ws

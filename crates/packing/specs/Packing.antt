@@ -1,4 +1,4 @@
--- A packet's payload: each frame XOR the one reference, end to end.
+-- A packet's payload (P-1 to P-3): its frames one behind the other, each XOR one reference.
 use mathlib.Core.Bool.{Bool, false, not}
 use mathlib.Core.List.{List, [], _∷_, _++_}
 use mathlib.Core.Path.{_≡_, refl}

@@ -3,13 +3,14 @@ use mathlib.Core.List.{List, [], _∷_, _++_}
 use mathlib.Core.Path.{_≡_, refl}
 use Prim.Native.Nat.{ℕ, _-_}
 use lib.ListN.{length, take, replicate}
+use Rattle.ceilings.specs.Ceilings.{mostWidth}
 
 unfoldable pub zeros : List ℕ
-zeros = replicate 64 0
+zeros = replicate mostWidth 0
 
 -- 64 bytes: those that there are, zeros after them
 unfoldable pub padded : List ℕ → List ℕ
-padded bytes = take 64 bytes ++ replicate (64 - length bytes) 0
+padded bytes = take mostWidth bytes ++ replicate (mostWidth - length bytes) 0
 
 -- worked: two bytes, then zeros
 padded-example : take 4 (padded (7 ∷ 8 ∷ [])) ≡ 7 ∷ 8 ∷ 0 ∷ 0 ∷ []

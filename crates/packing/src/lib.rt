@@ -1,32 +1,35 @@
-// Payloads of inputs: each frame XOR the one reference, end to end. Here is one frame, into a lent buffer and out of a lent payload, so that
+// Payloads of inputs: frames one behind the other, each XOR one reference (P-1). Here is one frame, into a lent buffer and out of a lent payload, so that
 // neither end copies a payload; the payload as a whole is a definition of specs/.
 ghost use mathlib.Core.Path.{_≡_};
 ghost use Prim.Native.Nat.{min};
 ghost use lib.ListN.{take, drop};
+ghost use Rattle.ceilings.specs.Ceilings.{mostWidth};
 ghost use Rattle.packing.specs.Packing.{xors, decodableLength, frameCount, LaidAs};
 ghost use Rattle.packing.specs.Pad.{padded};
 
 pub mod input_bytes;
 
+use ceilings::MOST_WIDTH;
 pub use input_bytes::InputBytes;
-
-// An input is kept in 64 bytes: no frame is wider.
-pub const WIDEST: usize = 64;
 
 // The bytes of a frame that count, of the width given.
 pub fn frame_width(width: usize) -> usize
-    ensures { λ r. ⌜ r ≡ min width 64 ⌝ }
+    ensures { λ r. ⌜ r ≡ min width mostWidth ⌝ }
 {
-    if width < WIDEST { width } else { WIDEST }
+    if width < MOST_WIDTH {
+        width
+    } else {
+        MOST_WIDTH
+    }
 }
 
 // Lays one frame, XOR the reference, at a place of a lent buffer; where it does not fit, nothing is written.
 pub fn pack_frame(
     out: &mut [u8],
     at: usize,
-    frame: [u8; 64],
+    frame: [u8; MOST_WIDTH],
     width: usize,
-    reference: [u8; 64],
+    reference: [u8; MOST_WIDTH],
 ) -> bool
     ensures { λ r. ⌜ LaidAs (now (out .entry)) at (xors (take width frame) reference) r (now (out .exit)) ⌝ }
 {
@@ -47,12 +50,12 @@ pub fn pack_frame(
 }
 
 // A part of a payload XOR the reference, with zeros after it.
-fn undo(part: &[u8], reference: [u8; 64]) -> [u8; 64]
+fn undo(part: &[u8], reference: [u8; MOST_WIDTH]) -> [u8; MOST_WIDTH]
     ensures { λ r. ⌜ r ≡ padded (xors (now (part .entry)) reference) ⌝ }
 {
-    let mut out = [0u8; 64];
+    let mut out = [0u8; MOST_WIDTH];
     let mut i = 0;
-    while i < 64 && i < part.len() {
+    while i < MOST_WIDTH && i < part.len() {
         out[i] = part[i] ^ reference[i];
         i += 1;
     }
@@ -60,12 +63,17 @@ fn undo(part: &[u8], reference: [u8; 64]) -> [u8; 64]
 }
 
 // The frame that starts at a place of a payload, with zeros after it; what lies past the payload's end is not there.
-pub fn frame_at(payload: &[u8], at: usize, width: usize, reference: [u8; 64]) -> [u8; 64]
+pub fn frame_at(
+    payload: &[u8],
+    at: usize,
+    width: usize,
+    reference: [u8; MOST_WIDTH],
+) -> [u8; MOST_WIDTH]
     ensures { λ r. ⌜ r ≡ padded (xors (take width (drop at (now (payload .entry)))) reference) ⌝ }
 {
     let len = payload.len();
     if len <= at {
-        return [0u8; 64];
+        return [0u8; MOST_WIDTH];
     }
     let left = len - at;
     if width < left {

@@ -6,6 +6,7 @@ use Prim.Native.Nat.{ℕ, _*_, min}
 use lib.Dec.{ltb, leb}
 use lib.ListN.{length, take}
 use Rattle.base.specs.Pick.{pick}
+use Rattle.ceilings.specs.Ceilings.{mostPending}
 use Rattle.packing.specs.Packing.{pack}
 use Rattle.packing.specs.declared.input_bytes.InputBytes.{InputBytes}
 use Rattle.pending.specs.declared.Pending.{Pending}
@@ -18,7 +19,7 @@ waiting p = take (p .used) (p .slots)
 
 -- room for one more
 unfoldable pub room : List InputBytes → Bool
-room l = ltb (length l) 129
+room l = ltb (length l) mostPending
 
 -- one more at the end, where there is room
 unfoldable pub pushed : List InputBytes → InputBytes → List InputBytes

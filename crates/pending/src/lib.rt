@@ -4,13 +4,11 @@ ghost use mathlib.Core.List.{[]};
 ghost use lib.ListN.{length};
 ghost use Rattle.packing.specs.Packing.{LaidAs};
 ghost use Rattle.pending.specs.Pending.{waiting, drops, firstFrame, payload, PushedAs, SizedAs, DroppedAs};
+use ceilings::MOST_PENDING;
 use packing::InputBytes;
 
-// Where the crate tells the session that the other end is too far behind.
-pub const MOST_PENDING: usize = 129;
-
 pub struct Pending {
-    pub slots: [InputBytes; 129],
+    pub slots: [InputBytes; MOST_PENDING],
     pub used: usize,
 }
 
@@ -35,7 +33,7 @@ impl Pending {
             bytes: [0u8; 64],
         };
         Pending {
-            slots: [blank; 129],
+            slots: [blank; MOST_PENDING],
             used: 0,
         }
     }
@@ -51,7 +49,7 @@ impl Pending {
         }
     }
 
-    // One more at the end; where it is full, unchanged and told so. Tells the newest frame before it too, or the one given where there was none.
+    // One more at the end; where it is full, unchanged and not ok. The answer has the last frame before it too, or the one given where there was none.
     pub fn push(mut self, input: InputBytes, none: u32) -> Pushed
         ensures { λ r. ⌜ PushedAs self input none r ⌝ }
     {

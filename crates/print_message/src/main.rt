@@ -1,4 +1,4 @@
-// Reads one datagram from standard input and writes its line.
+// Prints the line of the datagram on standard input (W-14).
 use libc::STDIN_FILENO;
 use libc::STDOUT_FILENO;
 

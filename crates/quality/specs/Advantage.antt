@@ -1,4 +1,4 @@
--- Local advantage: newest + (min(rtt / 2, i32 max) x fps) / 1000 - local frame, each step within i32, else 6.
+-- The local advantage (E-39), and whether one of its steps leaves i32 (E-40).
 -- A number z within i32 is held as z + 2^31. So a sum of a held number and a plain one is held as their sum, and leaves i32 exactly when that is
 -- 2^32 or more; a difference of two held numbers a and b is held as a + 2^31 - b, and leaves i32 exactly when b exceeds a + 2^31 or the rest is
 -- 2^32 or more. The product has no bias: it is not negative, and leaves i32 exactly when it is 2^31 or more.

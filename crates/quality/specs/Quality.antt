@@ -1,4 +1,4 @@
--- Reported advantages and the round trip time (document 01), and what each step changes of a connection's quality.
+-- Reported advantages and the round trip time (E-33, E-34, E-42), and what each step changes of a connection's quality.
 use mathlib.Core.Path.{_≡_, refl}
 use Prim.Native.Nat.{ℕ, _+_, _-_}
 use lib.Dec.{ltb, eqb}
@@ -6,7 +6,7 @@ use Rattle.base.specs.Pick.{pick}
 use Rattle.frame.specs.Bias.{bias32, bias16}
 use Rattle.quality.specs.declared.Quality.{Quality}
 
--- reported advantage is clamped to i16. Both numbers are held with their bias, and 2^31 - 2^15 lies between the two.
+-- an advantage as it is reported, cut to i16 (E-42). Both numbers are held with their bias, and 2^31 - 2^15 lies between the two.
 unfoldable pub clamped : ℕ → ℕ
 clamped advantage = pick (ltb advantage (bias32 - bias16)) 0 (pick (ltb advantage (bias32 + bias16)) (advantage - (bias32 - bias16)) 65535)
 
@@ -14,7 +14,7 @@ clamped advantage = pick (ltb advantage (bias32 - bias16)) 0 (pick (ltb advantag
 unfoldable pub widened : ℕ → ℕ
 widened advantage = advantage + (bias32 - bias16)
 
--- round_trip_time is epoch minus pong, 0 if negative; the pong is two halves, and one with a high half is past every epoch
+-- the round trip time by a pong (E-34); the pong is two halves, and one with a high half is past every epoch
 unfoldable pub roundTrip : (epoch low high : ℕ) → ℕ
 roundTrip epoch low high = pick (eqb high 0) (epoch - low) 0
 

@@ -1,4 +1,4 @@
--- The setup of an endpoint (document 01, "Ceilings"): what is given, when it lies outside the ceilings, what an endpoint keeps of it, and what then holds of that.
+-- The setup of an endpoint (C-1 to C-10): what is given, when it lies outside the ceilings, what an endpoint keeps of it, and what then holds of that.
 use mathlib.Core.Bool.{Bool, true, false, _||_}
 use mathlib.Core.List.{List, [], _∷_}
 use mathlib.Core.Path.{_≡_, refl}
@@ -7,6 +7,8 @@ use lib.Dec.{ltb, leb, eqb}
 use lib.ListN.{length, take}
 use Rattle.base.specs.Pick.{pick}
 use Rattle.base.specs.Keyed.{has}
+use Rattle.numbers.specs.Range.{outside}
+use Rattle.ceilings.specs.Ceilings.{mostPlayers, mostInputSize, mostPrediction}
 use Rattle.setup.specs.declared.Setup.{Setup}
 use Rattle.setup.specs.declared.Handles.{Handles}
 use Rattle.setup.specs.declared.Choices.{Choices}
@@ -27,17 +29,28 @@ pub record Terms : Type 0 where
   pub peer : ℕ
   pub choices : Choices
 
--- receiving width W: handles times S; sending width: local players times S
+-- the receiving width W (C-22) and the sending width (C-23)
 abbrev pub receivingWidth : Terms → ℕ
 receivingWidth t = length (t .handles) * t .inputSize
 
 abbrev pub sendingWidth : Terms → ℕ
 sendingWidth t = t .localPlayers * t .inputSize
 
--- not from a least number to a greatest
-abbrev pub outside : (least greatest n : ℕ) → Bool
-outside least greatest n = ltb n least || ltb greatest n
+-- ---- the ceilings that a setup alone has
 
+abbrev pub mostHandle : ℕ
+mostHandle = 65535
+
+abbrev pub mostTimeout : ℕ
+mostTimeout = 2 ^ 31
+
+abbrev pub mostFps : ℕ
+mostFps = 240
+
+abbrev pub mostInterval : ℕ
+mostInterval = 10000
+
+-- one of some numbers lies above a greatest; one of them stands twice
 unfoldable pub anyAbove : ℕ → List ℕ → Bool
 anyAbove greatest [] = false
 anyAbove greatest (x ∷ xs) = pick (ltb greatest x) true (anyAbove greatest xs)
@@ -59,32 +72,32 @@ listed h = take (h .count) (h .list)
 abbrev pub ListedAs : List ℕ → ℕ → Handles → Type 0
 ListedAs hs n r = (listed r ≡ hs) × (r .count ≡ n)
 
--- handles 1 to 4, distinct, each at most 65,535
+-- handles outside their ceilings (C-2)
 abbrev pub badHandles : Handles → Bool
-badHandles h = anyOf (outside 1 4 (h .count) ∷ anyTwice (listed h) ∷ anyAbove 65535 (listed h) ∷ [])
+badHandles h = anyOf (outside 1 mostPlayers (h .count) ∷ anyTwice (listed h) ∷ anyAbove mostHandle (listed h) ∷ [])
 
--- off, or on with interval 1 to 10,000
+-- an interval outside its ceilings (C-10)
 abbrev pub badDesync : DesyncDetection → Bool
 badDesync Off = false
-badDesync (On interval) = outside 1 10000 interval
+badDesync (On interval) = outside 1 mostInterval interval
 
--- 1: a setup number lies outside the ceilings
+-- 1 (N-1): a number is outside its ceiling
 unfoldable pub badSetup : Setup → Bool
 badSetup g =
-    anyOf (outside 1 4 (g .«num_players»)
+    anyOf (outside 1 mostPlayers (g .«num_players»)
     ∷ badHandles (g .handles)
-    ∷ outside 1 4 (g .«local_players»)
+    ∷ outside 1 mostPlayers (g .«local_players»)
     ∷ ltb (g .«num_players») (g .«local_players»)
-    ∷ outside 1 16 (g .«input_size»)
-    ∷ ltb 16 (g .«max_prediction»)
-    ∷ ltb (2 ^ 31) (g .«disconnect_timeout»)
-    ∷ ltb (2 ^ 31) (g .«disconnect_notify_start»)
-    ∷ outside 1 240 (g .fps)
+    ∷ outside 1 mostInputSize (g .«input_size»)
+    ∷ ltb mostPrediction (g .«max_prediction»)
+    ∷ ltb mostTimeout (g .«disconnect_timeout»)
+    ∷ ltb mostTimeout (g .«disconnect_notify_start»)
+    ∷ outside 1 mostFps (g .fps)
     ∷ eqb (g .magic) 0
     ∷ badDesync (g .choices .«desync_detection»)
     ∷ [])
 
--- handles are kept sorted
+-- handles are held in ascending order (C-3)
 unfoldable pub inserted : ℕ → List ℕ → List ℕ
 inserted h [] = h ∷ []
 inserted h (x ∷ xs) = pick (leb h x) (h ∷ x ∷ xs) (x ∷ inserted h xs)
@@ -124,7 +137,7 @@ termsOf g = termsWith (listed (g .handles)) g
 abbrev pub SortedAs : Setup → Setup → Type 0
 SortedAs g r = (termsOf r ≡ termsWith (sorted (listed (g .handles))) g) × (r .handles .count ≡ g .handles .count)
 
--- off counts as interval 1
+-- off is interval 1 (E-37)
 abbrev pub intervalOf : DesyncDetection → ℕ
 intervalOf Off = 1
 intervalOf (On interval) = interval
@@ -141,18 +154,18 @@ Sorted low greatest (h ∷ hs) = Between low greatest h × Sorted (suc h) greate
 
 abbrev pub SoundDesync : DesyncDetection → Type 0
 SoundDesync Off = Unit {0}
-SoundDesync (On interval) = Between 1 10000 interval
+SoundDesync (On interval) = Between 1 mostInterval interval
 
 pub record SoundSetup (t : Terms) : Type 0 where
-  pub players : Between 1 4 (t .players)
-  pub handles : Between 1 4 (length (t .handles))
-  pub sorted : Sorted 0 65535 (t .handles)
+  pub players : Between 1 mostPlayers (t .players)
+  pub handles : Between 1 mostPlayers (length (t .handles))
+  pub sorted : Sorted 0 mostHandle (t .handles)
   pub localPlayers : Between 1 (t .players) (t .localPlayers)
-  pub inputSize : Between 1 16 (t .inputSize)
-  pub maxPrediction : t .maxPrediction ≤ 16
-  pub disconnectTimeout : t .disconnectTimeout ≤ 2 ^ 31
-  pub notifyStart : t .notifyStart ≤ 2 ^ 31
-  pub fps : Between 1 240 (t .fps)
+  pub inputSize : Between 1 mostInputSize (t .inputSize)
+  pub maxPrediction : t .maxPrediction ≤ mostPrediction
+  pub disconnectTimeout : t .disconnectTimeout ≤ mostTimeout
+  pub notifyStart : t .notifyStart ≤ mostTimeout
+  pub fps : Between 1 mostFps (t .fps)
   pub magic : Between 1 65535 (t .magic)
   pub peer : t .peer < 2 ^ 32
   pub desync : SoundDesync (t .choices .«desync_detection»)

@@ -7,19 +7,19 @@ use Rattle.base.specs.Pick.{pick}
 use Rattle.base.specs.Lay.{laidAt}
 use Rattle.answer.specs.Number.{numberOf}
 use Rattle.codec.specs.Bytes.{queueOf}
-use Rattle.protocol.specs.Value.{filledPart}
+use Rattle.endpoint_rules.specs.Value.{filledPart}
 use Rattle.endpoint.specs.declared.getters.StatsResult.{StatsResult}
 use Rattle.endpoint.specs.declared.getters.StatsResult.the-variants.{Stats, Refused}
-use Rattle.watching.specs.declared.SessionSetup.{SessionSetup}
+use Rattle.spectator_rules.specs.declared.SessionSetup.{SessionSetup}
 use Rattle.events.specs.declared.Entry.{Entry}
-use Rattle.protocol.specs.Seen.{Seen, withEvents}
-use Rattle.protocol.specs.Step.{takeStep}
-use Rattle.watching.specs.Watch.{Watch, withHost}
-use Rattle.watching.specs.Handling.{handledAll}
-use Rattle.watching.specs.Advance.{requestsOf}
-use Rattle.watching.specs.Call.{Call}
-use Rattle.watching.specs.Step.{Did, fresh, hostActs, step}
-use Rattle.watching.specs.Value.{Value, valueOf}
+use Rattle.endpoint_rules.specs.Seen.{Seen, withEvents}
+use Rattle.endpoint_rules.specs.Step.{takeStep}
+use Rattle.spectator_rules.specs.Watch.{Watch, withHost}
+use Rattle.spectator_rules.specs.Handling.{handledAll}
+use Rattle.spectator_rules.specs.Advance.{requestsOf}
+use Rattle.spectator_rules.specs.Call.{Call}
+use Rattle.spectator_rules.specs.Step.{Did, fresh, hostActs, step}
+use Rattle.spectator_rules.specs.Value.{Value, valueOf}
 use Rattle.spectator.specs.declared.SpectatorSession.{SpectatorSession}
 use Rattle.spectator.specs.declared.Ended.{Ended}
 use Rattle.spectator.specs.declared.advancing.Advanced.{Advanced}
@@ -27,7 +27,7 @@ use Rattle.spectator.specs.declared.getters.FramesBehind.{FramesBehind}
 use Rattle.spectator.specs.declared.getters.FramesBehind.the-variants.{Frames, Overflow}
 use Rattle.spectator.specs.declared.getters.TakenEvents.{TakenEvents}
 use Rattle.spectator.specs.declared.polling.Polled.{Polled}
-use Rattle.spectator.specs.Stores.{toldOf, framesOf}
+use Rattle.spectator.specs.Stores.{eventsOf, framesOf}
 use Rattle.spectator.specs.Session.{seen}
 
 -- new: its number, and the session in any case
@@ -48,8 +48,8 @@ shownBehind (Frames n) = (0, Value.count n)
 shownBehind Overflow = (6, Value.nothing)
 
 pub record TakenAs (s : SpectatorSession) (r : TakenEvents) : Type 0 where
-  pub events : Value.events (toldOf (r .events)) ≡ valueOf Call.events (seen s)
-  pub after : seen (r .session) ≡ step Call.events (seen s) .after
+  pub events : Value.events (eventsOf (r .events)) ≡ valueOf Call.takeEvents (seen s)
+  pub after : seen (r .session) ≡ step Call.takeEvents (seen s) .after
 
 -- how many bytes a poll hands back: the filled part of the buffer, none where it is refused
 unfoldable pub polledPart : (now epoch nonce buffer : ℕ) → Watch → ℕ

@@ -8,11 +8,11 @@ use Rattle.codec.specs.Bytes.{queueOf}
 use Rattle.status.specs.Statuses.{held as heldStatuses}
 use Rattle.endpoint.specs.Endpoint.{seen as seenHost}
 use Rattle.endpoint.specs.declared.Endpoint.{Endpoint}
-use Rattle.watching.specs.Watch.{Watch}
-use Rattle.watching.specs.Step.{Did}
+use Rattle.spectator_rules.specs.Watch.{Watch}
+use Rattle.spectator_rules.specs.Step.{Did}
 use Rattle.spectator.specs.declared.SpectatorSession.{SpectatorSession}
 use Rattle.spectator.specs.declared.Ended.{Ended}
-use Rattle.spectator.specs.Stores.{inputsOf, toldOf}
+use Rattle.spectator.specs.Stores.{inputsOf, eventsOf}
 
 -- what is seen of its host, the lists that its stores hold, and its plain fields
 unfoldable pub seen : SpectatorSession → Watch
@@ -23,7 +23,7 @@ seen s =
       state = s .state;
       inputs = inputsOf (s .inputs);
       statuses = heldStatuses (s .statuses);
-      events = toldOf (s .events);
+      events = eventsOf (s .events);
       current = s .«current_frame»;
       newest = s .«last_recv_frame»;
     }

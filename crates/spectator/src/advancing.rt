@@ -5,29 +5,24 @@ ghost use mathlib.Core.List.{[]};
 ghost use Rattle.base.specs.First.{firstOf};
 ghost use Rattle.answer.specs.Number.{numberOf};
 ghost use Rattle.quality.specs.Advantage.{differenceOverflows};
-ghost use Rattle.watching.specs.Watch.{isRunning};
-ghost use Rattle.watching.specs.Advance.{advanceRefusals};
+ghost use Rattle.spectator_rules.specs.Watch.{isRunning};
+ghost use Rattle.spectator_rules.specs.Advance.{advanceRefusals};
 ghost use Rattle.spectator.specs.Session.{seen};
 ghost use Rattle.spectator.specs.Stores.{framesOf};
-ghost use Rattle.spectator.specs.Requesting.{framesFor};
+ghost use Rattle.spectator.specs.Inside.Requests.{framesFor};
 ghost use Rattle.spectator.specs.Answers.{AdvancedAs};
 use crate::Requests;
 use crate::SpectatorSession;
 use answer::Answer;
-use watching::Limits;
-use watching::SessionState;
+use spectator_rules::Limits;
+use spectator_rules::SessionState;
 
-// The frames to advance one after the other, with the session that stands at the last of them.
+// The session that stands at the last of the frames advanced, and these frames, to be played one after the other. With the answer behind the frames a
+// refusal would copy the session once more.
 pub struct Advanced {
+    pub session: SpectatorSession,
     pub answer: Answer,
     pub requests: Requests,
-    pub session: SpectatorSession,
-}
-
-fn least(a: u32, b: u32) -> u32
-    ensures { λ r. ⌜ r ≡ min a b ⌝ }
-{
-    if a < b { a } else { b }
 }
 
 // Whether newest less current leaves i32.
@@ -35,7 +30,7 @@ pub(crate) fn behind_overflows(newest: u32, current: u32) -> bool
     ensures { λ r. ⌜ r ≡ differenceOverflows newest current ⌝ }
 {
     let raised = newest as u64 + 0x8000_0000;
-    raised < current as u64 || 0x1_0000_0000 <= raised - current as u64
+    raised < current as u64 || numbers::WORD <= raised - current as u64
 }
 
 fn is_running(state: SessionState) -> bool
@@ -64,15 +59,15 @@ fn most_frames(slots: u32) -> u32
     if slots == 0 {
         return 0;
     }
-    least(slots - 1, 63)
+    numbers::least_u32(slots - 1, 63)
 }
 
 fn frames_to_advance(limits: Limits, behind: u32) -> u32
     ensures { λ r. ⌜ r ≡ framesFor limits behind ⌝ }
 {
     if limits.max_frames_behind < behind {
-        return least(
-            least(limits.catchup_speed, behind),
+        return numbers::least_u32(
+            numbers::least_u32(limits.catchup_speed, behind),
             most_frames(limits.slots),
         );
     }
@@ -102,9 +97,9 @@ impl SpectatorSession {
     {
         let requests = Requests::none();
         Advanced {
+            session: self,
             answer,
             requests,
-            session: self,
         }
     }
 
@@ -125,16 +120,16 @@ impl SpectatorSession {
         let Answer::Done = answer else {
             return self.not_advanced(answer);
         };
-        let players = least(self.host.setup.num_players, 4) as usize;
+        let players = numbers::least_u32(self.host.setup.num_players, 4) as usize;
         let requests = self.inputs
             .requests_from(self.statuses, slots, players, frame, n);
         Advanced {
-            answer,
-            requests,
             session: SpectatorSession {
                 current_frame: self.current_frame + n,
                 ..self
             },
+            answer,
+            requests,
         }
     }
 }

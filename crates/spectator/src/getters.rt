@@ -1,14 +1,14 @@
-// What a session tells of itself, and its events taken.
+// What is asked of a session, and its events, taken.
 ghost use mathlib.Core.Path.{_≡_};
-ghost use Rattle.watching.specs.Call.{Call};
-ghost use Rattle.watching.specs.Value.{Value, valueOf};
+ghost use Rattle.spectator_rules.specs.Call.{Call};
+ghost use Rattle.spectator_rules.specs.Value.{Value, valueOf};
 ghost use Rattle.spectator.specs.Session.{seen};
 ghost use Rattle.spectator.specs.Answers.{told, shownBehind, TakenAs};
 use crate::SessionEvents;
 use crate::SpectatorSession;
 use crate::advancing::behind;
 use crate::advancing::behind_overflows;
-use watching::SessionState;
+use spectator_rules::SessionState;
 
 // The answer of `frames_behind_host`.
 pub enum FramesBehind {
@@ -17,8 +17,8 @@ pub enum FramesBehind {
 }
 
 pub struct TakenEvents {
-    pub events: SessionEvents,
     pub session: SpectatorSession,
+    pub events: SessionEvents,
 }
 
 impl SpectatorSession {
@@ -39,14 +39,14 @@ impl SpectatorSession {
     }
 
     // The events held, and the session without them.
-    pub fn events(self) -> TakenEvents
+    pub fn take_events(mut self) -> TakenEvents
         ensures { λ r. ⌜ TakenAs self r ⌝ }
     {
-        let taken = self.events;
-        let events = self.events.take_all();
+        let events = self.events;
+        self.events.used = 0;
         TakenEvents {
-            events: taken,
-            session: SpectatorSession { events, ..self },
+            session: self,
+            events,
         }
     }
 

@@ -1,8 +1,8 @@
 // What the events of a host change in its session, apart from the host: a poll handles them one after the other on these parts alone.
 ghost use mathlib.Core.Path.{_≡_};
 ghost use Rattle.events.specs.Events.{held};
-ghost use Rattle.watching.specs.Handling.{tell, inputHandled, handled, handledAll};
-ghost use Rattle.spectator.specs.Parts.{qualityAfter, runningParts, ChangedAs};
+ghost use Rattle.spectator_rules.specs.Handling.{tell, inputHandled, handled, handledAll};
+ghost use Rattle.spectator.specs.Inside.Handling.{qualityAfter, runningParts, ChangedAs};
 use crate::Inputs;
 use crate::SessionEvents;
 use events::Entry;
@@ -11,11 +11,11 @@ use events::Events;
 use frame::NULL_FRAME;
 use quality::Advantage;
 use quality::Quality;
+use spectator_rules::Limits;
+use spectator_rules::SessionEntry;
+use spectator_rules::SessionEvent;
+use spectator_rules::SessionState;
 use status::Statuses;
-use watching::Limits;
-use watching::SessionEntry;
-use watching::SessionEvent;
-use watching::SessionState;
 
 // What an event is handled by: the limits, and of the host its peer number, its newest frame, its frames per second and its statuses.
 pub struct Terms {
@@ -50,14 +50,14 @@ fn quality_after(quality: Quality, newest: u32, fps: u32, frame: u32) -> Quality
 }
 
 impl Parts {
-    fn tell(self, terms: Terms, event: SessionEvent) -> Parts
+    fn announce(self, terms: Terms, event: SessionEvent) -> Parts
         ensures { λ r. ⌜ ChangedAs terms (tell event) self r ⌝ }
     {
         let entry = SessionEntry {
             addr: terms.addr,
             event,
         };
-        let events = self.events.tell(entry, terms.limits.session_events);
+        let events = self.events.announce(entry, terms.limits.session_events);
         Parts { events, ..self }
     }
 
@@ -85,25 +85,25 @@ impl Parts {
         }
     }
 
-    // An Input is stored; every other event is told on, and Synchronized sets the session running.
+    // An Input is stored; every other event is announced, and Synchronized sets the session running.
     fn handle(self, terms: Terms, entry: Entry) -> Parts
         ensures { λ r. ⌜ ChangedAs terms (handled entry) self r ⌝ }
     {
         let event = entry.event;
         let input = entry.input;
         match event {
-            Event::Synchronizing { total, count } => self.tell(
+            Event::Synchronizing { total, count } => self.announce(
                 terms,
                 SessionEvent::Synchronizing { total, count },
             ),
-            Event::Synchronized => self.running().tell(terms, SessionEvent::Synchronized),
+            Event::Synchronized => self.running().announce(terms, SessionEvent::Synchronized),
             Event::Input { frame, player } => self.store(terms, frame, player, input),
-            Event::Disconnected => self.tell(terms, SessionEvent::Disconnected),
-            Event::NetworkInterrupted { disconnect_timeout } => self.tell(
+            Event::Disconnected => self.announce(terms, SessionEvent::Disconnected),
+            Event::NetworkInterrupted { disconnect_timeout } => self.announce(
                 terms,
                 SessionEvent::NetworkInterrupted { disconnect_timeout },
             ),
-            Event::NetworkResumed => self.tell(terms, SessionEvent::NetworkResumed),
+            Event::NetworkResumed => self.announce(terms, SessionEvent::NetworkResumed),
         }
     }
 

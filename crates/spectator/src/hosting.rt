@@ -2,10 +2,10 @@
 ghost use mathlib.Core.Path.{_≡_};
 ghost use lib.ListN.{length, take};
 ghost use Rattle.codec.specs.Message.{meant};
-ghost use Rattle.protocol.specs.Value.{handedBack};
+ghost use Rattle.endpoint_rules.specs.Value.{handedBack};
 ghost use Rattle.endpoint.specs.Endpoint.{seen as seenHost};
-ghost use Rattle.watching.specs.Call.{Call};
-ghost use Rattle.watching.specs.Step.{step};
+ghost use Rattle.spectator_rules.specs.Call.{Call};
+ghost use Rattle.spectator_rules.specs.Step.{step};
 ghost use Rattle.spectator.specs.Session.{seen, hosted, DidAs, DoneAs};
 ghost use Rattle.spectator.specs.Answers.{told, shownStats};
 use crate::Ended;
@@ -21,8 +21,8 @@ impl SpectatorSession {
         let answer = ended.answer;
         let host = ended.endpoint;
         Ended {
-            answer,
             session: SpectatorSession { host, ..self },
+            answer,
         }
     }
 

@@ -3,11 +3,11 @@ ghost use mathlib.Core.Path.{_≡_};
 ghost use Prim.Native.Nat.{_-_, min};
 ghost use lib.ListN.{length};
 ghost use Rattle.frame.specs.Bias.{bias32};
-ghost use Rattle.watching.specs.Inputs.{freshInputs, slotOf, placeOf, inputStored, inputAt};
+ghost use Rattle.spectator_rules.specs.Inputs.{freshInputs, slotOf, placeOf, inputStored, inputAt};
 ghost use Rattle.spectator.specs.Stores.{inputsOf};
 use frame::BIAS32;
 use frame::NULL_FRAME;
-use watching::PlayerInput;
+use spectator_rules::PlayerInput;
 
 pub struct Inputs {
     pub entries: [PlayerInput; 256],

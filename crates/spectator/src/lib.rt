@@ -1,17 +1,18 @@
 // The spectator session of ggrs (p2p_spectator_session.rs): it replays the inputs that a host's endpoint receives. A state by value; what a call
-// does is `step` of the crate `watching`. On a refusal the session is the very one that the call was made on.
+// does is `step` of the crate `spectator_rules`. On a refusal the session is the very one that the call was made on.
 mod advancing;
+mod creation;
 mod getters;
 mod handling;
 mod hosting;
 mod inputs;
-mod making;
 mod polling;
 mod requests;
-mod telling;
+mod session_events;
 
+// What a caller meets, so that `use spectator::SessionSetup` is enough.
 pub use advancing::Advanced;
-use answer::Answer;
+pub use answer::Answer;
 use endpoint::Endpoint;
 pub use getters::FramesBehind;
 pub use getters::TakenEvents;
@@ -19,10 +20,15 @@ pub use inputs::Inputs;
 pub use polling::Polled;
 pub use requests::Request;
 pub use requests::Requests;
+pub use session_events::SessionEvents;
+pub use spectator_rules::InputStatus;
+pub use spectator_rules::Limits;
+pub use spectator_rules::SessionEntry;
+pub use spectator_rules::SessionEvent;
+pub use spectator_rules::SessionSetup;
+pub use spectator_rules::SessionState;
+pub use spectator_rules::SyncedInput;
 use status::Statuses;
-pub use telling::SessionEvents;
-use watching::Limits;
-use watching::SessionState;
 
 // The host's endpoint; the limits; whether the host is synchronized; the inputs received; the session's copy of the statuses that the host
 // reported; the events that wait to be taken; the last frame advanced and the last one received.
@@ -37,8 +43,8 @@ pub struct SpectatorSession {
     pub last_recv_frame: u32,
 }
 
-// What a call answers, with the session after it.
+// What a call answers, with the session after it. The session comes first: with a byte and a gap in front of it each call would copy it once more.
 pub struct Ended {
-    pub answer: Answer,
     pub session: SpectatorSession,
+    pub answer: Answer,
 }

@@ -2,11 +2,11 @@
 ghost use mathlib.Core.Path.{_≡_};
 ghost use lib.ListN.{length};
 ghost use Rattle.events.specs.Events.{held};
-ghost use Rattle.watching.specs.Call.{Call};
-ghost use Rattle.watching.specs.Handling.{handledAll};
-ghost use Rattle.watching.specs.Step.{step};
+ghost use Rattle.spectator_rules.specs.Call.{Call};
+ghost use Rattle.spectator_rules.specs.Handling.{handledAll};
+ghost use Rattle.spectator_rules.specs.Step.{step};
 ghost use Rattle.spectator.specs.Session.{seen};
-ghost use Rattle.spectator.specs.Parts.{assembled, TermsOf};
+ghost use Rattle.spectator.specs.Inside.Handling.{assembled, TermsOf};
 ghost use Rattle.spectator.specs.Answers.{polledPart, PolledAs, TakenInAs};
 ghost use Rattle.endpoint.specs.Endpoint.{seen as seenHost};
 use crate::SpectatorSession;
@@ -18,8 +18,8 @@ use events::Events;
 
 // What a poll answers, with the session after it, and how many bytes from the buffer's start are handed back.
 pub struct Polled {
-    pub answer: Answer,
     pub session: SpectatorSession,
+    pub answer: Answer,
     pub filled: usize,
 }
 
@@ -28,8 +28,8 @@ impl SpectatorSession {
         ensures { λ r. ⌜ (r .answer ≡ answer) × (r .session ≡ self) × (r .filled ≡ 0) ⌝ }
     {
         Polled {
-            answer,
             session: self,
+            answer,
             filled: 0,
         }
     }
@@ -113,8 +113,8 @@ impl SpectatorSession {
         let session = session.handle_all(old);
         let session = session.handle_all(new.events);
         Polled {
-            answer,
             session,
+            answer,
             filled,
         }
     }

@@ -2,29 +2,39 @@
 ghost use mathlib.Core.Path.{_≡_};
 ghost use mathlib.Core.List.{[], _∷_};
 ghost use Prim.Native.Nat.{_+_, _^_, _≤_};
-ghost use lib.ListN.{take, getD};
+ghost use lib.ListN.{length, take, getD};
 ghost use Rattle.answer.specs.Number.{numberOf};
 ghost use Rattle.status.specs.Status.{defaultStatus};
 ghost use Rattle.status.specs.Statuses.{held};
-ghost use Rattle.spectator.specs.Stores.{inputsOf, requestOf, framesOf};
-ghost use Rattle.spectator.specs.Requesting.{syncedOf, syncedIn, requestIn, requestsIn, refusalIn, refusalsIn};
+ghost use Rattle.spectator.specs.Stores.{inputsOf, requestOf, framesOf, blankSynced};
+ghost use Rattle.spectator.specs.Inside.Requests.{syncedOf, syncedIn, requestIn, requestsIn, refusalIn, refusalsIn};
 use crate::Inputs;
 use answer::Answer;
+use spectator_rules::InputStatus;
+use spectator_rules::PlayerInput;
+use spectator_rules::SyncedInput;
 use status::ConnectionStatus;
 use status::Statuses;
-use watching::InputStatus;
-use watching::PlayerInput;
-use watching::SyncedInput;
 
 // One frame.
 pub struct Request {
     pub inputs: [SyncedInput; 4],
-    pub count: usize,
+    pub used: usize,
 }
 
 pub struct Requests {
     pub frames: [Request; 63],
     pub used: usize,
+}
+
+// What stands in the place of no player.
+fn blank_synced() -> SyncedInput
+    ensures { λ r. ⌜ r ≡ blankSynced ⌝ }
+{
+    SyncedInput {
+        input: [0; 16],
+        status: InputStatus::Confirmed,
+    }
 }
 
 // A player that the host reported as disconnected before the frame is so in it.
@@ -67,7 +77,7 @@ impl Inputs {
         ];
         Request {
             inputs,
-            count: players,
+            used: players,
         }
     }
 
@@ -124,19 +134,64 @@ impl Inputs {
     }
 }
 
+impl Request {
+    fn none() -> Request
+        ensures { λ r. ⌜ requestOf r ≡ [] ⌝ }
+    {
+        let blank = blank_synced();
+        Request {
+            inputs: [blank; 4],
+            used: 0,
+        }
+    }
+
+    // How many players the frame is of.
+    pub fn count(self) -> usize
+        ensures { λ r. ⌜ r ≡ length (requestOf self) ⌝ }
+    {
+        let used = self.used;
+        if used < 4 { used } else { 4 }
+    }
+
+    // What the player does in this frame; past the last player, zeros, Confirmed.
+    pub fn input(self, player: usize) -> SyncedInput
+        ensures { λ r. ⌜ r ≡ getD (requestOf self) player blankSynced ⌝ }
+    {
+        let n = self.count();
+        if player < n {
+            return self.inputs[player];
+        }
+        blank_synced()
+    }
+}
+
 impl Requests {
     pub(crate) fn none() -> Requests
         ensures { λ r. ⌜ framesOf r ≡ [] ⌝ }
     {
+        let none = Request::none();
         Requests {
-            frames: [Request {
-                inputs: [SyncedInput {
-                    input: [0; 16],
-                    status: InputStatus::Confirmed,
-                }; 4],
-                count: 0,
-            }; 63],
+            frames: [none; 63],
             used: 0,
         }
+    }
+
+    // How many frames are advanced.
+    pub fn count(self) -> usize
+        ensures { λ r. ⌜ r ≡ length (framesOf self) ⌝ }
+    {
+        let used = self.used;
+        if used < 63 { used } else { 63 }
+    }
+
+    // The i-th of them, in the order in which they are to be played; past the last, a frame of no players.
+    pub fn frame(self, i: usize) -> Request
+        ensures { λ r. ⌜ requestOf r ≡ getD (framesOf self) i [] ⌝ }
+    {
+        let n = self.count();
+        if i < n {
+            return self.frames[i];
+        }
+        Request::none()
     }
 }

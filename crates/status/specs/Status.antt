@@ -13,7 +13,7 @@ defaultStatus = record { disconnected = false; «last_frame» = nullFrame }
 unfoldable pub reported : Bool → ℕ → ConnectionStatus
 reported d f = record { disconnected = d; «last_frame» = f }
 
--- `disconnected` is the or, `last_frame` the maximum
+-- the or of the flags (M-1), the larger of the frames (M-2)
 unfoldable pub merged : ConnectionStatus → ConnectionStatus → ConnectionStatus
 merged x y = record {
   disconnected = x .disconnected || y .disconnected;

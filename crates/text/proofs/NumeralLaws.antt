@@ -1,4 +1,4 @@
--- Laws of a numeral: its digits are written from the array's end towards the front, and its length tells where it starts.
+-- Laws of a numeral: its digits are written from the array's end towards the front, and its length determines where it starts.
 use borrow.Author.Tests.{le-leb, lt-leb}
 use mathlib.Core.Path.{_≡_, sym, _∙_, ap}
 use mathlib.Core.List.{List, _++_}

@@ -6,14 +6,14 @@ use lib.Dec.{ltb, leb}
 use Rattle.base.specs.Pick.{pick}
 use Rattle.timers.specs.declared.Clocks.{Clocks}
 
--- clocks at most 2^62 - 1
+-- a reading above its ceiling (C-11)
 abbrev pub badClock : ℕ → Bool
 badClock now = leb (2 ^ 62) now
 
 abbrev pub badClocks : (now epoch : ℕ) → Bool
 badClocks now epoch = badClock now || badClock epoch
 
--- thresholds are strict, last + 200 < now
+-- a wait is over strictly after its end (E-45)
 abbrev pub passed : (last wait now : ℕ) → Bool
 passed last wait now = ltb (last + wait) now
 

@@ -39,7 +39,7 @@ pub fn time_if(due: bool, now: u64, last: u64) -> u64
     last
 }
 
-// The thin setter that document 01 asks for: the clocks are lent to it by `&mut` and set in place. A function over `&mut` of a struct is proved by
+// The thin setter that F-7 asks for: the clocks are lent to it by `&mut` and set in place. A function over `&mut` of a struct is proved by
 // hand, so there is one for all clocks, which writes the record whole; the steps below say by value which clock changes.
 fn set(clocks: &mut Clocks, next: Clocks)
     ensures { λ _. ⌜ now (clocks .exit) ≡ next ⌝ }

@@ -170,7 +170,7 @@ fn refused_overflow(world: &World, r: &Record, done: &Done) {
     PLACES.with(|p| *p.borrow_mut().entry(place).or_default() += 1);
 }
 
-/// bincode reads and writes back what document 01 reads; of the rest it reads what is too long
+/// bincode reads and writes back what the rules read; of the rest it reads what is too long
 /// or has bytes left over.
 fn bincode_agrees(datagram: &[u8]) {
     let read: Result<Message, _> = bincode::deserialize(datagram);

@@ -1,12 +1,12 @@
-//! What the crate does where document 01 refuses or changes it: the smallest inputs, run on the
+//! What the crate does where the rules refuse a call or differ: the smallest inputs, run on the
 //! crate itself. The build with overflow checks shows where it would overflow.
 
 use std::panic::{catch_unwind, AssertUnwindSafe};
 
 use super::audit::{last_panic, overflow_checks};
 use super::end::{inputs, End, Readings};
-use super::gen::setups::plain;
-use super::gen::with_magic;
+use super::gen::good_setups::plain;
+use super::gen::message::with_magic;
 use super::record::Setup;
 use super::watcher::Watcher;
 use crate::network::messages::{
@@ -15,7 +15,7 @@ use crate::network::messages::{
 use crate::network::protocol::Event;
 
 struct Case {
-    /// What is given, and what document 01 answers.
+    /// What is given, and what the rules answer.
     given: &'static str,
     answer: &'static str,
     /// What the crate does.
@@ -361,7 +361,7 @@ const CASES: [Case; 32] = [
 pub fn print() -> Result<(), String> {
     let checks = if overflow_checks() { "on" } else { "off" };
     println!("overflow checks {checks}\n");
-    println!("| given | document 01 | the crate |\n|---|---|---|");
+    println!("| given | the rules | the crate |\n|---|---|---|");
     for case in CASES {
         let outcome = catch_unwind(AssertUnwindSafe(case.run));
         let text = outcome.unwrap_or_else(|_| format!("panics, {}", first_line(&last_panic())));

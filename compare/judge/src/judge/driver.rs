@@ -444,7 +444,7 @@ fn stats(verdict: Verdict, early: bool, ask: impl FnOnce() -> Result<NetworkStat
             Verdict::Go
         }
     };
-    assert_eq!(answer, verdict, "the crate and document 01 differ in network_stats");
+    assert_eq!(answer, verdict, "the crate and the rules differ in network_stats");
     done(answer, given)
 }
 
@@ -465,7 +465,7 @@ fn advance(
             Verdict::Go
         }
     };
-    assert_eq!(answer, verdict, "the crate and document 01 differ in advance");
+    assert_eq!(answer, verdict, "the crate and the rules differ in advance");
     done(answer, given)
 }
 

@@ -121,5 +121,5 @@ pub(crate) fn list(statuses: &[ConnectionStatus; 4], count: usize) -> &[Connecti
 }
 
 pub(crate) fn message_of(datagram: &[u8]) -> Message {
-    bincode::deserialize(datagram).expect("bincode reads what document 01 reads")
+    bincode::deserialize(datagram).expect("bincode reads what the rules read")
 }

@@ -1,4 +1,4 @@
-//! The rows of document 01 as marks on calls: each names a rule or an edge of one, and a run of
+//! The rules as marks on calls: each mark names a rule or an edge of one, and a run of
 //! the generator (and the stored sample) must meet them all.
 
 use super::driver::Done;

@@ -38,7 +38,7 @@ judge compare DIR                       run DIR's scripts and hold them against 
 judge find DIR                          the first difference alone; fails if there is none
 judge sample DIR                        write the stored sample
 judge show SCRIPT [ANSWERS]             both as text (without ANSWERS: the crate's, whole)
-judge beyond                            what the crate does outside document 01's limits
+judge beyond                            what the crate does where the rules refuse or differ
 judge bench ITEM COUNT                  repeat an item: nanoseconds of one, and a sum
 judge check FIRST COUNT [DIR]           generate COUNT scripts, check and count; write them to DIR";
 
@@ -112,7 +112,7 @@ fn check(first: u64, count: u64, dir: Option<&str>) -> Result<(), String> {
     tally.print();
     let places = audit::overflow_places();
     if !places.is_empty() {
-        println!("\nwhere the crate overflows (calls that document 01 refuses by 6, tried on a copy)");
+        println!("\nwhere the crate overflows (calls that are refused by 6, tried on a copy)");
         for (place, count) in places {
             println!("  {count:>8}  {place}");
         }

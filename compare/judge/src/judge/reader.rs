@@ -1,4 +1,4 @@
-//! A second reading of document 01's datagram rules: field by field, the first fault wins, 12 as
+//! A second reading of the datagrams' rules: field by field, the first fault wins, 12 as
 //! soon as a count is read, 13 last. It says only what is wrong; bincode gives the message.
 
 use super::refusals::{BAD_BOOL, BAD_KIND, EXTRA, SHORT, TOO_LONG};

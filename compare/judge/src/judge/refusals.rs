@@ -1,13 +1,12 @@
-//! A second reading of document 01's refusals: one function per call, the tests named as in its
-//! table, in its order (8, 1, 3, 7, silent, 2, 4, 12, 6, 5; 14 before 15). It was written from
-//! document 01 and its decided points, apart from the definitions that are proved, but with the
-//! crate at hand: a slip that those points or the crate suggest may stand here too.
+//! A second reading of the refusals (docs/RULES.md): one function per call, the tests named as in
+//! their table, in their order (8, 1, 3, 7, silent, 2, 4, 12, 6, 5; 14 before 15). It was written
+//! from the rules and the points decided about them, apart from the definitions that are proved, but
+//! with the crate at hand: a slip that those points or the crate suggest may stand here too.
 //! Nothing here asks the crate; `audit` then holds 5 and 6 against the crate's own doing.
 
 use super::record::Setup;
 use super::snapshot::{Phase, Snapshot, SpectatorSnapshot};
 use crate::network::messages::{ChecksumReport, Input, Message, MessageBody, SyncReply};
-use crate::DesyncDetection;
 
 pub const BAD_SETUP: u8 = 1;
 pub const WRONG_STATE: u8 = 2;
@@ -36,7 +35,7 @@ pub const TIMEOUT_MAX: u64 = 1 << 31;
 /// The crate cleans its checksums up from this many on, and keeps this many less one intervals.
 const CHECKSUM_CLEAN_UP: usize = 32;
 
-/// What document 01 says before anything is done.
+/// What the rules say before anything is done.
 #[derive(Copy, Clone, Debug, PartialEq, Eq)]
 pub enum Verdict {
     /// The call is refused with this number.
@@ -260,17 +259,10 @@ fn input(s: &Snapshot, body: &Input, buffer: usize) -> Verdict {
     ])
 }
 
-fn interval(s: &Snapshot) -> i64 {
-    match s.desync {
-        DesyncDetection::On { interval } => i64::from(interval),
-        DesyncDetection::Off => 1,
-    }
-}
-
 /// With 32 or more stored, those below frame - 31 x interval go first; a stored frame is replaced.
 fn checksum_report(s: &Snapshot, body: &ChecksumReport, buffer: usize) -> Verdict {
     let cleans = s.checksums.len() >= CHECKSUM_CLEAN_UP;
-    let keep_line = i64::from(body.frame) - (CHECKSUM_CLEAN_UP as i64 - 1) * interval(s);
+    let keep_line = i64::from(body.frame) - (CHECKSUM_CLEAN_UP as i64 - 1) * i64::from(s.checksum_interval());
     let stays = |frame: i32| !cleans || i64::from(frame) >= keep_line;
     let others = s.checksums.iter().filter(|(f, _)| stays(*f) && *f != body.frame).count();
     let adds = Adds { events: usize::from(s.resumes()), ..Adds::default() };

@@ -84,6 +84,14 @@ impl Snapshot {
         self.acked.bytes.len()
     }
 
+    /// The frames from one checksum report to the next; 1 where there are no reports.
+    pub fn checksum_interval(&self) -> u32 {
+        match self.desync {
+            DesyncDetection::On { interval } => interval,
+            DesyncDetection::Off => 1,
+        }
+    }
+
     pub fn holds(&self, frame: Frame) -> bool {
         self.history.iter().any(|s| s.frame == frame)
     }

@@ -125,7 +125,7 @@ impl Tally {
             println!("  {:<10} {:<20} {count:>8}", "session", EVENTS[*number]);
         }
         println!("\nsetups: {} of 64 pairs of S and players met", self.sizes.len());
-        println!("\nrows of document 01 (marks)");
+        println!("\nrules and their edges (marks)");
         for name in marks::ALL.iter().chain(&marks::SPECTATOR_ALL) {
             println!("  {:>8}  {name}", self.marks.get(name).copied().unwrap_or(0));
         }
@@ -240,7 +240,7 @@ fn reachable_phases(watching: bool) -> &'static [Phase] {
     }
 }
 
-/// Which call can give which answer, by document 01's table and order.
+/// Which call can give which answer, by the table of refusals and their order.
 fn reachable() -> Vec<(bool, Call, u8)> {
     let mut all = Vec::new();
     for watching in [false, true] {

@@ -1,9 +1,8 @@
 //! The formats undo themselves, and the digest is the common CRC-32.
 
 use super::canon::crc32;
-use super::gen::damage::bodies;
-use super::gen::setups::plain;
-use super::gen::with_magic;
+use super::gen::good_setups::plain;
+use super::gen::message::{bodies, with_magic};
 use super::reader;
 use super::record::{Call, Record, Setup, RECORD, SETUP};
 use super::value;

@@ -39,7 +39,7 @@ impl Phase {
 }
 
 impl<T: Config> UdpProtocol<T> {
-    /// Whether `update_local_frame_advantage` would leave i32, which document 01 answers by 6.
+    /// Whether `update_local_frame_advantage` would leave i32, which is refused by 6.
     pub(crate) fn advantage_leaves_i32(&self, local_frame: Frame) -> bool {
         refusals::advantage_overflow(
             self.last_recv_frame(),
@@ -190,9 +190,5 @@ impl UdpProtocol<Cfg> {
             self.pending_checksums.len(),
             self.queued_bytes().len(),
         ]
-    }
-
-    pub(crate) fn history_len(&self) -> usize {
-        self.recv_inputs.len()
     }
 }

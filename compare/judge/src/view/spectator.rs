@@ -9,7 +9,7 @@ impl SpectatorSession<Cfg> {
         &self.host
     }
 
-    /// Document 01 makes handing over a message and taking messages calls of their own.
+    /// Here handing over a message and taking messages are calls of their own.
     pub(crate) fn host_mut(&mut self) -> &mut UdpProtocol<Cfg> {
         &mut self.host
     }

@@ -1,4 +1,4 @@
-//! Stands in for src/network/compression.rs: document 01's packing.
+//! Stands in for src/network/compression.rs: the packing of the rules.
 //! Each frame XOR the one reference, end to end; decodable exactly when the length is a multiple of W.
 
 pub(crate) fn encode<'a>(reference: &[u8], pending_input: impl Iterator<Item = &'a Vec<u8>>) -> Vec<u8> {

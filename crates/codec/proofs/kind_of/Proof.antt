@@ -1,4 +1,4 @@
--- `kind_of` goes by the variant, and each arm is told which it is.
+-- `kind_of` goes by the variant, which is known in each arm.
 use borrow.Author.Needs.{needs}
 use Rattle.codec.specs.Message.{kindOf}
 use Rattle.codec.proofs.kind_of.Statement.{statement}

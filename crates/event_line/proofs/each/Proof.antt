@@ -1,5 +1,4 @@
 -- `each` lays one line a turn.
-use borrow.Author.Needs.{needs}
 use mathlib.Core.Path.{_≡_, refl, sym, _∙_}
 use Prim.Native.Nat.{_-_}
 use native.Mathlib.Omega.{arith}
@@ -42,12 +41,18 @@ loop-less c = omega arith
 
 loop-again : tie.Need-loop-again Inv-loop μ-loop
 loop-again c =
-    let l = c .before .before .before .before .before .before .before .loop in
-    let n = c .before .before .before .before .before .before .before .before .count .ensures in
-    let a = c .before .before .before .before .before .before .before .before .before .before .args in
-    let e = c .before .before .before .before .before .entry .ensures in
-    let line = rw (c .before .before .before .before .named .ensures .text, e) at (c .before .before .lay-into .ensures) in
-    (c .before .before .lay-into .kept .1 .0 ∙ l .inv .0, turn (a .name) (a .size) (held (a .events)) (l .i) blankEntry _ _ (omega arith) line ∙ l .inv .1)
+    let after-named : tie.After-named Inv-loop μ-loop = search in
+    let after-lay-into : tie.After-lay-into Inv-loop μ-loop = search in
+    let at-loop : tie.At-loop Inv-loop μ-loop = search in
+    let l = at-loop .loop in
+    let after-count : tie.After-count Inv-loop μ-loop = search in
+    let n = after-count .count .ensures in
+    let start : tie.Start Inv-loop μ-loop = search in
+    let a = start .args in
+    let after-entry : tie.After-entry Inv-loop μ-loop = search in
+    let e = after-entry .entry .ensures in
+    let line = rw (after-named .named .ensures .text, e) at (after-lay-into .lay-into .ensures) in
+    (after-lay-into .lay-into .kept .1 .0 ∙ l .inv .0, turn (a .name) (a .size) (held (a .events)) (l .i) blankEntry _ _ (omega arith) line ∙ l .inv .1)
 
 same-length : tie.Need-same-length Inv-loop μ-loop
 same-length c = c .before .loop .inv .0
@@ -55,8 +60,10 @@ same-length c = c .before .loop .inv .0
 returns : tie.Need-returns Inv-loop μ-loop
 returns c =
     let l = c .before .loop in
-    let n = c .before .before .count .ensures in
-    let a = c .before .before .before .before .args in
+    let after-count : tie.After-count Inv-loop μ-loop = search in
+    let n = after-count .count .ensures in
+    let start : tie.Start Inv-loop μ-loop = search in
+    let a = start .args in
     sym (all-laid (a .name) (a .size) (held (a .events)) (l .i) (page (l .out) (l .end)) (omega arith)) ∙ l .inv .1
 
 pub each-spec : {M : Type 1} → statement M

@@ -20,10 +20,15 @@ same-length c = search needs
 
 returns : tie.Need-returns
 returns c =
-    let a = c .before .before .before .before .before .before .before .before .args in
-    let n = c .before .before .before .before .before .before .count .ensures in
-    none-lines (a .name) (a .size) (held (a .events)) _ _ (sym n ∙ c .before .before .before .before .before .if1 .taken)
-    (rw (c .before .before .before .before .none .ensures .text) at (c .before .before .lay-into .ensures))
+    let then1 : tie.Then1 = search in
+    let after-none : tie.After-none = search in
+    let after-lay-into : tie.After-lay-into = search in
+    let start : tie.Start = search in
+    let a = start .args in
+    let after-count : tie.After-count = search in
+    let n = after-count .count .ensures in
+    none-lines (a .name) (a .size) (held (a .events)) _ _ (sym n ∙ then1 .if1 .taken)
+    (rw (after-none .none .ensures .text) at (after-lay-into .lay-into .ensures))
 
 each-requires : tie.Need-each-requires
 each-requires c κs = search needs
@@ -33,9 +38,13 @@ same-length-2 c = search needs
 
 returns-2 : tie.Need-returns-2
 returns-2 c =
-    let a = c .before .before .before .before .before .before .before .args in
-    let n = c .before .before .before .before .before .count .ensures in
-    rw (some-lines (a .name) (a .size) (held (a .events)) (λ e. c .before .before .before .before .if1 .left (n ∙ e))) at (c .before .before .each .ensures)
+    let else1 : tie.Else1 = search in
+    let after-each : tie.After-each = search in
+    let start : tie.Start = search in
+    let a = start .args in
+    let after-count : tie.After-count = search in
+    let n = after-count .count .ensures in
+    rw (some-lines (a .name) (a .size) (held (a .events)) (λ e. else1 .if1 .left (n ∙ e))) at (after-each .each .ensures)
 
 pub lines-spec : {M : Type 1} → statement M
 lines-spec =

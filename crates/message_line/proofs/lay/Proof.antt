@@ -16,7 +16,7 @@ full-requires c κs = search needs
 
 returns : tie.Need-returns
 returns c =
-    let s = c .before .before .before .before .before in
+    let s : tie.Start = search in
     no-room (s .args .out .now) (s .args .at) (s .args .head) (s .args .payload .now) (long s) (s .pre) _ (c .full .ensures) (omega arith)
 
 full-requires-2 : tie.Need-full-requires-2
@@ -24,7 +24,7 @@ full-requires-2 c κs = search needs
 
 returns-2 : tie.Need-returns-2
 returns-2 c =
-    let s = c .before .before .before .before .before .before in
+    let s : tie.Start = search in
     no-room (s .args .out .now) (s .args .at) (s .args .head) (s .args .payload .now) (long s) (s .pre) _ (c .full2 .ensures) (omega arith)
 
 sub-if3 : tie.Need-sub-if3
@@ -35,16 +35,16 @@ full-requires-3 c κs = search needs
 
 returns-3 : tie.Need-returns-3
 returns-3 c =
-    let s = c .before .before .before .before .before .before .before in
+    let s : tie.Start = search in
     no-room (s .args .out .now) (s .args .at) (s .args .head) (s .args .payload .now) (long s) (s .pre) _ (c .full3 .ensures) (omega arith)
 
 array-share-prefix-bytes : tie.Need-array-share-prefix-bytes
-array-share-prefix-bytes c = omega (arith, long (c .before .before .before .before .before .before .before))
+array-share-prefix-bytes c = omega (arith, long search)
 
 slice-aggregate-append : tie.Need-slice-aggregate-append
 unfolding drafted
 slice-aggregate-append c =
-    let s = c .before .before .before .before .before .before .before .before in
+    let s : tie.Start = search in
     sym (drafted-length (s .args .head) (long s) (s .pre))
 
 append-requires : tie.Need-append-requires
@@ -71,9 +71,10 @@ same-length c = search needs
 returns-4 : tie.Need-returns-4
 unfolding drafted
 returns-4 c =
-    let a = c .before .before .before .before .before .before in
-    let s = a .before .before .before .before .before .before .before .before .before in
-    both-laid (s .args .out .now) (s .args .at) (s .args .head) (s .args .payload .now) (long s) (s .pre) _ _ _ _ (a .append .ensures) (c .before .before .hex .ensures) (omega arith)
+    let after-hex : tie.After-hex = search in
+    let a : tie.After-append = search in
+    let s : tie.Start = search in
+    both-laid (s .args .out .now) (s .args .at) (s .args .head) (s .args .payload .now) (long s) (s .pre) _ _ _ _ (a .append .ensures) (after-hex .hex .ensures) (omega arith)
 
 pub lay-spec : {M : Type 1} → statement M
 lay-spec =

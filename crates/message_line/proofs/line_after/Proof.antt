@@ -23,9 +23,12 @@ same-length c = search needs
 returns : tie.Need-returns
 unfolding ascii
 returns c =
-    let line = c .before .before .before .before .before .before .before .line in
-    let first = c .before .before .before .before .before .before .before .before .before .before .before .lay in
-    three-pieces _ _ _ _ _ _ _ (first .ensures) (line-page _ _ _ (line .result) _ (line .ensures)) (c .before .before .lay2 .ensures)
+    let after-lay2 : tie.After-lay2 = search in
+    let after-line : tie.After-line = search in
+    let line = after-line .line in
+    let after-lay : tie.After-lay = search in
+    let first = after-lay .lay in
+    three-pieces _ _ _ _ _ _ _ (first .ensures) (line-page _ _ _ (line .result) _ (line .ensures)) (after-lay2 .lay2 .ensures)
 
 pub line-after-spec : {M : Type 1} → statement M
 line-after-spec =

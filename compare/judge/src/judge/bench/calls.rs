@@ -3,7 +3,7 @@
 use std::hint::black_box;
 
 use super::ends::{clocks, inputs, message, running, statuses, Game, Small, MAGIC, OTHER, START};
-use super::{in_batches, timed};
+use super::timing::{in_batches, timed};
 use crate::network::messages::{Input, InputAck, Message, MessageBody};
 
 /// How many inputs wait for their acknowledgement while another is sent.

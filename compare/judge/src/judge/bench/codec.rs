@@ -2,7 +2,7 @@
 
 use std::hint::black_box;
 
-use super::{in_batches, timed};
+use super::timing::{in_batches, timed};
 use crate::network::messages::{ConnectionStatus, Input, Message, MessageBody, MessageHeader};
 
 /// An Input of 31 + 5 per player + 1 per payload byte.

@@ -5,7 +5,7 @@ use std::cell::RefCell;
 use std::rc::Rc;
 
 use super::ends::{clocks, inputs, running, statuses, Small, MAGIC, OTHER, START};
-use super::{timed, Part};
+use super::timing::{timed, Part};
 use crate::network::messages::Message;
 use crate::network::protocol::{Event, UdpProtocol};
 use crate::NonBlockingSocket;

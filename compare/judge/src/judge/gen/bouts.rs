@@ -1,7 +1,8 @@
-//! Document 01's worked bouts, run on the crate and held against the document's last column.
+//! The worked bouts P1 to P14, run on the crate and held against their outcomes.
 
-use super::setups::plain;
-use super::{with_magic, Gen, A, B};
+use super::good_setups::plain;
+use super::message::{cut, with_magic};
+use super::script::{Gen, A, B};
 use crate::judge::record::{Call, Record, Setup};
 use crate::judge::snapshot::Phase;
 use crate::network::messages::{ConnectionStatus, Input, Message, MessageBody, QualityReply};
@@ -42,7 +43,7 @@ fn told(g: &mut Gen, object: u8) -> (Vec<(i32, Vec<u8>)>, Vec<i32>) {
     });
     let frames = frames.collect();
     let mut acks = Vec::new();
-    for (start, end) in super::cut(&s.queued) {
+    for (start, end) in cut(&s.queued) {
         let message: Message = bincode::deserialize(&s.queued[start..end]).expect("queued");
         if let MessageBody::InputAck(body) = message.body {
             acks.push(body.ack_frame);

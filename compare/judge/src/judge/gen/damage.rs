@@ -1,35 +1,11 @@
 //! Malformed datagrams: good ones cut at every length, with bytes to spare, with wrong kinds,
 //! flags and counts, and with random bytes changed; in several phases and from another peer.
 
-use super::chaos::any_message;
-use super::setups::plain;
-use super::{with_magic, Gen, A};
+use super::arbitrary::any_message;
+use super::good_setups::plain;
+use super::message::{bodies, with_magic};
+use super::script::{Gen, A};
 use crate::judge::record::{Call, SPECTATOR};
-use crate::network::messages::{
-    ChecksumReport, ConnectionStatus, Input, InputAck, MessageBody, QualityReply, QualityReport, SyncReply,
-    SyncRequest,
-};
-
-/// A small one of each kind.
-pub(crate) fn bodies() -> Vec<MessageBody> {
-    let status = ConnectionStatus { disconnected: true, last_frame: 3 };
-    vec![
-        MessageBody::SyncRequest(SyncRequest { random_request: 0x0102_0304 }),
-        MessageBody::SyncReply(SyncReply { random_reply: 0x0102_0304 }),
-        MessageBody::Input(Input {
-            peer_connect_status: vec![status, status],
-            disconnect_requested: false,
-            start_frame: 0,
-            ack_frame: -1,
-            bytes: vec![5, 7],
-        }),
-        MessageBody::InputAck(InputAck { ack_frame: -1 }),
-        MessageBody::QualityReport(QualityReport { frame_advantage: -2, ping: 1 << 70 }),
-        MessageBody::QualityReply(QualityReply { pong: 12 }),
-        MessageBody::ChecksumReport(ChecksumReport { checksum: 1 << 100, frame: -7 }),
-        MessageBody::KeepAlive,
-    ]
-}
 
 pub(crate) fn datagrams(g: &mut Gen) {
     damaged(g, A);

@@ -1,68 +1,11 @@
 //! Honest exchanges of two ends over a network that loses, repeats, reorders and delays.
 
-use super::setups::any;
-use super::{cut, Gen, A, B};
-use crate::judge::record::{Call, Record, Setup, SPECTATOR};
+use super::good_setups::any;
+use super::moves::look;
+use super::net::Net;
+use super::script::{Gen, A, B};
+use crate::judge::record::{Call, Record, Setup};
 use crate::judge::snapshot::Phase;
-
-/// One message under way; `at` is its place in the sender's buffer.
-struct Flight {
-    to: u8,
-    due: u64,
-    from: u8,
-    at: usize,
-    bytes: Vec<u8>,
-}
-
-pub(crate) struct Net {
-    flights: Vec<Flight>,
-    pub loss: u64,
-    pub repeat: u64,
-    pub delay: u64,
-}
-
-impl Net {
-    pub fn new(loss: u64, repeat: u64, delay: u64) -> Self {
-        Self { flights: Vec::new(), loss, repeat, delay }
-    }
-
-    /// Puts what an end sent on the way to the other.
-    pub fn send(&mut self, g: &mut Gen, from: u8, to: u8, part: &[u8]) {
-        for (start, end) in cut(part) {
-            let copies = 1 + u64::from(g.rng.chance(self.repeat));
-            for _ in 0..copies {
-                if !g.rng.chance(self.loss) {
-                    let due = g.now + g.rng.below(self.delay + 1);
-                    let bytes = part[start..end].to_vec();
-                    self.flights.push(Flight { to, due, from, at: start, bytes });
-                }
-            }
-        }
-    }
-
-    /// Hands over what is due; from the sender's buffer where the bytes still stand there.
-    pub fn deliver(&mut self, g: &mut Gen) {
-        let mut at = 0;
-        while at < self.flights.len() {
-            if self.flights[at].due > g.now {
-                at += 1;
-                continue;
-            }
-            let flight = self.flights.remove(at);
-            let place = flight.at..flight.at + flight.bytes.len();
-            let stands = g.world.buffers[usize::from(flight.from)][place] == flight.bytes[..];
-            let mut r = g.record(if stands { Call::Carry } else { Call::Datagram }, flight.to);
-            r.number = g.host(flight.to).peer;
-            r.payload = if stands {
-                let place = [u32::from(flight.from), flight.at as u32, flight.bytes.len() as u32];
-                place.iter().flat_map(|n| n.to_le_bytes()).collect()
-            } else {
-                flight.bytes
-            };
-            g.issue(r);
-        }
-    }
-}
 
 /// Two setups whose widths match: each end's handles are as many as the other's local players.
 fn pair(g: &mut Gen) -> (Setup, Setup) {
@@ -171,29 +114,9 @@ fn turn(g: &mut Gen, net: &mut Net, own: u8, other: u8, first: i32) {
 /// A checksum report of a frame that is a multiple of the interval.
 fn report(g: &mut Gen, own: u8) {
     let mut r = g.record(Call::SendChecksumReport, own);
-    let interval = match g.host(own).desync {
-        crate::DesyncDetection::On { interval } => interval as i32,
-        crate::DesyncDetection::Off => 1,
-    };
+    let interval = g.host(own).checksum_interval() as i32;
     let last = g.host(own).last_accepted().unwrap_or(0);
     r.frame = last - last % interval;
     r.payload = g.rng.bytes(16);
     g.issue(r);
-}
-
-/// Statistics, status, getters, and the whole array behind the buffer.
-pub(crate) fn look(g: &mut Gen, own: u8) {
-    g.issue(Record::new(Call::Buffer, own));
-    g.call(Call::NetworkStats, own);
-    let mut r = Record::new(Call::Getters, own);
-    r.number = if g.rng.chance(70) { g.host(own).peer } else { g.rng.next() as u32 };
-    if own == SPECTATOR {
-        r.number = 0;
-    }
-    g.issue(r);
-    if own != SPECTATOR {
-        let mut r = Record::new(Call::PeerConnectStatus, own);
-        r.number = g.rng.pick(&[0, 0, 1, 1, 2, 3, 4, u32::MAX]);
-        g.issue(r);
-    }
 }

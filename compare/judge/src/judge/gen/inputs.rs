@@ -1,7 +1,8 @@
 //! Every rule about an Input packet, one after the other, on an endpoint and on a spectator's host.
 
-use super::setups::plain;
-use super::{with_magic, Gen, A};
+use super::good_setups::plain;
+use super::message::with_magic;
+use super::script::{Gen, A};
 use crate::judge::record::{Call, Record, Setup, SPECTATOR};
 use crate::judge::snapshot::Phase;
 use crate::judge::value;

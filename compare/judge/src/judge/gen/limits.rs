@@ -1,12 +1,12 @@
 //! Scripts that run into one ceiling each: nonces, pending inputs, events, checksums, buffers,
 //! clocks.
 
-use super::chaos::plain_input;
-use super::honest::look;
-use super::setups::{any, plain};
-use super::{with_magic, Gen, A, B};
+use super::good_setups::{any, plain};
+use super::message::with_magic;
+use super::moves::{fill_nonces, look, plain_input};
+use super::script::{Gen, A, B};
 use crate::judge::record::{Call, Record, Setup, BUFFER};
-use crate::judge::refusals::{CLOCK_MAX, EVENTS_MAX, NONCES_MAX, PENDING_MAX};
+use crate::judge::refusals::{CLOCK_MAX, EVENTS_MAX, PENDING_MAX};
 use crate::judge::snapshot::Phase;
 use crate::judge::value;
 use crate::network::messages::{
@@ -41,16 +41,6 @@ pub(crate) fn nonces(g: &mut Gen) {
     let late = g.host(A).nonces[0];
     let body = MessageBody::SyncReply(SyncReply { random_reply: late });
     g.hand(A, &with_magic(5, body));
-}
-
-pub(crate) fn fill_nonces(g: &mut Gen, own: u8) {
-    while g.host(own).nonces.len() < NONCES_MAX {
-        g.pass(201);
-        g.act(own);
-        if g.host(own).queued.len() > 300 {
-            g.call(Call::TakeMessages, own);
-        }
-    }
 }
 
 /// 129 pending, the 130th, acknowledgements of some and of all, and a resend of the lot.

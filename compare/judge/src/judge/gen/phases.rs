@@ -1,10 +1,9 @@
 //! One endpoint walked through every phase, with every kind of message and every call in each.
 
-use super::chaos::plain_input;
-use super::damage::bodies;
-use super::honest::look;
-use super::setups::plain;
-use super::{with_magic, Gen, A};
+use super::good_setups::plain;
+use super::message::{bodies, with_magic};
+use super::moves::{look, plain_input};
+use super::script::{Gen, A};
 use crate::judge::record::{Call, Record, Setup};
 use crate::judge::snapshot::Phase;
 use crate::network::messages::{MessageBody, QualityReply};

@@ -1,11 +1,11 @@
 //! The spectator: honest broadcasts from an endpoint, adversarial ones, and its ceilings.
 
-use super::chaos::{message_to_host, plain_input, tick};
-use super::damage::bodies;
-use super::honest::{look, Net};
-use super::limits::fill_nonces;
-use super::setups::{any, plain};
-use super::{with_magic, Gen, A};
+use super::arbitrary::any_message;
+use super::good_setups::{any, plain};
+use super::message::{bodies, with_magic};
+use super::moves::{fill_nonces, look, plain_input, tick};
+use super::net::Net;
+use super::script::{Gen, A};
 use crate::judge::record::{Call, Record, Setup, SPECTATOR};
 use crate::judge::refusals::{CLOCK_MAX, EVENTS_MAX};
 use crate::judge::snapshot::Phase;
@@ -101,7 +101,7 @@ fn watch_steps(g: &mut Gen, base: i32, count: usize) {
     for _ in 0..count {
         tick(g, SPECTATOR);
         match g.rng.below(100) {
-            0..=54 => message_to_host(g, base),
+            0..=54 => any_message(g, SPECTATOR, base),
             55..=74 => {
                 g.act(SPECTATOR);
             }

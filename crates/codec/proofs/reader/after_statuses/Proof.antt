@@ -8,7 +8,7 @@ use Rattle.codec.specs.Message.{isInput, listed, meant}
 use Rattle.answer.specs.declared.Answer.the-variants.{Short, BadBool, TooLong}
 use Rattle.base.proofs.Arrays.{unmap}
 use lib.ListN.{length, take, drop, length-take}
-use Prim.Native.Nat.{ℕ, _+_, _*_, _-_, _≤_}
+use Prim.Native.Nat.{ℕ, _+_, _*_, _≤_}
 use mathlib.Core.Path.{_≡_, sym, _∙_, ap}
 use native.Mathlib.Omega.{arith}
 use borrow.Author.Needs.{needs}
@@ -35,7 +35,7 @@ refused-requires c κs = search needs
 
 returns : tie.Need-returns
 returns c =
-    let s = c .before .before .before in
+    let s : tie.Start = search in
     let d = s .args .d .now in
     let r = s .args .reports in
     let at = 14 + 5 * r .count in
@@ -49,7 +49,7 @@ refused-requires-2 c κs = search needs
 
 returns-2 : tie.Need-returns-2
 returns-2 c =
-    let s = c .before .before .before .before .before in
+    let s : tie.Start = search in
     let d = s .args .d .now in
     let r = s .args .reports in
     let at = 14 + 5 * r .count in
@@ -60,11 +60,12 @@ refused-requires-3 c κs = search needs
 
 returns-3 : tie.Need-returns-3
 returns-3 c =
-    let s = c .before .before .before .before .before .before in
+    let s : tie.Start = search in
     let d = s .args .d .now in
     let r = s .args .reports in
     let at = 14 + 5 * r .count in
-    refused-front d _ (c .refused3 .result) Short (c .refused3 .ensures) (few-bytes d at (numberAt 2 0 d) (listed r) (omega (arith, s .pre .1)) (c .before .before .if2 .left) (omega arith)) (λ e. omega arith)
+    let else2 : tie.Else2 = search in
+    refused-front d _ (c .refused3 .result) Short (c .refused3 .ensures) (few-bytes d at (numberAt 2 0 d) (listed r) (omega (arith, s .pre .1)) (else2 .if2 .left) (omega arith)) (λ e. omega arith)
 
 add-number8 : tie.Need-add-number8
 add-number8 c = search needs
@@ -77,11 +78,13 @@ refused-requires-4 c κs = search needs
 
 returns-4 : tie.Need-returns-4
 returns-4 c =
-    let s = c .before .before .before .before .before .before .before .before in
+    let s : tie.Start = search in
     let d = s .args .d .now in
     let r = s .args .reports in
     let at = 14 + 5 * r .count in
-    refused-front d _ (c .refused4 .result) TooLong (c .refused4 .ensures) (long-payload d at (numberAt 2 0 d) (listed r) (omega (arith, s .pre .1)) (c .before .before .before .before .if2 .left) (omega arith) (rw (c .before .before .number8 .ensures) at (c .before .if4 .taken))) (λ e. omega arith)
+    let else2 : tie.Else2 = search in
+    let after-number8 : tie.After-number8 = search in
+    refused-front d _ (c .refused4 .result) TooLong (c .refused4 .ensures) (long-payload d at (numberAt 2 0 d) (listed r) (omega (arith, s .pre .1)) (else2 .if2 .left) (omega arith) (rw (after-number8 .number8 .ensures) at (c .before .if4 .taken))) (λ e. omega arith)
 
 sub-if5 : tie.Need-sub-if5
 sub-if5 c = search needs
@@ -91,11 +94,14 @@ refused-requires-5 c κs = search needs
 
 returns-5 : tie.Need-returns-5
 returns-5 c =
-    let s = c .before .before .before .before .before .before .before .before .before in
+    let s : tie.Start = search in
     let d = s .args .d .now in
     let r = s .args .reports in
     let at = 14 + 5 * r .count in
-    refused-front d _ (c .refused5 .result) Short (c .refused5 .ensures) (short-payload d at (numberAt 2 0 d) (listed r) (omega (arith, s .pre .1)) (c .before .before .before .before .before .if2 .left) (omega arith) (rw (c .before .before .before .number8 .ensures) at (c .before .before .if4 .left)) (rw (← c .before .before .before .number8 .ensures) (omega (arith, c .before .if5 .taken)))) (λ e. omega arith)
+    let else2 : tie.Else2 = search in
+    let after-number8 : tie.After-number8 = search in
+    let else4 : tie.Else4 = search in
+    refused-front d _ (c .refused5 .result) Short (c .refused5 .ensures) (short-payload d at (numberAt 2 0 d) (listed r) (omega (arith, s .pre .1)) (else2 .if2 .left) (omega arith) (rw (after-number8 .number8 .ensures) at (else4 .if4 .left)) (rw (← after-number8 .number8 .ensures) (omega (arith, c .before .if5 .taken)))) (λ e. omega arith)
 
 number2-requires : tie.Need-number2-requires
 number2-requires c κs = search needs
@@ -127,21 +133,27 @@ counted c = omega (arith, length-take (c .args .reports .count) (c .args .report
 returns-6 : tie.Need-returns-6
 unfolding meant isInput
 returns-6 c =
-    let s = c .before .before .before .before .before .before .before .before .before .before .before .before in
+    let s : tie.Start = search in
     let d = s .args .d .now in
     let r = s .args .reports in
     let at = 14 + 5 * r .count in
     let start = 31 + 5 * r .count in
-    let b = c .before .before .before .before .before .before .number8 in
+    let after-number8 : tie.After-number8 = search in
+    let b = after-number8 .number8 in
     let n = numberAt 8 (at + 9) d in
-    let m : n ≤ 8256 = rw (b .ensures) at (c .before .before .before .before .before .if4 .left) in
-    let room : start + b .result ≤ length d = omega (arith, c .before .before .before .before .if5 .left, c .before .before .before .before .before .before .before .if3 .left) in
+    let else4 : tie.Else4 = search in
+    let m : n ≤ 8256 = rw (b .ensures) at (else4 .if4 .left) in
+    let else5 : tie.Else5 = search in
+    let else3 : tie.Else3 = search in
+    let room : start + b .result ≤ length d = omega (arith, else5 .if5 .left, else3 .if3 .left) in
     let same : at + 17 + n ≡ start + b .result = rw (b .ensures) (omega arith) in
     let from : at + 17 ≡ start = omega arith in
     let w = inputAt (numberAt 2 0 d) (listed r) at n d in
-    let e = whole-input d at (numberAt 2 0 d) (listed r) (omega (arith, s .pre .1)) (c .before .before .before .before .before .before .before .before .if2 .left) (omega (arith, c .before .before .before .before .before .before .before .if3 .left)) m (rw same room) in
+    let else2 : tie.Else2 = search in
+    let e = whole-input d at (numberAt 2 0 d) (listed r) (omega (arith, s .pre .1)) (else2 .if2 .left) (omega (arith, else3 .if3 .left)) m (rw same room) in
+    let after-number2 : tie.After-number2 = search in
     found-front d _ _ start (start + b .result) w (e ∙ ap (λ (k : ℕ). got w (drop k d)) same)
-    (rw (c .before .before .before .number2 .ensures, c .before .frame-at .ensures, c .frame-at2 .ensures))
+    (rw (after-number2 .number2 .ensures, c .before .frame-at .ensures, c .frame-at2 .ensures))
     (sym (counted s)) (omega arith) room (rw (from, ← b .ensures, add-sub-cancel-left))
 
 pub after-statuses-spec : {M : Type 1} → statement M

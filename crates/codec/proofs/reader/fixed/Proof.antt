@@ -5,7 +5,7 @@ use Rattle.codec.proofs.Fronts.{refused-front, plain-front}
 use Rattle.codec.specs.Read.{message}
 use Rattle.answer.specs.declared.Answer.the-variants.{Short}
 use lib.ListN.{length}
-use Prim.Native.Nat.{_-_, _≤_}
+use Prim.Native.Nat.{_≤_}
 use mathlib.Core.Path.{sym, _∙_}
 use native.Mathlib.Omega.{arith}
 use borrow.Author.Needs.{needs}
@@ -23,7 +23,7 @@ refused-requires c κs = search needs
 
 returns : tie.Need-returns
 returns c =
-    let s = c .before .before .before in
+    let s : tie.Start = search in
     let d = s .args .d .now in
     refused-front d (message d) (c .refused .result) Short (c .refused .ensures)
     (fixed-short d (s .pre .0) (s .args .kind) (sym (s .pre .1)) (s .pre .2) (s .pre .3) (c .before .if1 .taken)) (λ e. omega arith)
@@ -62,7 +62,9 @@ advantage-bits-of-requires c κs = search needs
 
 wide-at-requires : tie.Need-wide-at-requires
 wide-at-requires c κs =
-    let l = rw (c .before .before .match .keys4) at (c .before .before .before .if1 .left) in
+    let at-match-keys4 : tie.At-match-keys4 = search in
+    let else1 : tie.Else1 = search in
+    let l = rw (at-match-keys4 .match .keys4) at (else1 .if1 .left) in
     omega arith
 
 plain-requires-4 : tie.Need-plain-requires-4
@@ -83,7 +85,8 @@ wide-at-requires-3 c κs =
 
 frame-at-requires-2 : tie.Need-frame-at-requires-2
 frame-at-requires-2 c κs =
-    let l = rw (c .before .match .keys6) at (c .before .before .if1 .left) in
+    let else1 : tie.Else1 = search in
+    let l = rw (c .before .match .keys6) at (else1 .if1 .left) in
     omega arith
 
 plain-requires-6 : tie.Need-plain-requires-6
@@ -94,61 +97,76 @@ plain-requires-7 c κs = search needs
 
 returns-2 : tie.Need-returns-2
 returns-2 c =
-    let s = c .before .before .before .before .before in
+    let s : tie.Start = search in
     let d = s .args .d .now in
-    let k = c .before .before .match .keys1 in
-    let l : 10 ≤ length d = rw k at (c .before .before .before .if1 .left) in
+    let at-match-keys1 : tie.At-match-keys1 = search in
+    let k = at-match-keys1 .match .keys1 in
+    let else1 : tie.Else1 = search in
+    let l : 10 ≤ length d = rw k at (else1 .if1 .left) in
     plain-front d (message d) (c .plain .result) 10 _ (rw k at (c .plain .ensures)) l
     (rw (c .before .number4 .ensures) (request d (s .pre .0) (sym (s .pre .1) ∙ k) l))
 
 returns-3 : tie.Need-returns-3
 returns-3 c =
-    let s = c .before .before .before .before .before in
+    let s : tie.Start = search in
     let d = s .args .d .now in
-    let k = c .before .before .match .keys2 in
-    let l : 10 ≤ length d = rw k at (c .before .before .before .if1 .left) in
+    let at-match-keys2 : tie.At-match-keys2 = search in
+    let k = at-match-keys2 .match .keys2 in
+    let else1 : tie.Else1 = search in
+    let l : 10 ≤ length d = rw k at (else1 .if1 .left) in
     plain-front d (message d) (c .plain2 .result) 10 _ (rw k at (c .plain2 .ensures)) l
     (rw (c .before .number42 .ensures) (reply d (s .pre .0) (sym (s .pre .1) ∙ k) l))
 
 returns-4 : tie.Need-returns-4
 returns-4 c =
-    let s = c .before .before .before .before .before in
+    let s : tie.Start = search in
     let d = s .args .d .now in
-    let k = c .before .before .match .keys3 in
-    let l : 10 ≤ length d = rw k at (c .before .before .before .if1 .left) in
+    let at-match-keys3 : tie.At-match-keys3 = search in
+    let k = at-match-keys3 .match .keys3 in
+    let else1 : tie.Else1 = search in
+    let l : 10 ≤ length d = rw k at (else1 .if1 .left) in
     plain-front d (message d) (c .plain3 .result) 10 _ (rw k at (c .plain3 .ensures)) l
     (rw (c .before .frame-at .ensures) (ack d (s .pre .0) (sym (s .pre .1) ∙ k) l))
 
 returns-5 : tie.Need-returns-5
 returns-5 c =
-    let s = c .before .before .before .before .before .before .before in
+    let s : tie.Start = search in
     let d = s .args .d .now in
-    let k = c .before .before .before .before .match .keys4 in
-    let l : 24 ≤ length d = rw k at (c .before .before .before .before .before .if1 .left) in
+    let at-match-keys4 : tie.At-match-keys4 = search in
+    let k = at-match-keys4 .match .keys4 in
+    let else1 : tie.Else1 = search in
+    let l : 24 ≤ length d = rw k at (else1 .if1 .left) in
+    let after-advantage-bits-of : tie.After-advantage-bits-of = search in
+    let after-number2 : tie.After-number2 = search in
     plain-front d (message d) (c .plain4 .result) 24 _ (rw k at (c .plain4 .ensures)) l
-    (rw (c .before .wide-at .ensures, c .before .before .advantage-bits-of .ensures, c .before .before .before .number2 .ensures) (quality d (s .pre .0) (sym (s .pre .1) ∙ k) l))
+    (rw (c .before .wide-at .ensures, after-advantage-bits-of .advantage-bits-of .ensures, after-number2 .number2 .ensures) (quality d (s .pre .0) (sym (s .pre .1) ∙ k) l))
 
 returns-6 : tie.Need-returns-6
 returns-6 c =
-    let s = c .before .before .before .before .before in
+    let s : tie.Start = search in
     let d = s .args .d .now in
-    let k = c .before .before .match .keys5 in
-    let l : 22 ≤ length d = rw k at (c .before .before .before .if1 .left) in
+    let at-match-keys5 : tie.At-match-keys5 = search in
+    let k = at-match-keys5 .match .keys5 in
+    let else1 : tie.Else1 = search in
+    let l : 22 ≤ length d = rw k at (else1 .if1 .left) in
     plain-front d (message d) (c .plain5 .result) 22 _ (rw k at (c .plain5 .ensures)) l
     (rw (c .before .wide-at2 .ensures) (pong d (s .pre .0) (sym (s .pre .1) ∙ k) l))
 
 returns-7 : tie.Need-returns-7
 returns-7 c =
-    let s = c .before .before .before .before .before .before in
+    let s : tie.Start = search in
     let d = s .args .d .now in
-    let k = c .before .before .before .match .keys6 in
-    let l : 26 ≤ length d = rw k at (c .before .before .before .before .if1 .left) in
+    let at-match-keys6 : tie.At-match-keys6 = search in
+    let k = at-match-keys6 .match .keys6 in
+    let else1 : tie.Else1 = search in
+    let l : 26 ≤ length d = rw k at (else1 .if1 .left) in
+    let after-wide-at3 : tie.After-wide-at3 = search in
     plain-front d (message d) (c .plain6 .result) 26 _ (rw k at (c .plain6 .ensures)) l
-    (rw (c .before .frame-at2 .ensures, c .before .before .wide-at3 .ensures) (checksum d (s .pre .0) (sym (s .pre .1) ∙ k) l))
+    (rw (c .before .frame-at2 .ensures, after-wide-at3 .wide-at3 .ensures) (checksum d (s .pre .0) (sym (s .pre .1) ∙ k) l))
 
 returns-8 : tie.Need-returns-8
 returns-8 c =
-    let s = c .before .before .before .before in
+    let s : tie.Start = search in
     let d = s .args .d .now in
     let x = c .before .match .rest in
     let k = last-kind (s .args .kind) (s .pre .2) (x .0 .0 .0 .0 .0 .1) (x .0 .0 .0 .0 .1) (s .pre .3) (x .0 .0 .0 .1) (x .0 .0 .1) (x .0 .1) (x .1) in

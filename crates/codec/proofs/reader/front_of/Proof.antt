@@ -3,7 +3,7 @@ use Rattle.codec.proofs.Takes.{head-short, bad-kind}
 use Rattle.codec.proofs.Fronts.{refused-front}
 use Rattle.codec.specs.Read.{message}
 use Rattle.answer.specs.declared.Answer.the-variants.{Short, BadKind}
-use Prim.Native.Nat.{_-_, _<_}
+use Prim.Native.Nat.{_<_}
 use native.Mathlib.Omega.{arith}
 use borrow.Author.Needs.{needs}
 use Rattle.codec.proofs.reader.front_of.Statement.{statement}
@@ -14,7 +14,8 @@ refused-requires c κs = search needs
 
 returns : tie.Need-returns
 returns c =
-    let d = c .before .before .before .args .d .now in
+    let start : tie.Start = search in
+    let d = start .args .d .now in
     refused-front d (message d) (c .refused .result) Short (c .refused .ensures) (head-short d (c .before .if1 .taken)) (λ e. omega arith)
 
 number4-requires : tie.Need-number4-requires
@@ -37,12 +38,16 @@ returns-3 c = search needs
 
 returns-4 : tie.Need-returns-4
 returns-4 c =
-    let d = c .before .before .before .before .before .before .args .d .now in
-    let n = c .before .before .before .number4 in
+    let start : tie.Start = search in
+    let d = start .args .d .now in
+    let after-number4 : tie.After-number4 = search in
+    let n = after-number4 .number4 in
     let x = c .before .if2 .left in
-    let y = c .before .before .match .rest in
+    let at-match-rest : tie.At-match-rest = search in
+    let y = at-match-rest .match .rest in
     let k : 7 < n .result = omega arith in
-    refused-front d (message d) (c .refused2 .result) BadKind (c .refused2 .ensures) (bad-kind d (c .before .before .before .before .if1 .left) (rw (n .ensures) at k)) (λ e. omega arith)
+    let else1 : tie.Else1 = search in
+    refused-front d (message d) (c .refused2 .result) BadKind (c .refused2 .ensures) (bad-kind d (else1 .if1 .left) (rw (n .ensures) at k)) (λ e. omega arith)
 
 pub front-of-spec : {M : Type 1} → statement M
 front-of-spec =

@@ -1,6 +1,6 @@
 -- `number2` adds the two bytes up.
 use Rattle.codec.proofs.Numbers.{number-two}
-use Prim.Native.Nat.{_+_, _-_}
+use Prim.Native.Nat.{_+_}
 use mathlib.Core.Path.{sym}
 use native.Mathlib.Omega.{arith}
 use borrow.Author.Needs.{needs}

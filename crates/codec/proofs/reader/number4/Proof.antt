@@ -1,6 +1,5 @@
 -- `number4` adds the two halves up.
 use Rattle.codec.proofs.Numbers.{number-halves}
-use Prim.Native.Nat.{_-_}
 use mathlib.Core.Path.{sym}
 use borrow.Author.Needs.{needs}
 use Rattle.codec.proofs.reader.number4.Statement.{statement}

@@ -1,6 +1,5 @@
 -- `payload_of` hands back the part that `whole` found.
 use Rattle.codec.proofs.Fronts.{payload-front}
-use Prim.Native.Nat.{_-_}
 use borrow.Author.Needs.{needs}
 use Rattle.codec.proofs.reader.payload_of.Statement.{statement}
 use Rattle.codec.proofs.reader.payload_of.Tie as tie

@@ -1,6 +1,5 @@
 -- `report_fault` looks at the flag and then for the frame's bytes.
 use Rattle.codec.proofs.Flags.{report-none, report-bad, report-short, report-good}
-use Prim.Native.Nat.{_-_}
 use native.Mathlib.Omega.{arith}
 use borrow.Author.Needs.{needs}
 use Rattle.codec.proofs.reader.report_fault.Statement.{statement}

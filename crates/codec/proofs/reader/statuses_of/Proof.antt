@@ -1,7 +1,7 @@
 -- `statuses_of` reads one report a turn. The invariant: what is left to read, after those found, gives what all gives.
 use Rattle.codec.proofs.Statuses.{reports-fault, report-there, reports-turn}
 use Rattle.codec.specs.Read.Got.{got}
-use Rattle.codec.specs.Read.{report, reports}
+use Rattle.codec.specs.Read.{reports}
 use Rattle.base.proofs.Arrays.{unmap}
 use Rattle.answer.proofs.Done.{not-done}
 use Rattle.answer.specs.Number.{numberOf}
@@ -24,12 +24,20 @@ Inv-loop d count found₀ i₀ at₀ found i at =
 abbrev μ-loop : tie.MeasureT-loop
 μ-loop d count found₀ i₀ at₀ found i at = count - i
 
+-- the points that a statement below speaks of, each from a later one
+abbrev start-of : tie.At-loop Inv-loop μ-loop → tie.Start Inv-loop μ-loop
+start-of c = c .before .before .before
+
+abbrev turn-of : tie.After-enum-told Inv-loop μ-loop → tie.At-loop Inv-loop μ-loop
+turn-of c = c .before .before .before .before
+
 no-reports-requires : tie.Need-no-reports-requires Inv-loop μ-loop
 no-reports-requires c κs = search needs
 
 loop-holds : tie.Need-loop-holds Inv-loop μ-loop
 loop-holds c =
-    (omega arith, refl, c .before .before .pre .0, refl, search (unmap, needs), rw sub-zero)
+    let start : tie.Start Inv-loop μ-loop = search in
+    (omega arith, refl, start .pre .0, refl, search (unmap, needs), rw sub-zero)
 
 report-fault-requires : tie.Need-report-fault-requires Inv-loop μ-loop
 report-fault-requires c κs = omega arith
@@ -39,19 +47,24 @@ enum-told c = search needs
 
 returns : tie.Need-returns Inv-loop μ-loop
 returns c =
-    let a = c .before .before .before .before .before .before .args in
-    let l = c .before .before .before .loop in
+    let start : tie.Start Inv-loop μ-loop = search in
+    let a = start .args in
+    let at-loop : tie.At-loop Inv-loop μ-loop = search in
+    let l = at-loop .loop in
     let f = c .before .report-fault in
     let n = not-done (f .result) (c .match .keys2) in
     let e = sym (l .inv .5) ∙ reports-fault (a .count - l .i) (take (l .i) (l .found .list)) (drop (l .at) (a .d .now)) (numberOf (f .result)) (omega arith) (sym (f .ensures)) n in
     record { count = l .inv .3; answer = rw e; found = λ z. absurd (n z); within = λ z. absurd (n z) }
 
--- a report that was found sound
-whole : (c : tie.After-enum-told Inv-loop μ-loop) → (c .before .before .before .before .loop .at + 5 ≤ length (c .before .before .before .before .before .before .before .args .d .now)) × (getD (c .before .before .before .before .before .before .before .args .d .now) (c .before .before .before .before .loop .at) 0 ≤ 1)
+-- a report in which no fault was found stands there whole, and its flag is 0 or 1
+whole : (c : tie.After-enum-told Inv-loop μ-loop) →
+    let turn = turn-of c in
+    let d = start-of turn .args .d .now in
+    (turn .loop .at + 5 ≤ length d) × (getD d (turn .loop .at) 0 ≤ 1)
 whole c =
-    let l = c .before .before .before .before .loop in
-    let e = c .before .before .report-fault .ensures in
-    report-there (c .before .before .before .before .before .before .before .args .d .now) (l .at) (l .inv .2) (sym e ∙ rw (c .enum-told .given .1))
+    let l = turn-of c .loop in
+    let after-report-fault : tie.After-report-fault Inv-loop μ-loop = search in
+    report-there (start-of (turn-of c) .args .d .now) (l .at) (l .inv .2) (sym (after-report-fault .report-fault .ensures) ∙ rw (c .enum-told .given .1))
 
 report-at-requires : tie.Need-report-at-requires Inv-loop μ-loop
 report-at-requires c κs = omega (arith, whole c .0)
@@ -60,7 +73,9 @@ mul-t11 : tie.Need-mul-t11 Inv-loop μ-loop
 mul-t11 c = omega arith
 
 element-set-from-found : tie.Need-element-set-from-found Inv-loop μ-loop
-element-set-from-found c = omega (arith, c .before .before .before .before .before .before .before .before .pre .1)
+element-set-from-found c =
+    let start : tie.Start Inv-loop μ-loop = search in
+    omega (arith, start .pre .1)
 
 add-at : tie.Need-add-at Inv-loop μ-loop
 add-at c = omega (arith, whole (c .before) .0)
@@ -73,8 +88,10 @@ loop-less c = omega arith
 
 loop-again : tie.Need-loop-again Inv-loop μ-loop
 loop-again c =
-    let a = c .before .before .before .before .before .before .before .before .args in
-    let l = c .before .before .before .before .before .loop in
+    let start : tie.Start Inv-loop μ-loop = search in
+    let a = start .args in
+    let at-loop : tie.At-loop Inv-loop μ-loop = search in
+    let l = at-loop .loop in
     let w = whole (c .before) in
     let four : length (l .found .list) ≡ 4 = l .inv .4 in (
       omega arith,
@@ -83,14 +100,14 @@ loop-again c =
       l .inv .3,
       rw length-set four,
       rw (c .report-at .ensures)
-          (reports-turn (a .d .now) (l .at) (a .count) (l .i) (l .found .list) (omega arith) (omega (arith, c .before .before .before .before .before .before .before .before .pre .1)) (w .0) (w .1))
+          (reports-turn (a .d .now) (l .at) (a .count) (l .i) (l .found .list) (omega arith) (omega (arith, start .pre .1)) (w .0) (w .1))
           ∙ l .inv .5,
     )
 
 returns-2 : tie.Need-returns-2 Inv-loop μ-loop
 unfolding reports
 returns-2 c =
-    let s = c .before .before .before .before in
+    let s : tie.Start Inv-loop μ-loop = search in
     let a = s .args in
     let l = c .before .loop in
     let d = a .d .now in

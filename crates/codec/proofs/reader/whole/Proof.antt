@@ -4,7 +4,6 @@ use Rattle.codec.specs.Read.{datagram}
 use Rattle.answer.proofs.Done.{not-done}
 use Rattle.answer.specs.declared.Answer.the-variants.{Extra}
 use Rattle.answer.specs.Number.{numberOf}
-use Prim.Native.Nat.{_-_}
 use mathlib.Core.Path.{_≡_}
 use native.Mathlib.Omega.{arith}
 use borrow.Author.Needs.{needs}
@@ -20,7 +19,8 @@ enum-told c = search needs
 returns : tie.Need-returns
 returns c =
     let f = c .before .front-of in
-    still-refused (c .before .before .before .args .d .now) (f .result) (f .ensures) (not-done (f .result .answer) (c .match .keys2))
+    let start : tie.Start = search in
+    still-refused (start .args .d .now) (f .result) (f .ensures) (not-done (f .result .answer) (c .match .keys2))
 
 done : (c : tie.After-enum-told) → numberOf (c .before .before .front-of .result .answer) ≡ 0
 done c = rw (c .enum-told .given .1)
@@ -30,14 +30,18 @@ refused-requires c κs = search needs
 
 returns-2 : tie.Need-returns-2
 returns-2 c =
-    let d = c .before .before .before .before .before .before .before .args .d .now in
-    let f = c .before .before .before .before .before .front-of in
-    refused-front d (datagram d) (c .refused .result) Extra (c .refused .ensures) (extra d (f .result) (f .ensures) (done (c .before .before .before)) (c .before .if1 .taken)) (λ e. omega arith)
+    let start : tie.Start = search in
+    let d = start .args .d .now in
+    let after-front-of : tie.After-front-of = search in
+    let f = after-front-of .front-of in
+    refused-front d (datagram d) (c .refused .result) Extra (c .refused .ensures) (extra d (f .result) (f .ensures) (done search) (c .before .if1 .taken)) (λ e. omega arith)
 
 returns-3 : tie.Need-returns-3
 returns-3 c =
-    let f = c .before .before .before .before .front-of in
-    alone (c .before .before .before .before .before .before .args .d .now) (f .result) (f .ensures) (done (c .before .before)) (c .if1 .left)
+    let after-front-of : tie.After-front-of = search in
+    let f = after-front-of .front-of in
+    let start : tie.Start = search in
+    alone (start .args .d .now) (f .result) (f .ensures) (done search) (c .if1 .left)
 
 pub whole-spec : {M : Type 1} → statement M
 whole-spec =

@@ -18,8 +18,10 @@ cast-put2-2 c = search needs
 
 put2-requires-2 : tie.Need-put2-requires-2
 put2-requires-2 c κs =
-    let first = c .before .before .before .put2 in
-    let a = c .before .before .before .before .before .before .args in
+    let after-put2 : tie.After-put2 = search in
+    let first = after-put2 .put2 in
+    let start : tie.Start = search in
+    let a = start .args in
     omega (arith, first .ensures .next, le-length 2 (a .n % 256 ^ 2), first .kept .0)
 
 same-length : tie.Need-same-length
@@ -27,9 +29,12 @@ same-length c = search needs
 
 returns : tie.Need-returns
 returns c =
-    let first = c .before .before .before .before .before .before .put2 in
-    let then = c .before .before .put22 in
-    let a = c .before .before .before .before .before .before .before .before .before .args in
+    let after-put2 : tie.After-put2 = search in
+    let first = after-put2 .put2 in
+    let after-put22 : tie.After-put22 = search in
+    let then = after-put22 .put22 in
+    let start : tie.Start = search in
+    let a = start .args in
     put-pieces 2 2 (a .n) (a .out .now) (a .at) (first .result) (first .last .0) (then .result) (then .last .0) (first .ensures) (then .ensures) (omega arith)
 
 pub put4-spec : {M : Type 1} → statement M

@@ -18,8 +18,10 @@ cast-put4-2 c = search needs
 
 put4-requires-2 : tie.Need-put4-requires-2
 put4-requires-2 c κs =
-    let first = c .before .before .before .put4 in
-    let a = c .before .before .before .before .before .before .args in
+    let after-put4 : tie.After-put4 = search in
+    let first = after-put4 .put4 in
+    let start : tie.Start = search in
+    let a = start .args in
     omega (arith, first .ensures .next, le-length 4 (a .n % 256 ^ 4), first .kept .0)
 
 same-length : tie.Need-same-length
@@ -27,9 +29,12 @@ same-length c = search needs
 
 returns : tie.Need-returns
 returns c =
-    let first = c .before .before .before .before .before .before .put4 in
-    let then = c .before .before .put42 in
-    let a = c .before .before .before .before .before .before .before .before .before .args in
+    let after-put4 : tie.After-put4 = search in
+    let first = after-put4 .put4 in
+    let after-put42 : tie.After-put42 = search in
+    let then = after-put42 .put42 in
+    let start : tie.Start = search in
+    let a = start .args in
     put-pieces 4 4 (a .n) (a .out .now) (a .at) (first .result) (first .last .0) (then .result) (then .last .0) (first .ensures) (then .ensures) (omega arith)
 
 pub put8-spec : {M : Type 1} → statement M

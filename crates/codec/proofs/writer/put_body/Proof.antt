@@ -9,7 +9,7 @@ use Rattle.base.proofs.Lay.{laid-none}
 use Rattle.base.proofs.Arrays.{unmap}
 use Rattle.codec.proofs.Bodies.{fits-none, room-as, body-put}
 use Rattle.codec.specs.Bytes.{bodyBytes}
-use Rattle.codec.specs.Message.{kindOf, isInput}
+use Rattle.codec.specs.Message.{FitsWide, kindOf, isInput}
 use Prim.Native.Nat.{_+_, _≤_, _<_}
 use lib.ListN.{length}
 use mathlib.Core.Path.{_≡_, sym}
@@ -35,9 +35,10 @@ enum-known-body c = search needs
 put4-requires : tie.Need-put4-requires
 unfolding kindOf isInput
 put4-requires c κs =
-    let s = c .before .before .before .before .before in
+    let s : tie.Start = search in
     let a = s .args in
-    omega (arith, room-as (a .message) (a .length) (a .out .now) (a .at) _ (c .before .before .body .given .1) (s .pre .0))
+    let after-body : tie.After-body = search in
+    omega (arith, room-as (a .message) (a .length) (a .out .now) (a .at) _ (after-body .body .given .1) (s .pre .0))
 
 enum-known-body-2 : tie.Need-enum-known-body-2
 enum-known-body-2 c = search needs
@@ -45,9 +46,10 @@ enum-known-body-2 c = search needs
 put4-requires-2 : tie.Need-put4-requires-2
 unfolding kindOf isInput
 put4-requires-2 c κs =
-    let s = c .before .before .before .before .before in
+    let s : tie.Start = search in
     let a = s .args in
-    omega (arith, room-as (a .message) (a .length) (a .out .now) (a .at) _ (c .before .before .body2 .given .1) (s .pre .0))
+    let after-body2 : tie.After-body2 = search in
+    omega (arith, room-as (a .message) (a .length) (a .out .now) (a .at) _ (after-body2 .body2 .given .1) (s .pre .0))
 
 enum-known-body-3 : tie.Need-enum-known-body-3
 enum-known-body-3 c = search needs
@@ -55,19 +57,22 @@ enum-known-body-3 c = search needs
 put-statuses-requires : tie.Need-put-statuses-requires
 unfolding kindOf isInput
 put-statuses-requires c κs =
-    let s = c .before .before .before .before .before in
+    let s : tie.Start = search in
     let a = s .args in
-    let e = c .before .before .body3 .given .1 in
+    let after-body3 : tie.After-body3 = search in
+    let e = after-body3 .body3 .given .1 in
     let k = few s (rw e) in
     (omega (arith, room-as (a .message) (a .length) (a .out .now) (a .at) _ e (s .pre .0), listed-length s k), k)
 
 put-input-requires : tie.Need-put-input-requires
 unfolding kindOf isInput
 put-input-requires c κs =
-    let s = c .before .before .before .before .before .before .before .before .before in
+    let s : tie.Start = search in
     let a = s .args in
-    let e = c .before .before .before .before .before .before .body3 .given .1 in
-    let p = c .before .before .before .put-statuses in
+    let after-body3 : tie.After-body3 = search in
+    let e = after-body3 .body3 .given .1 in
+    let after-put-statuses : tie.After-put-statuses = search in
+    let p = after-put-statuses .put-statuses in
     let rs = take (a .message .reports .count) (a .message .reports .list) in
     omega (arith, room-as (a .message) (a .length) (a .out .now) (a .at) _ e (s .pre .0), p .ensures .put .next, statuses-length rs, p .kept .0)
 
@@ -77,9 +82,10 @@ enum-known-body-4 c = search needs
 put-frame-requires : tie.Need-put-frame-requires
 unfolding kindOf isInput
 put-frame-requires c κs =
-    let s = c .before .before .before .before .before in
+    let s : tie.Start = search in
     let a = s .args in
-    omega (arith, room-as (a .message) (a .length) (a .out .now) (a .at) _ (c .before .before .body4 .given .1) (s .pre .0))
+    let after-body4 : tie.After-body4 = search in
+    omega (arith, room-as (a .message) (a .length) (a .out .now) (a .at) _ (after-body4 .body4 .given .1) (s .pre .0))
 
 enum-known-body-5 : tie.Need-enum-known-body-5
 enum-known-body-5 c = search needs
@@ -87,9 +93,10 @@ enum-known-body-5 c = search needs
 put-quality-requires : tie.Need-put-quality-requires
 unfolding kindOf isInput
 put-quality-requires c κs =
-    let s = c .before .before .before .before .before in
+    let s : tie.Start = search in
     let a = s .args in
-    omega (arith, room-as (a .message) (a .length) (a .out .now) (a .at) _ (c .before .before .body5 .given .1) (s .pre .0))
+    let after-body5 : tie.After-body5 = search in
+    omega (arith, room-as (a .message) (a .length) (a .out .now) (a .at) _ (after-body5 .body5 .given .1) (s .pre .0))
 
 enum-known-body-6 : tie.Need-enum-known-body-6
 enum-known-body-6 c = search needs
@@ -97,9 +104,10 @@ enum-known-body-6 c = search needs
 put-wide-requires : tie.Need-put-wide-requires
 unfolding kindOf isInput
 put-wide-requires c κs =
-    let s = c .before .before .before .before .before in
+    let s : tie.Start = search in
     let a = s .args in
-    omega (arith, room-as (a .message) (a .length) (a .out .now) (a .at) _ (c .before .before .body6 .given .1) (s .pre .0))
+    let after-body6 : tie.After-body6 = search in
+    omega (arith, room-as (a .message) (a .length) (a .out .now) (a .at) _ (after-body6 .body6 .given .1) (s .pre .0))
 
 enum-known-body-7 : tie.Need-enum-known-body-7
 enum-known-body-7 c = search needs
@@ -107,9 +115,10 @@ enum-known-body-7 c = search needs
 put-checksum-requires : tie.Need-put-checksum-requires
 unfolding kindOf isInput
 put-checksum-requires c κs =
-    let s = c .before .before .before .before .before in
+    let s : tie.Start = search in
     let a = s .args in
-    omega (arith, room-as (a .message) (a .length) (a .out .now) (a .at) _ (c .before .before .body7 .given .1) (s .pre .0))
+    let after-body7 : tie.After-body7 = search in
+    omega (arith, room-as (a .message) (a .length) (a .out .now) (a .at) _ (after-body7 .body7 .given .1) (s .pre .0))
 
 enum-told : tie.Need-enum-told
 enum-told c = search needs
@@ -120,9 +129,12 @@ same-length c = search needs
 returns : tie.Need-returns
 unfolding isInput bodyBytes
 returns c =
-    let a = c .before .before .before .before .before .before .before .before .args in
-    let p = c .before .before .put4 in
-    body-put (a .message) (a .length) (a .out .now) (a .at) _ (c .before .before .before .before .before .body .given .1) (p .result) (p .last .0) (p .ensures) (search needs) fits-none
+    let start : tie.Start = search in
+    let a = start .args in
+    let after-put4 : tie.After-put4 = search in
+    let p = after-put4 .put4 in
+    let after-body : tie.After-body = search in
+    body-put (a .message) (a .length) (a .out .now) (a .at) _ (after-body .body .given .1) (p .result) (p .last .0) (p .ensures) (search needs) fits-none
 
 same-length-2 : tie.Need-same-length-2
 same-length-2 c = search needs
@@ -130,27 +142,48 @@ same-length-2 c = search needs
 returns-2 : tie.Need-returns-2
 unfolding isInput bodyBytes
 returns-2 c =
-    let a = c .before .before .before .before .before .before .before .before .args in
-    let p = c .before .before .put42 in
-    body-put (a .message) (a .length) (a .out .now) (a .at) _ (c .before .before .before .before .before .body2 .given .1) (p .result) (p .last .0) (p .ensures) (search needs) fits-none
+    let start : tie.Start = search in
+    let a = start .args in
+    let after-put42 : tie.After-put42 = search in
+    let p = after-put42 .put42 in
+    let after-body2 : tie.After-body2 = search in
+    body-put (a .message) (a .length) (a .out .now) (a .at) _ (after-body2 .body2 .given .1) (p .result) (p .last .0) (p .ensures) (search needs) fits-none
 
 same-length-3 : tie.Need-same-length-3
 same-length-3 c = search needs
 
-known : (c : tie.After-known-told3) → (c .before .body3 .given .0 .1 .0 < 2 ^ 32) × (c .before .body3 .given .0 .1 .1 .0 < 2 ^ 32)
-known c = search needs
+-- the fields of a body have their widths
+widths3 : (c : tie.After-known-told3) →
+    let v = c .before .body3 .given .0 in
+    (v .1 .0 < 2 ^ 32) × (v .1 .1 .0 < 2 ^ 32)
+widths3 c = search needs
 
-whole : (c : tie.After-slice-known5)
-    → c .before .before .before .before .before .before .before .before .before .before .before .before .args .at + length (statusesBytes (take (c .before .before .before .before .before .before .before .before .before .before .before .before .args .message .reports .count) (c .before .before .before .before .before .before .before .before .before .before .before .before .args .message .reports .list)))
-    + length (inputBytes (c .before .before .before .before .before .before .before .before .before .body3 .given .0 .0) (c .before .before .before .before .before .before .before .before .before .body3 .given .0 .1 .0) (c .before .before .before .before .before .before .before .before .before .body3 .given .0 .1 .1 .0) (c .before .before .before .before .before .before .before .before .before .before .before .before .args .length)) ≤ length (c .before .before .before .before .before .before .before .before .before .before .before .before .args .out .now)
+widths5 : (c : tie.After-known-told5) →
+    let v = c .before .body5 .given .0 in
+    (v .0 < 2 ^ 16) × FitsWide (v .1 .0)
+widths5 c = search needs
+
+widths6 : (c : tie.After-known-told6) → FitsWide (c .before .body6 .given .0 .0)
+widths6 c = search needs
+
+widths7 : (c : tie.After-known-told7) →
+    let v = c .before .body7 .given .0 in
+    FitsWide (v .0) × (v .1 .0 < 2 ^ 32)
+widths7 c = search needs
+
+-- an Input's statuses and its other fields have their room together
+whole : (c : tie.After-body3) →
+    let a = c .before .before .before .args in
+    let v = c .body3 .given .0 in
+    a .at + length (statusesBytes (take (a .message .reports .count) (a .message .reports .list))) + length (inputBytes (v .0) (v .1 .0) (v .1 .1 .0) (a .length)) ≤ length (a .out .now)
 unfolding kindOf isInput
 whole c =
-    let s = c .before .before .before .before .before .before .before .before .before .before .before .before in
+    let s : tie.Start = search in
     let a = s .args in
-    let v = c .before .before .before .before .before .before .before .before .before .body3 .given .0 in
+    let v = c .body3 .given .0 in
     omega (
       arith,
-      room-as (a .message) (a .length) (a .out .now) (a .at) _ (c .before .before .before .before .before .before .before .before .before .body3 .given .1) (s .pre .0),
+      room-as (a .message) (a .length) (a .out .now) (a .at) _ (c .body3 .given .1) (s .pre .0),
       statuses-length (take (a .message .reports .count) (a .message .reports .list)),
       input-length (v .0) (v .1 .0) (v .1 .1 .0) (a .length),
     )
@@ -158,17 +191,20 @@ whole c =
 returns-3 : tie.Need-returns-3
 unfolding isInput bodyBytes
 returns-3 c =
-    let s = c .before .before .before .before .before .before .before .before .before .before .before .before in
+    let s : tie.Start = search in
     let a = s .args in
-    let v = c .before .before .before .before .before .before .before .before .before .body3 .given .0 in
-    let first = c .before .before .before .before .before .before .put-statuses in
-    let then = c .before .before .put-input in
+    let after-body3 : tie.After-body3 = search in
+    let v = after-body3 .body3 .given .0 in
+    let after-put-statuses : tie.After-put-statuses = search in
+    let first = after-put-statuses .put-statuses in
+    let after-put-input : tie.After-put-input = search in
+    let then = after-put-input .put-input in
     let rs = take (a .message .reports .count) (a .message .reports .list) in
     let rest = inputBytes (v .0) (v .1 .0) (v .1 .1 .0) (a .length) in
-    body-put (a .message) (a .length) (a .out .now) (a .at) _ (c .before .before .before .before .before .before .before .before .before .body3 .given .1) (then .result) (then .last .0)
+    body-put (a .message) (a .length) (a .out .now) (a .at) _ (after-body3 .body3 .given .1) (then .result) (then .last .0)
     (put-then (a .out .now) (a .at) (statusesBytes rs) (first .result) (first .last .0) (first .ensures .put) rest (then .result) (then .last .0) (then .ensures)
-    (whole c))
-    (known (c .before .before .before .before .before .before .before .before)) (first .ensures .frames)
+    (whole after-body3))
+    (widths3 search) (first .ensures .frames)
 
 same-length-4 : tie.Need-same-length-4
 same-length-4 c = search needs
@@ -176,9 +212,12 @@ same-length-4 c = search needs
 returns-4 : tie.Need-returns-4
 unfolding isInput bodyBytes
 returns-4 c =
-    let a = c .before .before .before .before .before .before .before .before .args in
-    let p = c .before .before .put-frame in
-    body-put (a .message) (a .length) (a .out .now) (a .at) _ (c .before .before .before .before .before .body4 .given .1) (p .result) (p .last .0) (p .ensures) (search needs) fits-none
+    let start : tie.Start = search in
+    let a = start .args in
+    let after-put-frame : tie.After-put-frame = search in
+    let p = after-put-frame .put-frame in
+    let after-body4 : tie.After-body4 = search in
+    body-put (a .message) (a .length) (a .out .now) (a .at) _ (after-body4 .body4 .given .1) (p .result) (p .last .0) (p .ensures) (search needs) fits-none
 
 same-length-5 : tie.Need-same-length-5
 same-length-5 c = search needs
@@ -186,9 +225,12 @@ same-length-5 c = search needs
 returns-5 : tie.Need-returns-5
 unfolding isInput bodyBytes
 returns-5 c =
-    let a = c .before .before .before .before .before .before .before .before .args in
-    let p = c .before .before .put-quality in
-    body-put (a .message) (a .length) (a .out .now) (a .at) _ (c .before .before .before .before .before .body5 .given .1) (p .result) (p .last .0) (p .ensures) (search needs) fits-none
+    let start : tie.Start = search in
+    let a = start .args in
+    let after-put-quality : tie.After-put-quality = search in
+    let p = after-put-quality .put-quality in
+    let after-body5 : tie.After-body5 = search in
+    body-put (a .message) (a .length) (a .out .now) (a .at) _ (after-body5 .body5 .given .1) (p .result) (p .last .0) (p .ensures) (widths5 search) fits-none
 
 same-length-6 : tie.Need-same-length-6
 same-length-6 c = search needs
@@ -196,9 +238,12 @@ same-length-6 c = search needs
 returns-6 : tie.Need-returns-6
 unfolding isInput bodyBytes
 returns-6 c =
-    let a = c .before .before .before .before .before .before .before .before .args in
-    let p = c .before .before .put-wide in
-    body-put (a .message) (a .length) (a .out .now) (a .at) _ (c .before .before .before .before .before .body6 .given .1) (p .result) (p .last .0) (p .ensures) (search needs) fits-none
+    let start : tie.Start = search in
+    let a = start .args in
+    let after-put-wide : tie.After-put-wide = search in
+    let p = after-put-wide .put-wide in
+    let after-body6 : tie.After-body6 = search in
+    body-put (a .message) (a .length) (a .out .now) (a .at) _ (after-body6 .body6 .given .1) (p .result) (p .last .0) (p .ensures) (widths6 search) fits-none
 
 same-length-7 : tie.Need-same-length-7
 same-length-7 c = search needs
@@ -206,14 +251,18 @@ same-length-7 c = search needs
 returns-7 : tie.Need-returns-7
 unfolding isInput bodyBytes
 returns-7 c =
-    let a = c .before .before .before .before .before .before .before .before .args in
-    let p = c .before .before .put-checksum in
-    body-put (a .message) (a .length) (a .out .now) (a .at) _ (c .before .before .before .before .before .body7 .given .1) (p .result) (p .last .0) (p .ensures) (search needs) fits-none
+    let start : tie.Start = search in
+    let a = start .args in
+    let after-put-checksum : tie.After-put-checksum = search in
+    let p = after-put-checksum .put-checksum in
+    let after-body7 : tie.After-body7 = search in
+    body-put (a .message) (a .length) (a .out .now) (a .at) _ (after-body7 .body7 .given .1) (p .result) (p .last .0) (p .ensures) (widths7 search) fits-none
 
 returns-8 : tie.Need-returns-8
 unfolding isInput bodyBytes
 returns-8 c =
-    let a = c .before .before .before .args in
+    let start : tie.Start = search in
+    let a = start .args in
     body-put (a .message) (a .length) (a .out .now) (a .at) _ (c .enum-told .given .1) (a .at) (a .out .now)
     (record { next = omega arith; laid = sym (laid-none (a .out .now) (a .at)) }) tt fits-none
 

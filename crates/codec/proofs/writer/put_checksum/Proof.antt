@@ -1,6 +1,5 @@
 -- `put_checksum` puts the checksum and then the frame.
 use Rattle.codec.specs.Bytes.{frameBytes, wideBytes}
-use Prim.Native.Nat.{_+_}
 use Rattle.codec.proofs.Lengths.{frame-length, wide-length}
 use Rattle.codec.proofs.Put.{put-then}
 use native.Mathlib.Omega.{arith}
@@ -13,17 +12,22 @@ put-wide-requires c κs = search needs
 
 put-frame-requires : tie.Need-put-frame-requires
 put-frame-requires c κs =
-    let first = c .before .before .before .put-wide in
-    omega (arith, first .ensures .next, wide-length (c .before .before .before .before .before .before .args .checksum), first .kept .0)
+    let after-put-wide : tie.After-put-wide = search in
+    let first = after-put-wide .put-wide in
+    let start : tie.Start = search in
+    omega (arith, first .ensures .next, wide-length (start .args .checksum), first .kept .0)
 
 same-length : tie.Need-same-length
 same-length c = search needs
 
 returns : tie.Need-returns
 returns c =
-    let then = c .before .before .put-frame in
-    let first = c .before .before .before .before .before .before .put-wide in
-    let a = c .before .before .before .before .before .before .before .before .before .args in
+    let after-put-frame : tie.After-put-frame = search in
+    let then = after-put-frame .put-frame in
+    let after-put-wide : tie.After-put-wide = search in
+    let first = after-put-wide .put-wide in
+    let start : tie.Start = search in
+    let a = start .args in
     put-then (a .out .now) (a .at) (wideBytes (a .checksum)) (first .result) (first .last .0) (first .ensures) (frameBytes (a .frame)) (then .result)
     (then .last .0) (then .ensures) (omega (arith, frame-length (a .frame), wide-length (a .checksum)))
 

@@ -4,10 +4,10 @@ use Rattle.codec.specs.Bytes.{bodyBytes, head}
 use Rattle.codec.specs.Message.{kindOf, meant}
 use Rattle.base.proofs.Little.{le-length}
 use Rattle.base.specs.Little.{le}
+use Prim.Native.Nat.{_^_, _<_}
 use lib.ListN.{length, length-append}
 use mathlib.Core.List.{[], _++_}
 use Rattle.codec.proofs.Put.{put-then}
-use Prim.Native.Nat.{_+_, _-_}
 use native.Mathlib.Omega.{arith}
 use borrow.Author.Needs.{needs}
 use Rattle.codec.proofs.writer.put_head.Statement.{statement}
@@ -15,7 +15,7 @@ use Rattle.codec.proofs.writer.put_head.Tie as tie
 
 put2-requires : tie.Need-put2-requires
 put2-requires c κs =
-    let s = c .before .before in
+    let s : tie.Start = search in
     omega (arith, s .pre .0, head-parts (meant (s .args .message) []) (s .args .length))
 
 kind-of-requires : tie.Need-kind-of-requires
@@ -23,16 +23,20 @@ kind-of-requires c κs = search needs
 
 put4-requires : tie.Need-put4-requires
 put4-requires c κs =
-    let s = c .before .before .before .before .before .before .before in
-    let first = c .before .before .before .before .put2 in
+    let s : tie.Start = search in
+    let after-put2 : tie.After-put2 = search in
+    let first = after-put2 .put2 in
     omega (arith, s .pre .0, head-parts (meant (s .args .message) []) (s .args .length), first .ensures .next, le-length 2 (s .args .message .magic), first .kept .0)
 
 put-body-requires : tie.Need-put-body-requires
 unfolding meant
 put-body-requires c κs =
-    let s = c .before .before .before .before .before .before .before .before .before .before .before in
-    let first = c .before .before .before .before .before .before .before .before .put2 in
-    let then = c .before .before .before .put4 in (
+    let s : tie.Start = search in
+    let after-put2 : tie.After-put2 = search in
+    let first = after-put2 .put2 in
+    let after-put4 : tie.After-put4 = search in
+    let after-kind-of : tie.After-kind-of = search in
+    let then = after-put4 .put4 in (
       omega (
         arith,
         s .pre .0,
@@ -40,7 +44,7 @@ put-body-requires c κs =
         first .ensures .next,
         le-length 2 (s .args .message .magic),
         then .ensures .next,
-        le-length 4 (c .before .before .before .before .kind-of .result),
+        le-length 4 (after-kind-of .kind-of .result),
         first .kept .0,
         then .kept .0,
       ),
@@ -50,16 +54,23 @@ put-body-requires c κs =
 same-length : tie.Need-same-length
 same-length c = search needs
 
+small : (c : tie.Start) → c .args .message .magic < 2 ^ 16
+small c = search needs
+
 returns : tie.Need-returns
 unfolding meant head
 returns c =
-    let s = c .before .before .before .before .before .before .before .before .before .before .before .before .before .before in
+    let s : tie.Start = search in
     let a = s .args in
     let m = a .message in
-    let first = c .before .before .before .before .before .before .before .before .before .before .before .put2 in
-    let then = c .before .before .before .before .before .before .put4 in
-    let kind = c .before .before .before .before .before .before .before .kind-of in
-    let last = c .before .before .put-body in
+    let after-put2 : tie.After-put2 = search in
+    let first = after-put2 .put2 in
+    let after-put4 : tie.After-put4 = search in
+    let then = after-put4 .put4 in
+    let after-kind-of : tie.After-kind-of = search in
+    let kind = after-kind-of .kind-of in
+    let after-put-body : tie.After-put-body = search in
+    let last = after-put-body .put-body in
     let x = le 2 (m .magic) in
     let y = le 4 (kindOf (m .body)) in
     let lx = le-length 2 (m .magic) in
@@ -74,7 +85,7 @@ returns c =
       put =
           put-then (a .out .now) (a .at) (x ++ y) (then .result) (then .last .0) two z (last .result) (last .last .0) (last .ensures .put)
           (omega (arith, length-append x y));
-      magic = search needs;
+      magic = small s;
       fits = last .ensures .fits;
       frames = last .ensures .frames;
     }

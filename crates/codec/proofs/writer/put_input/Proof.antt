@@ -4,7 +4,6 @@ use Rattle.base.specs.Little.{le}
 use Rattle.codec.specs.Bytes.{flagBytes, frameBytes, inputBytes}
 use mathlib.Core.List.{_++_}
 use lib.ListN.{length-append}
-use Prim.Native.Nat.{_+_}
 use Rattle.codec.proofs.Lengths.{frame-length}
 use Rattle.codec.proofs.Put.{put-then}
 use native.Mathlib.Omega.{arith}
@@ -18,24 +17,32 @@ put-flag-requires c κs = search needs
 put-frame-requires : tie.Need-put-frame-requires
 unfolding flagBytes
 put-frame-requires c κs =
-    let first = c .before .before .before .put-flag in
+    let after-put-flag : tie.After-put-flag = search in
+    let first = after-put-flag .put-flag in
     omega (arith, first .ensures .next, first .kept .0)
 
 put-frame-requires-2 : tie.Need-put-frame-requires-2
 unfolding flagBytes
 put-frame-requires-2 c κs =
-    let second = c .before .before .before .put-frame in
-    let first = c .before .before .before .before .before .before .before .put-flag in
-    let a = c .before .before .before .before .before .before .before .before .before .before .args in
+    let after-put-frame : tie.After-put-frame = search in
+    let second = after-put-frame .put-frame in
+    let after-put-flag : tie.After-put-flag = search in
+    let first = after-put-flag .put-flag in
+    let start : tie.Start = search in
+    let a = start .args in
     omega (arith, first .ensures .next, second .ensures .next, frame-length (a .start-frame), frame-length (a .ack-frame), first .kept .0, second .kept .0)
 
 put8-requires : tie.Need-put8-requires
 unfolding flagBytes
 put8-requires c κs =
-    let third = c .before .before .before .put-frame2 in
-    let second = c .before .before .before .before .before .before .before .put-frame in
-    let first = c .before .before .before .before .before .before .before .before .before .before .before .put-flag in
-    let a = c .before .before .before .before .before .before .before .before .before .before .before .before .before .before .args in
+    let after-put-frame2 : tie.After-put-frame2 = search in
+    let third = after-put-frame2 .put-frame2 in
+    let after-put-frame : tie.After-put-frame = search in
+    let second = after-put-frame .put-frame in
+    let after-put-flag : tie.After-put-flag = search in
+    let first = after-put-flag .put-flag in
+    let start : tie.Start = search in
+    let a = start .args in
     omega (
       arith,
       first .ensures .next,
@@ -54,11 +61,16 @@ same-length c = search needs
 returns : tie.Need-returns
 unfolding flagBytes inputBytes
 returns c =
-    let last = c .before .before .put8 in
-    let third = c .before .before .before .before .before .before .put-frame2 in
-    let second = c .before .before .before .before .before .before .before .before .before .before .put-frame in
-    let first = c .before .before .before .before .before .before .before .before .before .before .before .before .before .before .put-flag in
-    let a = c .before .before .before .before .before .before .before .before .before .before .before .before .before .before .before .before .before .args in
+    let after-put8 : tie.After-put8 = search in
+    let last = after-put8 .put8 in
+    let after-put-frame2 : tie.After-put-frame2 = search in
+    let third = after-put-frame2 .put-frame2 in
+    let after-put-frame : tie.After-put-frame = search in
+    let second = after-put-frame .put-frame in
+    let after-put-flag : tie.After-put-flag = search in
+    let first = after-put-flag .put-flag in
+    let start : tie.Start = search in
+    let a = start .args in
     let x = flagBytes (a .disconnect-requested) in
     let y = frameBytes (a .start-frame) in
     let z = frameBytes (a .ack-frame) in

@@ -1,6 +1,5 @@
 -- `put_quality` puts the advantage's bits and then the ping.
 use Rattle.codec.specs.Bytes.{advantageBytes, wideBytes}
-use Prim.Native.Nat.{_+_}
 use Rattle.codec.proofs.Lengths.{advantage-length, wide-length}
 use Rattle.codec.proofs.Put.{put-then}
 use native.Mathlib.Omega.{arith}
@@ -17,9 +16,12 @@ put2-requires c κs = search needs
 put-wide-requires : tie.Need-put-wide-requires
 unfolding advantageBytes
 put-wide-requires c κs =
-    let first = c .before .before .before .put2 in
-    let bits = c .before .before .before .before .advantage-bits-of in
-    omega (arith, (rw (bits .ensures) at (first .ensures .next)), advantage-length (c .before .before .before .before .before .before .before .args .frame-advantage), first .kept .0)
+    let after-put2 : tie.After-put2 = search in
+    let first = after-put2 .put2 in
+    let after-advantage-bits-of : tie.After-advantage-bits-of = search in
+    let bits = after-advantage-bits-of .advantage-bits-of in
+    let start : tie.Start = search in
+    omega (arith, (rw (bits .ensures) at (first .ensures .next)), advantage-length (start .args .frame-advantage), first .kept .0)
 
 same-length : tie.Need-same-length
 same-length c = search needs
@@ -27,10 +29,14 @@ same-length c = search needs
 returns : tie.Need-returns
 unfolding advantageBytes
 returns c =
-    let then = c .before .before .put-wide in
-    let first = c .before .before .before .before .before .before .put2 in
-    let bits = c .before .before .before .before .before .before .before .advantage-bits-of in
-    let a = c .before .before .before .before .before .before .before .before .before .before .args in
+    let after-put-wide : tie.After-put-wide = search in
+    let then = after-put-wide .put-wide in
+    let after-put2 : tie.After-put2 = search in
+    let first = after-put2 .put2 in
+    let after-advantage-bits-of : tie.After-advantage-bits-of = search in
+    let bits = after-advantage-bits-of .advantage-bits-of in
+    let start : tie.Start = search in
+    let a = start .args in
     put-then (a .out .now) (a .at) (advantageBytes (a .frame-advantage)) (first .result) (first .last .0) (rw (bits .ensures) at (first .ensures))
     (wideBytes (a .ping)) (then .result) (then .last .0) (then .ensures)
     (omega (arith, advantage-length (a .frame-advantage), wide-length (a .ping)))

@@ -13,7 +13,8 @@ put-flag-requires c κs = search needs
 put-frame-requires : tie.Need-put-frame-requires
 unfolding flagBytes
 put-frame-requires c κs =
-    let first = c .before .before .before .put-flag in
+    let after-put-flag : tie.After-put-flag = search in
+    let first = after-put-flag .put-flag in
     omega (arith, first .ensures .next, first .kept .0)
 
 same-length : tie.Need-same-length
@@ -22,9 +23,12 @@ same-length c = search needs
 returns : tie.Need-returns
 unfolding flagBytes reportBytes
 returns c =
-    let first = c .before .before .before .before .before .before .put-flag in
-    let then = c .before .before .put-frame in
-    let a = c .before .before .before .before .before .before .before .before .before .args in
+    let after-put-flag : tie.After-put-flag = search in
+    let first = after-put-flag .put-flag in
+    let after-put-frame : tie.After-put-frame = search in
+    let then = after-put-frame .put-frame in
+    let start : tie.Start = search in
+    let a = start .args in
     record {
       put =
           put-then (a .out .now) (a .at) (flagBytes (a .report .disconnected)) (first .result) (first .last .0) (first .ensures)

@@ -42,7 +42,7 @@ element-copy-out-report c = omega arith
 
 put-report-requires : tie.Need-put-report-requires Inv-loop μ-loop
 put-report-requires c κs =
-    let s = c .before .before .before .before .before in
+    let s : tie.Start Inv-loop μ-loop = search in
     omega (arith, room s)
 
 add-i : tie.Need-add-i Inv-loop μ-loop
@@ -53,9 +53,11 @@ loop-less c = omega arith
 
 loop-again : tie.Need-loop-again Inv-loop μ-loop
 loop-again c =
-    let s = c .before .before .before .before .before .before .before .before in
-    let l = c .before .before .before .before .before .before .loop in
-    let p = c .before .before .put-report in
+    let s : tie.Start Inv-loop μ-loop = search in
+    let at-loop : tie.At-loop Inv-loop μ-loop = search in
+    let l = at-loop .loop in
+    let after-put-report : tie.After-put-report Inv-loop μ-loop = search in
+    let p = after-put-report .put-report in
     let a = s .args in
     let t =
     reports-turn (a .t3 .list) (l .i) _ (a .out .now) (a .at) (l .next) (l .out) (p .result) (p .last .0) (omega (arith, long s, s .pre .1)) (l .inv .3)
@@ -67,7 +69,8 @@ same-length c = c .before .loop .inv .2
 
 returns : tie.Need-returns Inv-loop μ-loop
 returns c =
-    let a = c .before .before .before .args in
+    let start : tie.Start Inv-loop μ-loop = search in
+    let a = start .args in
     let l = c .before .loop in
     let e : l .i ≡ a .t3 .count = omega arith in
     record { put = rw e at (l .inv .3); frames = rw e at (l .inv .4) }

@@ -4,7 +4,6 @@ use Rattle.base.specs.Little.{le}
 use Rattle.codec.specs.Bytes.{reportsBytes, statusesBytes}
 use Rattle.base.proofs.Arrays.{unmap}
 use lib.ListN.{length, take, length-take}
-use Prim.Native.Nat.{_+_}
 use Rattle.codec.proofs.Lengths.{reports-length}
 use Rattle.codec.proofs.Put.{put-then}
 use mathlib.Core.Path.{_≡_}
@@ -18,8 +17,9 @@ put8-requires c κs = search needs
 
 put-reports-requires : tie.Need-put-reports-requires
 put-reports-requires c κs =
-    let s = c .before .before .before .before .before .before in
-    let first = c .before .before .before .put8 in
+    let s : tie.Start = search in
+    let after-put8 : tie.After-put8 = search in
+    let first = after-put8 .put8 in
     (omega (arith, first .ensures .next, le-length 8 (s .args .reports .count), first .kept .0), s .pre .1)
 
 same-length : tie.Need-same-length
@@ -28,19 +28,20 @@ same-length c = search needs
 long : (c : tie.Start) → length (c .args .reports .list) ≡ 4
 long c = search (unmap, needs)
 
-counted : (c : tie.After-slice-known3) → length (take (c .before .before .before .before .before .before .before .before .before .args .reports .count) (c .before .before .before .before .before .before .before .before .before .args .reports .list)) ≡ c .before .before .before .before .before .before .before .before .before .args .reports .count
-counted c =
-    let s = c .before .before .before .before .before .before .before .before .before in
-    omega (arith, length-take (s .args .reports .count) (s .args .reports .list), long s, s .pre .1)
+counted : (c : tie.Start) → length (take (c .args .reports .count) (c .args .reports .list)) ≡ c .args .reports .count
+counted c = omega (arith, length-take (c .args .reports .count) (c .args .reports .list), long c, c .pre .1)
 
 returns : tie.Need-returns
 unfolding statusesBytes
 returns c =
-    let then = c .before .before .put-reports in
-    let first = c .before .before .before .before .before .before .put8 in
-    let a = c .before .before .before .before .before .before .before .before .before .args in
+    let after-put-reports : tie.After-put-reports = search in
+    let then = after-put-reports .put-reports in
+    let after-put8 : tie.After-put8 = search in
+    let first = after-put8 .put8 in
+    let start : tie.Start = search in
+    let a = start .args in
     let r = a .reports in
-    let e = counted c in
+    let e = counted search in
     record {
       put =
           rw e

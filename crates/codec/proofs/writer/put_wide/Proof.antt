@@ -13,8 +13,10 @@ put8-requires c κs = search needs
 
 put8-requires-2 : tie.Need-put8-requires-2
 put8-requires-2 c κs =
-    let first = c .before .before .before .put8 in
-    let a = c .before .before .before .before .before .before .args in
+    let after-put8 : tie.After-put8 = search in
+    let first = after-put8 .put8 in
+    let start : tie.Start = search in
+    let a = start .args in
     omega (arith, first .ensures .next, le-length 8 (a .wide .low), le-length 8 (a .wide .high), first .kept .0)
 
 same-length : tie.Need-same-length
@@ -23,9 +25,12 @@ same-length c = search needs
 returns : tie.Need-returns
 unfolding wideBytes
 returns c =
-    let first = c .before .before .before .before .before .before .put8 in
-    let then = c .before .before .put82 in
-    let a = c .before .before .before .before .before .before .before .before .before .args in
+    let after-put8 : tie.After-put8 = search in
+    let first = after-put8 .put8 in
+    let after-put82 : tie.After-put82 = search in
+    let then = after-put82 .put82 in
+    let start : tie.Start = search in
+    let a = start .args in
     put-then (a .out .now) (a .at) (le 8 (a .wide .low)) (first .result) (first .last .0) (first .ensures) (le 8 (a .wide .high)) (then .result) (then .last .0) (then .ensures)
     (omega (arith, le-length 8 (a .wide .low), le-length 8 (a .wide .high)))
 

@@ -9,11 +9,11 @@ use borrow.Author.Tests.{not-true, not-false}
 use Rattle.base.proofs.Arrays.{view-le}
 use Rattle.timers.specs.Timers.{badClocks}
 use Rattle.events.specs.Events.{held}
-use Rattle.endpoint.proofs.Lengths.{entries-long, acked-long, untold-room}
-use Rattle.endpoint.proofs.Batches.{size-if-most}
-use Rattle.endpoint.proofs.Acts.{Resent, Packed, Announced, resent-none, resent-some, packed-none, size-is, packed-some, told-full, told-fits, announced-none, announced-some, running-untold, running-full, running-done}
-use Rattle.endpoint.proofs.Acts.{synchronizing-idle, synchronizing-full, synchronizing-done, disconnected-idle, disconnected-over}
-use Rattle.endpoint.proofs.Acts.{act-clocks, act-count, act-synchronizing, act-running, act-disconnected, act-idle}
+use Rattle.endpoint.proofs.Laws.Lengths.{entries-long, acked-long, no-event-fits}
+use Rattle.endpoint.proofs.Laws.Act.Batch.{size-if-most}
+use Rattle.endpoint.proofs.Laws.Act.Ways.{Resent, Packed, Announced, resent-none, resent-some, packed-none, size-is, packed-some, announced-full, announced-fits, announced-none, announced-some, running-unannounced, running-full, running-done}
+use Rattle.endpoint.proofs.Laws.Act.Ways.{synchronizing-idle, synchronizing-full, synchronizing-done, disconnected-idle, disconnected-over}
+use Rattle.endpoint.proofs.Laws.Act.Ways.{act-clocks, act-count, act-synchronizing, act-running, act-disconnected, act-idle}
 use borrow.Author.Needs.{needs}
 use Rattle.endpoint.proofs.Endpoint.act.Statement.{statement}
 use Rattle.endpoint.proofs.Endpoint.act.Tie as tie
@@ -76,14 +76,14 @@ returns-4 c =
     let asked = c .before .before .before .before .before .before .request in
     let issued = c .before .before .before .before .before .before .before .before .issue in
     act-synchronizing (a .self) (a .out .now) (a .statuses) (a .now) (a .epoch) (a .nonce) (good-clocks (c .before .before .before .before .before .before .before .before .before .before .before .before .before .before .before .before .before)) (c .before .before .before .before .before .before .before .before .before .before .before .before .before .before .if3 .left) (c .before .before .before .before .before .before .before .before .before .before .before .enum-told .given .1) _ _
-    (synchronizing-done (a .self) (a .out .now) (a .now) (a .nonce) (sym (c .before .before .before .before .before .before .before .before .before .before .passed .ensures) ∙ c .before .before .before .before .before .before .before .before .before .if4 .taken) (issued .result) (issued .ensures) (asked .result) _ (asked .ensures) (untold-room (a .self) _ (s .good .0)) (not-false _ (c .before .before .if5 .left)))
+    (synchronizing-done (a .self) (a .out .now) (a .now) (a .nonce) (sym (c .before .before .before .before .before .before .before .before .before .before .passed .ensures) ∙ c .before .before .before .before .before .before .before .before .before .if4 .taken) (issued .result) (issued .ensures) (asked .result) _ (asked .ensures) (no-event-fits (a .self) _ (s .good .0)) (not-false _ (c .before .before .if5 .left)))
 
 returns-5 : tie.Need-returns-5
 returns-5 c =
     let s = c .before .before .before .before .before .before .before .before .before .before .before .before .before in
     let a = s .args in
     act-synchronizing (a .self) (a .out .now) (a .statuses) (a .now) (a .epoch) (a .nonce) (good-clocks (c .before .before .before .before .before .before .before .before)) (c .before .before .before .before .before .if3 .left) (c .before .before .enum-told .given .1) _ _
-    (synchronizing-idle (a .self) (a .out .now) (a .now) (a .nonce) (untold-room (a .self) _ (s .good .0)) (sym (c .before .passed .ensures) ∙ c .if4 .left))
+    (synchronizing-idle (a .self) (a .out .now) (a .now) (a .nonce) (no-event-fits (a .self) _ (s .good .0)) (sym (c .before .passed .ensures) ∙ c .if4 .left))
 
 -- ---- Running
 
@@ -119,8 +119,8 @@ returns-6 c =
     let count = c .before .before .before .before .count in
     let due = c .before .before .before .due-at in
     act-running (a .self) (a .out .now) (a .statuses) (a .now) (a .epoch) (a .nonce) (good-clocks (c .before .before .before .before .before .before .before .before .before .before .before)) (c .before .before .before .before .before .before .before .before .if3 .left) (c .before .before .before .before .before .enum-told2 .given .1) _ _
-    (running-untold (a .self) (a .out .now) (a .statuses) (a .now) (a .epoch) (due .result) (count .result) (count .ensures) (due .ensures)
-    (told-full (a .self) (a .out .now) (a .statuses) (a .now) (a .epoch) (due .result) (c .before .count2 .result) (c .before .before .told .result) (c .before .count2 .ensures) (c .before .before .told .ensures) (c .if6 .taken)))
+    (running-unannounced (a .self) (a .out .now) (a .statuses) (a .now) (a .epoch) (due .result) (count .result) (count .ensures) (due .ensures)
+    (announced-full (a .self) (a .out .now) (a .statuses) (a .now) (a .epoch) (due .result) (c .before .count2 .result) (c .before .before .told .result) (c .before .count2 .ensures) (c .before .before .told .ensures) (c .if6 .taken)))
 
 sends-requires : tie.Need-sends-requires
 sends-requires c κs = search needs
@@ -131,15 +131,15 @@ sending-width-requires c κs = search needs
 size-requires : tie.Need-size-requires
 size-requires c κs = search needs
 
-is-full-requires : tie.Need-is-full-requires
-is-full-requires c κs = search needs
+buffer-full-requires : tie.Need-buffer-full-requires
+buffer-full-requires c κs = search needs
 
 returns-7 : tie.Need-returns-7
 returns-7 c =
     let a = c .before .before .before .before .before .before .before .before .before .before .before .before .before .before .before .before .before .before .before .before .before .before .args in
     let count = c .before .before .before .before .before .before .before .before .before .before .count in
     let due = c .before .before .before .before .before .before .before .before .before .due-at in
-    let full = c .before .is-full in
+    let full = c .before .buffer-full in
     let size = c .before .before .size in
     let wide = c .before .before .before .sending-width in
     act-running (a .self) (a .out .now) (a .statuses) (a .now) (a .epoch) (a .nonce) (good-clocks (c .before .before .before .before .before .before .before .before .before .before .before .before .before .before .before .before .before)) (c .before .before .before .before .before .before .before .before .before .before .before .before .before .before .if3 .left) (c .before .before .before .before .before .before .before .before .before .before .before .enum-told2 .given .1) _ _
@@ -176,17 +176,17 @@ packed c =
     let a = s .args in
     let d = c .before .before .before .before .before .due-at .result in
     ⊎-elim {0, 0, 0}
-    (λ w. rw (w .10, w .11) (packed-some (a .self) (a .out .now) (a .statuses) (a .now) (a .epoch) d (w .1 .result) (w .2 .result) (w .3 .result) (w .1 .ensures) (acked-long (a .self) _ (s .good .0)) (w .2 .ensures) (w .3 .ensures) (w .5 .self) (w .5 .out) (resent (record { before = record { before = record { before = record { before = record { before = record { before = c .before; if7 = w .0 }; sending-width = w .1 }; size = w .2 }; is-full = w .3 }; if8 = w .4 }; if9 = w .5 })) (w .7 .result) _ (w .7 .ensures) (w .4 .left)))
+    (λ w. rw (w .10, w .11) (packed-some (a .self) (a .out .now) (a .statuses) (a .now) (a .epoch) d (w .1 .result) (w .2 .result) (w .3 .result) (w .1 .ensures) (acked-long (a .self) _ (s .good .0)) (w .2 .ensures) (w .3 .ensures) (w .5 .self) (w .5 .out) (resent (record { before = record { before = record { before = record { before = record { before = record { before = c .before; if7 = w .0 }; sending-width = w .1 }; size = w .2 }; buffer-full = w .3 }; if8 = w .4 }; if9 = w .5 })) (w .7 .result) _ (w .7 .ensures) (w .4 .left)))
     (λ w. rw (w .1, w .2) (packed-none (a .self) (a .out .now) (a .statuses) (a .now) (a .epoch) d (sym (c .before .sends .ensures) ∙ w .0 .left)))
     (c .if7 .came)
 
 long : (c : tie.Joined7) → length (c .if7 .out) ≡ length (c .before .before .before .before .before .before .before .before .before .before .before .before .before .before .before .before .before .before .args .out .now)
-long c = ⊎-elim {0, 0, 0} (λ w. rw (w .11) (w .7 .kept .1 .0 ∙ long-resent (record { before = record { before = record { before = record { before = record { before = record { before = c .before; if7 = w .0 }; sending-width = w .1 }; size = w .2 }; is-full = w .3 }; if8 = w .4 }; if9 = w .5 }))) (λ w. rw (w .2)) (c .if7 .came)
+long c = ⊎-elim {0, 0, 0} (λ w. rw (w .11) (w .7 .kept .1 .0 ∙ long-resent (record { before = record { before = record { before = record { before = record { before = record { before = c .before; if7 = w .0 }; sending-width = w .1 }; size = w .2 }; buffer-full = w .3 }; if8 = w .4 }; if9 = w .5 }))) (λ w. rw (w .2)) (c .if7 .came)
 
 tell-requires : tie.Need-tell-requires
 tell-requires c κs = search needs
 
--- and told
+-- and announced
 announced : (c : tie.Joined10) → Announced (c .before .before .before .before .before .before .before .before .before .before .before .before .before .before .before .before .before .before .before .args .self) (c .before .before .before .before .before .before .before .before .before .before .before .before .before .before .before .before .before .before .before .args .out .now) (c .before .before .before .before .before .before .before .before .before .before .before .before .before .before .before .before .before .before .before .args .statuses) (c .before .before .before .before .before .before .before .before .before .before .before .before .before .before .before .before .before .before .before .args .now) (c .before .before .before .before .before .before .before .before .before .before .before .before .before .before .before .before .before .before .before .args .epoch) (c .before .before .before .before .before .before .due-at .result) (c .before .if7 .self) (c .if10 .self)
 announced c =
     let a = c .before .before .before .before .before .before .before .before .before .before .before .before .before .before .before .before .before .before .before .args in
@@ -217,7 +217,7 @@ returns-8 c =
     act-running (a .self) (a .out .now) (a .statuses) (a .now) (a .epoch) (a .nonce) (good-clocks (c .before .before .before .before .before .before .before .before .before .before .before .before .before .before .before .before)) (c .before .before .before .before .before .before .before .before .before .before .before .before .before .if3 .left) (c .before .before .before .before .before .before .before .before .before .before .enum-told2 .given .1) _ _
     (running-done (a .self) (a .out .now) (a .statuses) (a .now) (a .epoch) (due .result) (count .result) (count .ensures) (due .ensures)
     (c .before .before .before .if7 .self) (c .before .before .if10 .self) (c .before .before .before .if7 .out) (c .before .clocks-after .result) (c .flags-after .result)
-    (told-fits (a .self) (a .out .now) (a .statuses) (a .now) (a .epoch) (due .result) (n .result) (m .result) (n .ensures) (m .ensures) (c .before .before .before .before .before .if6 .left))
+    (announced-fits (a .self) (a .out .now) (a .statuses) (a .now) (a .epoch) (due .result) (n .result) (m .result) (n .ensures) (m .ensures) (c .before .before .before .before .before .if6 .left))
     (packed (c .before .before .before)) (announced (c .before .before)) (c .before .clocks-after .ensures) (c .flags-after .ensures))
 
 -- ---- Disconnected, and the phases in which nothing happens
@@ -230,20 +230,20 @@ returns-9 c =
     let s = c .before .before .before .before .before .before .before .before .before .before .before .before .before in
     let a = s .args in
     act-disconnected (a .self) (a .out .now) (a .statuses) (a .now) (a .epoch) (a .nonce) (good-clocks (c .before .before .before .before .before .before .before .before)) (c .before .before .before .before .before .if3 .left) (c .before .before .enum-told3 .given .1) _
-    (disconnected-over (a .self) (a .now) (untold-room (a .self) _ (s .good .0)) (c .if11 .taken))
+    (disconnected-over (a .self) (a .now) (no-event-fits (a .self) _ (s .good .0)) (c .if11 .taken))
 
 returns-10 : tie.Need-returns-10
 returns-10 c =
     let s = c .before .before .before .before .before .before .before .before .before .before .before .before .before in
     let a = s .args in
     act-disconnected (a .self) (a .out .now) (a .statuses) (a .now) (a .epoch) (a .nonce) (good-clocks (c .before .before .before .before .before .before .before .before)) (c .before .before .before .before .before .if3 .left) (c .before .before .enum-told3 .given .1) _
-    (disconnected-idle (a .self) (a .now) (untold-room (a .self) _ (s .good .0)) (c .if11 .left))
+    (disconnected-idle (a .self) (a .now) (no-event-fits (a .self) _ (s .good .0)) (c .if11 .left))
 
 returns-11 : tie.Need-returns-11
 returns-11 c =
     let s = c .before .before .before .before .before .before .before .before .before .before in
     let a = s .args in
-    act-idle (a .self) (a .out .now) (a .statuses) (a .now) (a .epoch) (a .nonce) (good-clocks (c .before .before .before .before .before)) (c .before .before .if3 .left) (untold-room (a .self) _ (s .good .0)) (c .match .keys4)
+    act-idle (a .self) (a .out .now) (a .statuses) (a .now) (a .epoch) (a .nonce) (good-clocks (c .before .before .before .before .before)) (c .before .before .if3 .left) (no-event-fits (a .self) _ (s .good .0)) (c .match .keys4)
 
 pub act-spec : {M : Type 1} → statement M
 act-spec =
@@ -273,7 +273,7 @@ act-spec =
     sends-requires
     sending-width-requires
     size-requires
-    is-full-requires
+    buffer-full-requires
     returns-7
     newest-requires
     pending-input-requires

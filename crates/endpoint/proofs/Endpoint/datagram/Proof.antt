@@ -1,5 +1,5 @@
 use borrow.Author.Needs.{needs}
-use Rattle.endpoint.specs.Arrived.{callOf}
+use Rattle.endpoint.specs.Inside.Arrival.{callOf}
 use Rattle.endpoint.proofs.Endpoint.datagram.Statement.{statement}
 use Rattle.endpoint.proofs.Endpoint.datagram.Tie as tie
 

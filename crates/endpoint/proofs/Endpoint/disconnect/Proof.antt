@@ -1,8 +1,8 @@
 use mathlib.Core.Path.{sym, _∙_, ap}
 use native.Mathlib.Omega.{arith}
-use Rattle.protocol.specs.Seen.{isShutdown}
-use Rattle.endpoint.proofs.Phases.{not-shutdown}
-use Rattle.endpoint.proofs.Disconnects.{disconnect-clock, disconnect-silent, disconnect-done, low}
+use Rattle.endpoint_rules.specs.Seen.{isShutdown}
+use Rattle.endpoint.proofs.Laws.Phases.{not-shutdown}
+use Rattle.endpoint.proofs.Laws.Disconnecting.{disconnect-clock, disconnect-silent, disconnect-done, low}
 use borrow.Author.Needs.{needs}
 use Rattle.endpoint.proofs.Endpoint.disconnect.Statement.{statement}
 use Rattle.endpoint.proofs.Endpoint.disconnect.Tie as tie

@@ -2,7 +2,7 @@ use borrow.Author.Tests.{not-true, not-false}
 use mathlib.Core.Bool.{false, _&&_, _||_}
 use mathlib.Core.List.{List, [], _∷_, _++_}
 use mathlib.Core.Logic.{inl, inr, ⊎-elim}
-use mathlib.Core.Path.{_≡_, sym, _∙_, ap, subst}
+use mathlib.Core.Path.{_≡_, sym, _∙_, ap, subst, refl}
 use native.Mathlib.Omega.{arith}
 use Prim.Native.Nat.{ℕ}
 use lib.Dec.{T}
@@ -17,22 +17,21 @@ use Rattle.codec.proofs.KindNumbers.{kind-is-one}
 use Rattle.nonces.specs.Nonces.{outstanding, isOutstanding}
 use Rattle.answer.specs.Number.{numberOf}
 use Rattle.timers.specs.Timers.{badClock}
-use Rattle.protocol.specs.Seen.{isSynchronizing}
-use Rattle.protocol.specs.Step.{step}
+use Rattle.endpoint_rules.specs.Seen.{isSynchronizing}
+use Rattle.endpoint_rules.specs.Step.{ignoredBy, step}
 use Rattle.endpoint.specs.declared.Ended.{Ended}
 use Rattle.endpoint.specs.Endpoint.{seen, DidAs}
-use Rattle.endpoint.specs.Arrived.{callOf}
-use Rattle.endpoint.specs.Filter.{ignoredBy}
-use Rattle.endpoint.specs.News.{news}
-use Rattle.endpoint.proofs.Acknowledges.{Drops, drops-some, drops-none}
-use Rattle.endpoint.proofs.Datagrams.{arrived}
-use Rattle.endpoint.proofs.Doors.{open-read, open-timely, open-heeded, turned-away, entered}
-use Rattle.endpoint.proofs.Inputs.{packet-refused, packet-numbered, packet-unannounced, packet-told, packet-quiet, packet-read, packet-unread}
-use Rattle.endpoint.proofs.Lengths.{entries-long, untold-room}
-use Rattle.endpoint.proofs.Messages.{Does}
-use Rattle.endpoint.proofs.Phases.{not-synchronizing}
-use Rattle.endpoint.proofs.Retells.{ToldAs}
-use Rattle.endpoint.proofs.Ways.{reply-passes, reply-choked, reply-counted, input-passes, only-crowded, ack-crowded, report-refused, react-refuses, Left, only-left, ack-left, report-left, react-left, ends-quiet, ends-told}
+use Rattle.endpoint.specs.Inside.Arrival.{callOf}
+use Rattle.endpoint.specs.Inside.Packet.{news}
+use Rattle.endpoint.proofs.Laws.Message.InputAck.{Drops, drops-some, drops-none}
+use Rattle.endpoint.proofs.Laws.Message.Arrival.{arrived}
+use Rattle.endpoint.proofs.Laws.Message.Admission.{open-read, open-timely, open-heeded, turned-away, entered}
+use Rattle.endpoint.proofs.Laws.Message.Input.{packet-refused, packet-numbered, packet-unannounced, packet-announced, packet-quiet, packet-read, packet-unread}
+use Rattle.endpoint.proofs.Laws.Lengths.{entries-long, no-event-fits}
+use Rattle.endpoint.proofs.Laws.Message.Bodies.{Does}
+use Rattle.endpoint.proofs.Laws.Phases.{not-synchronizing}
+use Rattle.endpoint.proofs.Laws.Announced.{AnnouncedAs}
+use Rattle.endpoint.proofs.Laws.Message.Ways.{reply-passes, reply-choked, reply-counted, input-passes, only-crowded, ack-crowded, report-refused, react-refuses, Left, only-left, ack-left, report-left, react-left, ends-quiet, ends-announced}
 use borrow.Author.Needs.{needs}
 use Rattle.endpoint.proofs.Endpoint.handle_message.Statement.{statement}
 use Rattle.endpoint.proofs.Endpoint.handle_message.Tie as tie
@@ -95,8 +94,8 @@ is-resuming-requires c κs = search needs
 count-requires : tie.Need-count-requires
 count-requires c κs = search needs
 
-is-crowded-requires : tie.Need-is-crowded-requires
-is-crowded-requires c κs = search needs
+events-full-requires : tie.Need-events-full-requires
+events-full-requires c κs = search needs
 
 kind-of-requires : tie.Need-kind-of-requires
 kind-of-requires c κs = search needs
@@ -107,8 +106,8 @@ reply-of-requires c κs = search needs
 enum-told : tie.Need-enum-told
 enum-told c = search needs
 
-less-requires : tie.Need-less-requires
-less-requires c κs = search needs
+minus-u32-requires : tie.Need-minus-u32-requires
+minus-u32-requires c κs = search needs
 
 spend-requires : tie.Need-spend-requires
 spend-requires c κs = search needs
@@ -116,8 +115,8 @@ spend-requires c κs = search needs
 count-requires-2 : tie.Need-count-requires-2
 count-requires-2 c κs = search needs
 
-is-crowded-requires-2 : tie.Need-is-crowded-requires-2
-is-crowded-requires-2 c κs = search needs
+events-full-requires-2 : tie.Need-events-full-requires-2
+events-full-requires-2 c κs = search needs
 
 count-reply-requires : tie.Need-count-reply-requires
 count-reply-requires c κs = search needs
@@ -131,8 +130,8 @@ returns-2 c =
     let h = k .before .before .before .before in
     let a = h .before .before .before .before .before .before .before .before .before .args in
     arrives h _ _ (reply-choked (a .self) (a .from) (heard h) (lent h) (a .now) (a .epoch) (a .nonce) (a .out .now) (good h) (heeded h)
-    _ (c .before .before .before .before .before .before .before .before .before .before .before .before .before .reply-of .ensures (sym (k .kind-of .ensures) ∙ c .before .before .before .before .before .before .before .before .before .before .before .before .before .before .match .keys1)) (c .before .before .before .before .before .before .before .before .before .before .before .enum-told .given .1) (c .before .before .before .before .before .before .before .before .before .before .less .result) (c .before .before .before .before .before .before .before .before .before .before .less .ensures) (c .before .before .before .before .before .before .before .before .before .spend .result) (c .before .before .before .before .before .before .before .before .before .spend .ensures) (c .before .before .before .before .before .before .before .before .if2 .taken)
-    (c .before .before .before .before .before .before .before .count2 .result) (c .before .before .before .before .before .before .before .count2 .ensures) (c .before .before .before .before .before .before .is-crowded2 .result) (c .before .before .before .before .before .before .is-crowded2 .ensures) (c .before .before .before .before .count-reply .result) (c .before .before .before .before .count-reply .last .1 .1 .1 .1 .1 .1 .1 .1 .0) (c .before .before .before .before .count-reply .ensures) (not-true _ (c .if3 .taken)))
+    _ (c .before .before .before .before .before .before .before .before .before .before .before .before .before .reply-of .ensures (sym (k .kind-of .ensures) ∙ c .before .before .before .before .before .before .before .before .before .before .before .before .before .before .match .keys1)) (c .before .before .before .before .before .before .before .before .before .before .before .enum-told .given .1) (c .before .before .before .before .before .before .before .before .before .before .minus-u32 .result) (c .before .before .before .before .before .before .before .before .before .before .minus-u32 .ensures) (c .before .before .before .before .before .before .before .before .before .spend .result) (c .before .before .before .before .before .before .before .before .before .spend .ensures) (c .before .before .before .before .before .before .before .before .if2 .taken)
+    (c .before .before .before .before .before .before .before .count2 .result) (c .before .before .before .before .before .before .before .count2 .ensures) (c .before .before .before .before .before .before .events-full2 .result) (c .before .before .before .before .before .before .events-full2 .ensures) (c .before .before .before .before .count-reply .result) (c .before .before .before .before .count-reply .last .1 .1 .1 .1 .1 .1 .1 .1 .0) (c .before .before .before .before .count-reply .ensures) (not-true _ (c .if3 .taken)))
 
 progress-requires : tie.Need-progress-requires
 progress-requires c κs = search needs
@@ -149,8 +148,8 @@ returns-3 c =
     let h = k .before .before .before .before in
     let a = h .before .before .before .before .before .before .before .before .before .args in
     arrives h _ _ (reply-counted (a .self) (a .from) (heard h) (lent h) (a .now) (a .epoch) (a .nonce) (a .out .now) (good h) (heeded h)
-    _ (c .before .before .before .before .before .before .before .before .before .before .before .before .before .before .before .before .before .before .before .reply-of .ensures (sym (k .kind-of .ensures) ∙ c .before .before .before .before .before .before .before .before .before .before .before .before .before .before .before .before .before .before .before .before .match .keys1)) (c .before .before .before .before .before .before .before .before .before .before .before .before .before .before .before .before .before .enum-told .given .1) (c .before .before .before .before .before .before .before .before .before .before .before .before .before .before .before .before .less .result) (c .before .before .before .before .before .before .before .before .before .before .before .before .before .before .before .before .less .ensures) (c .before .before .before .before .before .before .before .before .before .before .before .before .before .before .before .spend .result) (c .before .before .before .before .before .before .before .before .before .before .before .before .before .before .before .spend .ensures) (c .before .before .before .before .before .before .before .before .before .before .before .before .before .before .if2 .taken)
-    (c .before .before .before .before .before .before .before .before .before .before .before .before .before .count2 .result) (c .before .before .before .before .before .before .before .before .before .before .before .before .before .count2 .ensures) (c .before .before .before .before .before .before .before .before .before .before .before .before .is-crowded2 .result) (c .before .before .before .before .before .before .before .before .before .before .before .before .is-crowded2 .ensures) (c .before .before .before .before .before .before .before .before .before .before .count-reply .result) (c .before .before .before .before .before .before .before .before .before .before .count-reply .last .1 .1 .1 .1 .1 .1 .1 .1 .0) (c .before .before .before .before .before .before .before .before .before .before .count-reply .ensures)
+    _ (c .before .before .before .before .before .before .before .before .before .before .before .before .before .before .before .before .before .before .before .reply-of .ensures (sym (k .kind-of .ensures) ∙ c .before .before .before .before .before .before .before .before .before .before .before .before .before .before .before .before .before .before .before .before .match .keys1)) (c .before .before .before .before .before .before .before .before .before .before .before .before .before .before .before .before .before .enum-told .given .1) (c .before .before .before .before .before .before .before .before .before .before .before .before .before .before .before .before .minus-u32 .result) (c .before .before .before .before .before .before .before .before .before .before .before .before .before .before .before .before .minus-u32 .ensures) (c .before .before .before .before .before .before .before .before .before .before .before .before .before .before .before .spend .result) (c .before .before .before .before .before .before .before .before .before .before .before .before .before .before .before .spend .ensures) (c .before .before .before .before .before .before .before .before .before .before .before .before .before .before .if2 .taken)
+    (c .before .before .before .before .before .before .before .before .before .before .before .before .before .count2 .result) (c .before .before .before .before .before .before .before .before .before .before .before .before .before .count2 .ensures) (c .before .before .before .before .before .before .before .before .before .before .before .before .events-full2 .result) (c .before .before .before .before .before .before .before .before .before .before .before .before .events-full2 .ensures) (c .before .before .before .before .before .before .before .before .before .before .count-reply .result) (c .before .before .before .before .before .before .before .before .before .before .count-reply .last .1 .1 .1 .1 .1 .1 .1 .1 .0) (c .before .before .before .before .before .before .before .before .before .before .count-reply .ensures)
     (c .before .before .before .before .before .progress .result) (c .before .before .before .before .before .progress .ensures) (c .before .before .before .before .push .result) (c .before .before .before .before .push .ensures) (not-false _ (c .before .before .before .before .before .before .if3 .left)))
 
 -- a reply that does not count
@@ -169,7 +168,7 @@ returns-4 c =
     let h = k .before .before .before .before in
     let a = h .before .before .before .before .before .before .before .before .before .args in
     arrives h _ _ (only-crowded (a .self) (a .from) (heard h) (lent h) (a .now) (a .epoch) (a .nonce) (a .out .now) (good h) (heeded h)
-    (k .before .before .before .is-resuming .result) (k .before .before .before .is-resuming .ensures) (k .before .before .count .result) (k .before .before .count .ensures) (k .before .is-crowded .result) (k .before .is-crowded .ensures)
+    (k .before .before .before .is-resuming .result) (k .before .before .before .is-resuming .ensures) (k .before .before .count .result) (k .before .before .count .ensures) (k .before .events-full .result) (k .before .events-full .ensures)
     (reply-passes (a .self) (a .from) (heard h) (lent h) (a .now) (a .epoch) (a .nonce) (a .out .now) (good h) (heeded h)
     _ (c .before .before .reply-of .ensures (sym (k .kind-of .ensures) ∙ c .before .before .before .match .keys1)) (uncounted (c .before))) (c .if4 .taken))
 
@@ -226,12 +225,12 @@ returns-6 c =
     (c .before .before .before .before .before .before .before .before .before .before .before .before .before .before .admit2 .result) (c .before .before .before .before .before .before .before .before .before .before .before .before .before .before .admit2 .ensures) (c .before .before .before .before .before .before .before .before .before .before .before .before .before .if6 .left) (c .before .before .before .before .before .before .before .before .before .before .receiving-width .result) (c .before .before .before .before .before .before .before .before .before .before .receiving-width .ensures)
     (wide (c .before .before .before .before .before .before .before .before .before .before .before .before .before .before .before .before .before .before)) (c .before .before .before .before .before .before .before .before .before .news-of .result) (c .before .before .before .before .before .before .before .before .before .news-of .ensures) (c .before .before .push-packet .result) (c .before .before .push-packet .ensures) (not-true _ (c .if8 .taken)))
 
--- the endpoint after what is told
+-- the endpoint after what is announced
 telling : (c : tie.Joined7) →
     let k = c .before .before .before .before .before .before .before .before .before .before .before .before .before .before .before .before in
     let h = k .before .before .before .before in
     let a = h .before .before .before .before .before .before .before .before .before .args in
-    ToldAs (a .self)
+    AnnouncedAs (a .self)
     (ahead (c .before .before .before .before .before .before .before .before .before .inform .result .resumes) (c .before .before .before .before .before .before .before .before .before .inform .result .tells) ++ pick (c .before .before .before .before .before .before .before .before .before .before .before .before .«open» .result .readable) (news (a .self .setup) (newestOf (received (a .self .history))) (c .before .before .before .before .before .before .before .before .before .before .before .before .before .before .input-of .result .«start_frame») (c .before .before .before .before .before .before .before .before .before .before .before .before .«open» .result .input .bytes) (lent h)) [])
     (c .if7 .self)
 telling c =
@@ -239,14 +238,14 @@ telling c =
     let h = k .before .before .before .before in
     let a = h .before .before .before .before .before .before .before .before .before .args in
     ⊎-elim {0, 0, 0}
-    (λ v. packet-told (a .self) (a .from) (heard h) (lent h) (a .now) (a .epoch) (a .nonce) (a .out .now) (good h) (heeded h)
+    (λ v. packet-announced (a .self) (a .from) (heard h) (lent h) (a .now) (a .epoch) (a .nonce) (a .out .now) (good h) (heeded h)
     _ _ _ (c .before .before .before .before .before .before .before .before .before .before .before .before .before .before .input-of .ensures (sym (k .kind-of .ensures) ∙ c .before .before .before .before .before .before .before .before .before .before .before .before .before .before .before .match .keys2)) (c .before .before .before .before .before .before .before .before .before .before .before .before .«open» .result) (c .before .before .before .before .before .before .before .before .before .before .before .before .«open» .ensures) (not-true _ (c .before .before .before .before .before .before .before .before .before .before .if5 .taken)) (c .before .before .before .before .before .before .before .before .before .inform .result) (c .before .before .before .before .before .before .before .before .before .inform .ensures)
     (c .before .before .before .before .before .before .before .before .admit2 .result) (c .before .before .before .before .before .before .before .before .admit2 .ensures) (c .before .before .before .before .before .before .before .if6 .left) (c .before .before .before .before .receiving-width .result) (c .before .before .before .before .receiving-width .ensures)
     (wide (c .before .before .before .before .before .before .before .before .before .before .before .before)) (c .before .before .before .news-of .result) (c .before .before .before .news-of .ensures) (v .4 .result) (v .4 .ensures) (not-false _ (v .6 .left)) (c .if7 .self) (v .8))
     (λ v. packet-quiet (a .self) (a .from) (heard h) (lent h) (a .now) (a .epoch) (a .nonce) (a .out .now) (good h) (heeded h)
     _ _ _ (c .before .before .before .before .before .before .before .before .before .before .before .before .before .before .input-of .ensures (sym (k .kind-of .ensures) ∙ c .before .before .before .before .before .before .before .before .before .before .before .before .before .before .before .match .keys2)) (c .before .before .before .before .before .before .before .before .before .before .before .before .«open» .result) (c .before .before .before .before .before .before .before .before .before .before .before .before .«open» .ensures) (not-true _ (c .before .before .before .before .before .before .before .before .before .before .if5 .taken)) (c .before .before .before .before .before .before .before .before .before .inform .result) (c .before .before .before .before .before .before .before .before .before .inform .ensures)
     (c .before .before .before .before .before .before .before .before .admit2 .result) (c .before .before .before .before .before .before .before .before .admit2 .ensures) (c .before .before .before .before .before .before .before .if6 .left) (c .before .before .before .before .receiving-width .result) (c .before .before .before .before .receiving-width .ensures)
-    (wide (c .before .before .before .before .before .before .before .before .before .before .before .before)) (c .before .before .before .news-of .result) (c .before .before .before .news-of .ensures) (v .0 .left) (untold-room (a .self) _ (h .before .before .before .before .before .before .before .before .before .good .0)) (c .if7 .self) (v .1))
+    (wide (c .before .before .before .before .before .before .before .before .before .before .before .before)) (c .before .before .before .news-of .result) (c .before .before .before .news-of .ensures) (v .0 .left) (no-event-fits (a .self) _ (h .before .before .before .before .before .before .before .before .before .good .0)) (c .if7 .self) (v .1))
     (c .if7 .came)
 
 drops-requires : tie.Need-drops-requires
@@ -305,7 +304,7 @@ returns-9 c =
     let h = k .before .before .before .before in
     let a = h .before .before .before .before .before .before .before .before .before .args in
     arrives h _ _ (only-crowded (a .self) (a .from) (heard h) (lent h) (a .now) (a .epoch) (a .nonce) (a .out .now) (good h) (heeded h)
-    (k .before .before .before .is-resuming .result) (k .before .before .before .is-resuming .ensures) (k .before .before .count .result) (k .before .before .count .ensures) (k .before .is-crowded .result) (k .before .is-crowded .ensures)
+    (k .before .before .before .is-resuming .result) (k .before .before .before .is-resuming .ensures) (k .before .before .count .result) (k .before .before .count .ensures) (k .before .events-full .result) (k .before .events-full .ensures)
     (input-passes (a .self) (a .from) (heard h) (lent h) (a .now) (a .epoch) (a .nonce) (a .out .now) (good h) (heeded h)
     _ _ _ (c .before .before .before .before .before .input-of .ensures (sym (k .kind-of .ensures) ∙ c .before .before .before .before .before .before .match .keys2)) (c .before .before .before .«open» .result) (c .before .before .before .«open» .ensures) (not-false _ (c .before .if5 .left))) (c .if11 .taken))
 
@@ -318,7 +317,7 @@ returns-10 c =
     let h = k .before .before .before .before in
     let a = h .before .before .before .before .before .before .before .before .before .args in
     arrives h _ _ (ack-crowded (a .self) (a .from) (heard h) (lent h) (a .now) (a .epoch) (a .nonce) (a .out .now) (good h) (heeded h)
-    (k .before .before .before .is-resuming .result) (k .before .before .before .is-resuming .ensures) (k .before .before .count .result) (k .before .before .count .ensures) (k .before .is-crowded .result) (k .before .is-crowded .ensures)
+    (k .before .before .before .is-resuming .result) (k .before .before .before .is-resuming .ensures) (k .before .before .count .result) (k .before .before .count .ensures) (k .before .events-full .result) (k .before .events-full .ensures)
     _ (c .before .ack-of .ensures (sym (k .kind-of .ensures) ∙ c .before .before .match .keys3)) (c .if12 .taken))
 
 drop-to-requires-2 : tie.Need-drop-to-requires-2
@@ -342,7 +341,7 @@ returns-11 c =
     let h = k .before .before .before .before in
     let a = h .before .before .before .before .before .before .before .before .before .args in
     arrives h _ _ (report-refused (a .self) (a .from) (heard h) (lent h) (a .now) (a .epoch) (a .nonce) (a .out .now) (good h) (heeded h)
-    (k .before .before .before .is-resuming .result) (k .before .before .before .is-resuming .ensures) (k .before .before .count .result) (k .before .before .count .ensures) (k .before .is-crowded .result) (k .before .is-crowded .ensures)
+    (k .before .before .before .is-resuming .result) (k .before .before .before .is-resuming .ensures) (k .before .before .count .result) (k .before .before .count .ensures) (k .before .events-full .result) (k .before .events-full .ensures)
     _ _ (c .before .before .before .before .before .checksum-of .ensures (sym (k .kind-of .ensures) ∙ c .before .before .before .before .before .before .match .keys4)) (c .before .before .before .before .interval .result) (c .before .before .before .before .interval .ensures) (c .before .before .before .report .result) (c .before .before .before .report .ensures) (c .before .weigh .result) (c .before .weigh .ensures) (c .if13 .taken))
 
 -- a number above 7 is no body's
@@ -377,11 +376,8 @@ returns-13 c =
     let h = k .before .before .before .before in
     let a = h .before .before .before .before .before .before .before .before .before .args in
     arrives h _ _ (react-refuses (a .self) (a .from) (heard h) (lent h) (a .now) (a .epoch) (a .nonce) (a .out .now) (good h) (heeded h)
-    (k .before .before .before .is-resuming .result) (k .before .before .before .is-resuming .ensures) (k .before .before .count .result) (k .before .before .count .ensures) (k .before .is-crowded .result) (k .before .is-crowded .ensures)
+    (k .before .before .before .is-resuming .result) (k .before .before .before .is-resuming .ensures) (k .before .before .count .result) (k .before .before .count .ensures) (k .before .events-full .result) (k .before .events-full .ensures)
     (c .before .before .before .before .react .result) (c .before .before .before .before .react .last .1 .1 .1 .1 .1 .1 .1 .0) (c .before .before .before .before .react .ensures) (k .kind-of .result) (k .kind-of .ensures) (others (c .before .before .before .before .before .before)) (not-true _ (c .if15 .taken)))
-
-resumption-requires : tie.Need-resumption-requires
-resumption-requires c κs = search needs
 
 push-requires-2 : tie.Need-push-requires-2
 push-requires-2 c κs = search needs
@@ -405,7 +401,7 @@ left : (c : tie.At-match-came-2) →
     let h = k .before .before .before .before in
     let a = h .before .before .before .before .before .before .before .before .before .args in
     Left (a .self) (a .from) (heard h) (lent h) (a .now) (a .epoch) (a .nonce) (a .out .now) (good h) (heeded h)
-    (k .before .before .before .is-resuming .result) (k .before .before .before .is-resuming .ensures) (k .before .before .count .result) (k .before .before .count .ensures) (k .before .is-crowded .result) (k .before .is-crowded .ensures)
+    (k .before .before .before .is-resuming .result) (k .before .before .before .is-resuming .ensures) (k .before .before .count .result) (k .before .before .count .ensures) (k .before .events-full .result) (k .before .events-full .ensures)
     (c .match .self) (c .match .out)
 left c =
     let k = c .before in
@@ -413,24 +409,24 @@ left c =
     let a = h .before .before .before .before .before .before .before .before .before .args in
     ⊎-elim
     (λ w. rw (w .4, w .5) (only-left (a .self) (a .from) (heard h) (lent h) (a .now) (a .epoch) (a .nonce) (a .out .now) (good h) (heeded h)
-    (k .before .before .before .is-resuming .result) (k .before .before .before .is-resuming .ensures) (k .before .before .count .result) (k .before .before .count .ensures) (k .before .is-crowded .result) (k .before .is-crowded .ensures)
+    (k .before .before .before .is-resuming .result) (k .before .before .before .is-resuming .ensures) (k .before .before .count .result) (k .before .before .count .ensures) (k .before .events-full .result) (k .before .events-full .ensures)
     (reply-passes (a .self) (a .from) (heard h) (lent h) (a .now) (a .epoch) (a .nonce) (a .out .now) (good h) (heeded h)
     _ (w .1 .ensures (sym (k .kind-of .ensures) ∙ w .0 .keys1)) (uncounted (record { before = record { before = record { before = k; match = w .0 }; reply-of = w .1 }; match2 = w .2 }))) (w .3 .left)))
     (⊎-elim
     (λ w. rw (w .7, w .8) (only-left (a .self) (a .from) (heard h) (lent h) (a .now) (a .epoch) (a .nonce) (a .out .now) (good h) (heeded h)
-    (k .before .before .before .is-resuming .result) (k .before .before .before .is-resuming .ensures) (k .before .before .count .result) (k .before .before .count .ensures) (k .before .is-crowded .result) (k .before .is-crowded .ensures)
+    (k .before .before .before .is-resuming .result) (k .before .before .before .is-resuming .ensures) (k .before .before .count .result) (k .before .before .count .ensures) (k .before .events-full .result) (k .before .events-full .ensures)
     (input-passes (a .self) (a .from) (heard h) (lent h) (a .now) (a .epoch) (a .nonce) (a .out .now) (good h) (heeded h)
     _ _ _ (w .1 .ensures (sym (k .kind-of .ensures) ∙ w .0 .keys2)) (w .3 .result) (w .3 .ensures) (not-false _ (w .5 .left))) (w .6 .left)))
     (⊎-elim
     (λ w. rw (w .6, w .7) (ack-left (a .self) (a .from) (heard h) (lent h) (a .now) (a .epoch) (a .nonce) (a .out .now) (good h) (heeded h)
-    (k .before .before .before .is-resuming .result) (k .before .before .before .is-resuming .ensures) (k .before .before .count .result) (k .before .before .count .ensures) (k .before .is-crowded .result) (k .before .is-crowded .ensures)
+    (k .before .before .before .is-resuming .result) (k .before .before .before .is-resuming .ensures) (k .before .before .count .result) (k .before .before .count .ensures) (k .before .events-full .result) (k .before .events-full .ensures)
     _ (w .1 .ensures (sym (k .kind-of .ensures) ∙ w .0 .keys3)) (w .2 .left) (w .3 .result) (w .3 .ensures)))
     (⊎-elim
     (λ w. rw (w .8, w .9) (report-left (a .self) (a .from) (heard h) (lent h) (a .now) (a .epoch) (a .nonce) (a .out .now) (good h) (heeded h)
-    (k .before .before .before .is-resuming .result) (k .before .before .before .is-resuming .ensures) (k .before .before .count .result) (k .before .before .count .ensures) (k .before .is-crowded .result) (k .before .is-crowded .ensures)
+    (k .before .before .before .is-resuming .result) (k .before .before .before .is-resuming .ensures) (k .before .before .count .result) (k .before .before .count .ensures) (k .before .events-full .result) (k .before .events-full .ensures)
     _ _ (w .1 .ensures (sym (k .kind-of .ensures) ∙ w .0 .keys4)) (w .2 .result) (w .2 .ensures) (w .3 .result) (w .3 .ensures) (w .5 .result) (w .5 .ensures) (w .6 .left)))
     (λ w. rw (w .10, w .11) (react-left (a .self) (a .from) (heard h) (lent h) (a .now) (a .epoch) (a .nonce) (a .out .now) (good h) (heeded h)
-    (k .before .before .before .is-resuming .result) (k .before .before .before .is-resuming .ensures) (k .before .before .count .result) (k .before .before .count .ensures) (k .before .is-crowded .result) (k .before .is-crowded .ensures)
+    (k .before .before .before .is-resuming .result) (k .before .before .before .is-resuming .ensures) (k .before .before .count .result) (k .before .before .count .ensures) (k .before .events-full .result) (k .before .events-full .ensures)
     (w .2 .result) (w .2 .last .1 .1 .1 .1 .1 .1 .1 .0) (w .2 .ensures) (k .kind-of .result) (k .kind-of .ensures) (others (record { before = k; match = w .0 })) (not-false _ (w .6 .left)))))))
     (c .match .came)
 
@@ -441,11 +437,11 @@ returns-14 c =
     let h = k .before .before .before .before in
     let a = h .before .before .before .before .before .before .before .before .before .args in
     arrives h _ _ (⊎-elim
-    (λ w. rw (w .5) (ends-told (a .self) (a .from) (heard h) (lent h) (a .now) (a .epoch) (a .nonce) (a .out .now) (good h) (heeded h)
-    (k .before .before .before .is-resuming .result) (k .before .before .before .is-resuming .ensures) (k .before .before .count .result) (k .before .before .count .ensures) (k .before .is-crowded .result) (k .before .is-crowded .ensures)
-    (l .match .self) (l .match .out) (left l) (w .0 .taken) (w .1 .result) (w .1 .ensures) (w .2 .result) (w .2 .ensures)))
+    (λ w. rw (w .4) (ends-announced (a .self) (a .from) (heard h) (lent h) (a .now) (a .epoch) (a .nonce) (a .out .now) (good h) (heeded h)
+    (k .before .before .before .is-resuming .result) (k .before .before .before .is-resuming .ensures) (k .before .before .count .result) (k .before .before .count .ensures) (k .before .events-full .result) (k .before .events-full .ensures)
+    (l .match .self) (l .match .out) (left l) (w .0 .taken) _ refl (w .1 .result) (w .1 .ensures)))
     (λ w. rw (w .1) (ends-quiet (a .self) (a .from) (heard h) (lent h) (a .now) (a .epoch) (a .nonce) (a .out .now) (good h) (heeded h)
-    (k .before .before .before .is-resuming .result) (k .before .before .before .is-resuming .ensures) (k .before .before .count .result) (k .before .before .count .ensures) (k .before .is-crowded .result) (k .before .is-crowded .ensures)
+    (k .before .before .before .is-resuming .result) (k .before .before .before .is-resuming .ensures) (k .before .before .count .result) (k .before .before .count .ensures) (k .before .events-full .result) (k .before .events-full .ensures)
     (l .match .self) (l .match .out) (left l) (w .0 .left) (entries-long (a .self) _ (h .before .before .before .before .before .before .before .before .before .good .0))))
     (c .before .if16 .came))
 
@@ -460,14 +456,14 @@ handle-message-spec =
     returns
     is-resuming-requires
     count-requires
-    is-crowded-requires
+    events-full-requires
     kind-of-requires
     reply-of-requires
     enum-told
-    less-requires
+    minus-u32-requires
     spend-requires
     count-requires-2
-    is-crowded-requires-2
+    events-full-requires-2
     count-reply-requires
     same-length
     returns-2
@@ -508,7 +504,6 @@ handle-message-spec =
     react-requires
     same-length-4
     returns-13
-    resumption-requires
     push-requires-2
     same-length-5
     returns-14)

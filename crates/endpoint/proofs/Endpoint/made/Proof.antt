@@ -1,4 +1,4 @@
-use Rattle.endpoint.proofs.Makes.{makes}
+use Rattle.endpoint.proofs.Laws.Creation.{makes}
 use borrow.Author.Needs.{needs}
 use Rattle.endpoint.proofs.Endpoint.made.Statement.{statement}
 use Rattle.endpoint.proofs.Endpoint.made.Tie as tie

@@ -1,6 +1,6 @@
 use lib.ListN.{length}
-use Rattle.protocol.specs.Seen.{isShutdown}
-use Rattle.endpoint.proofs.Takes.{filled-part, handed-is}
+use Rattle.endpoint_rules.specs.Seen.{isShutdown}
+use Rattle.endpoint.proofs.Laws.Taking.{filled-part, handed-is}
 use borrow.Author.Needs.{needs}
 use Rattle.endpoint.proofs.Endpoint.messages.Statement.{statement}
 use Rattle.endpoint.proofs.Endpoint.messages.Tie as tie

@@ -1,5 +1,5 @@
 use mathlib.Core.Path.{sym, _∙_}
-use Rattle.endpoint.proofs.Tells.{stats-clock, stats-phase, stats-early, stats-told}
+use Rattle.endpoint.proofs.Laws.Getters.{stats-clock, stats-phase, stats-early, stats-shown}
 use borrow.Author.Needs.{needs}
 use Rattle.endpoint.proofs.Endpoint.network_stats.Statement.{statement}
 use Rattle.endpoint.proofs.Endpoint.network_stats.Tie as tie
@@ -29,7 +29,7 @@ count-requires c κs = search needs
 
 returns-4 : tie.Need-returns-4
 returns-4 c =
-    stats-told (c .before .before .before .before .before .before .before .before .args .self) (c .before .before .before .before .before .before .before .before .args .epoch) (sym (c .before .before .before .before .before .before .before .is-bad .ensures) ∙ c .before .before .before .before .before .before .if1 .left) (sym (c .before .before .before .before .has-no-stats .ensures) ∙ c .before .before .before .if2 .left)
+    stats-shown (c .before .before .before .before .before .before .before .before .args .self) (c .before .before .before .before .before .before .before .before .args .epoch) (sym (c .before .before .before .before .before .before .before .is-bad .ensures) ∙ c .before .before .before .before .before .before .if1 .left) (sym (c .before .before .before .before .has-no-stats .ensures) ∙ c .before .before .before .if2 .left)
     (sym (c .before .before .is-early .ensures) ∙ c .before .if3 .left) (c .count .result) (c .count .ensures)
 
 pub network-stats-spec : {M : Type 1} → statement M

@@ -1,4 +1,4 @@
-use Rattle.endpoint.proofs.Makes.{made-as}
+use Rattle.endpoint.proofs.Laws.Creation.{made-as}
 use borrow.Author.Needs.{needs}
 use Rattle.endpoint.proofs.Endpoint.new.Statement.{statement}
 use Rattle.endpoint.proofs.Endpoint.new.Tie as tie

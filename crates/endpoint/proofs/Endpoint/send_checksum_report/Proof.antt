@@ -1,7 +1,7 @@
 use borrow.Author.Tests.{not-true, not-false}
 use mathlib.Core.Path.{sym, _∙_}
-use Rattle.endpoint.proofs.Lengths.{untold-room}
-use Rattle.endpoint.proofs.ChecksumReports.{send-clock, send-full, send-done}
+use Rattle.endpoint.proofs.Laws.Lengths.{no-event-fits}
+use Rattle.endpoint.proofs.Laws.Message.ChecksumReport.{send-clock, send-full, send-done}
 use borrow.Author.Needs.{needs}
 use Rattle.endpoint.proofs.Endpoint.send_checksum_report.Statement.{statement}
 use Rattle.endpoint.proofs.Endpoint.send_checksum_report.Tie as tie
@@ -32,7 +32,7 @@ returns-3 c =
     let s = c .before .before .before .before .before .before .before .before .before .before .args in
     send-done (s .self) (s .out .now) (s .frame) (s .checksum) (s .now) (sym (c .before .before .before .before .before .before .before .before .is-bad .ensures) ∙ c .before .before .before .before .before .before .before .if1 .left)
     (c .before .before .before .before .before .plain .result) (c .before .before .before .before .before .plain .last .0) (c .before .before .before .before .before .plain .ensures) (c .sent .result)
-    (untold-room (s .self) _ (c .before .before .before .before .before .before .before .before .before .before .good .0)) (not-false _ (c .before .if2 .left)) (c .sent .ensures)
+    (no-event-fits (s .self) _ (c .before .before .before .before .before .before .before .before .before .before .good .0)) (not-false _ (c .before .if2 .left)) (c .sent .ensures)
 
 pub send-checksum-report-spec : {M : Type 1} → statement M
 send-checksum-report-spec =

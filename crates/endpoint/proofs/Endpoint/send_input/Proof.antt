@@ -1,10 +1,10 @@
 use borrow.Author.Tests.{not-true, not-false}
 use mathlib.Core.Logic.{⊎-elim}
 use mathlib.Core.Path.{sym, _∙_, ap}
-use Rattle.protocol.specs.Seen.{isRunning}
-use Rattle.endpoint.proofs.Lengths.{untold-room, acked-long}
-use Rattle.endpoint.proofs.Phases.{not-running}
-use Rattle.endpoint.proofs.Sends.{Telling, tells-one, tells-none, send-clock, send-length, send-silent, send-frame, send-crowded, send-untold, send-choked, send-done}
+use Rattle.endpoint_rules.specs.Seen.{isRunning}
+use Rattle.endpoint.proofs.Laws.Lengths.{no-event-fits, acked-long}
+use Rattle.endpoint.proofs.Laws.Phases.{not-running}
+use Rattle.endpoint.proofs.Laws.Sending.{Announcing, announces-one, announces-none, send-clock, send-length, send-silent, send-frame, send-crowded, send-unannounced, send-choked, send-done}
 use borrow.Author.Needs.{needs}
 use Rattle.endpoint.proofs.Endpoint.send_input.Statement.{statement}
 use Rattle.endpoint.proofs.Endpoint.send_input.Tie as tie
@@ -59,23 +59,23 @@ count-requires c κs = search needs
 count-requires-2 : tie.Need-count-requires-2
 count-requires-2 c κs = search needs
 
-is-crowded-requires : tie.Need-is-crowded-requires
-is-crowded-requires c κs = search needs
+events-full-requires : tie.Need-events-full-requires
+events-full-requires c κs = search needs
 
 returns-6 : tie.Need-returns-6
 returns-6 c =
     let k = c .before .before .before in
     let a = k .before .before .before .before .before .before .before .before .before .before .before .before .before .before .before .before .before .before .before .before .args in
-    send-untold (a .self) (a .frame) (a .bytes .now) (a .statuses) (a .now) (a .out .now) (sym (k .before .before .before .before .before .before .before .before .before .before .before .before .before .before .before .before .before .is-bad .ensures) ∙ k .before .before .before .before .before .before .before .before .before .before .before .before .before .before .before .before .if1 .left) (k .before .before .before .before .before .before .before .before .before .before .before .before .before .before .before .sending-width .result) (k .before .before .before .before .before .before .before .before .before .before .before .before .before .before .before .sending-width .ensures)
+    send-unannounced (a .self) (a .frame) (a .bytes .now) (a .statuses) (a .now) (a .out .now) (sym (k .before .before .before .before .before .before .before .before .before .before .before .before .before .before .before .before .before .is-bad .ensures) ∙ k .before .before .before .before .before .before .before .before .before .before .before .before .before .before .before .before .if1 .left) (k .before .before .before .before .before .before .before .before .before .before .before .before .before .before .before .sending-width .result) (k .before .before .before .before .before .before .before .before .before .before .before .before .before .before .before .sending-width .ensures)
     (k .before .before .before .before .before .before .before .before .before .before .before .before .if2 .left) (ap isRunning (k .before .before .before .before .before .before .before .before .before .enum-told .given .1)) (k .before .before .before .before .before .before .before .frame-at .result) (k .before .before .before .before .before .before .before .frame-at .ensures) (k .before .before .before .before .before .before .push .result) (k .before .before .before .before .before .before .push .ensures)
     (sym (k .before .before .before .before .before .is-bad-frame .ensures) ∙ k .before .before .before .before .if3 .left) (not-false _ (k .before .before .if4 .left)) (k .count .result) (k .count .ensures)
-    (c .before .before .count2 .result) (c .before .before .count2 .ensures) (sym (c .before .is-crowded .ensures) ∙ c .if5 .taken)
+    (c .before .before .count2 .result) (c .before .before .count2 .ensures) (sym (c .before .events-full .ensures) ∙ c .if5 .taken)
 
 input-size-requires : tie.Need-input-size-requires
 input-size-requires c κs = search needs
 
-is-full-requires : tie.Need-is-full-requires
-is-full-requires c κs = search needs
+buffer-full-requires : tie.Need-buffer-full-requires
+buffer-full-requires c κs = search needs
 
 returns-7 : tie.Need-returns-7
 returns-7 c =
@@ -84,7 +84,7 @@ returns-7 c =
     send-choked (a .self) (a .frame) (a .bytes .now) (a .statuses) (a .now) (a .out .now) (sym (k .before .before .before .before .before .before .before .before .before .before .before .before .before .before .before .before .before .is-bad .ensures) ∙ k .before .before .before .before .before .before .before .before .before .before .before .before .before .before .before .before .if1 .left) (k .before .before .before .before .before .before .before .before .before .before .before .before .before .before .before .sending-width .result) (k .before .before .before .before .before .before .before .before .before .before .before .before .before .before .before .sending-width .ensures)
     (k .before .before .before .before .before .before .before .before .before .before .before .before .if2 .left) (ap isRunning (k .before .before .before .before .before .before .before .before .before .enum-told .given .1)) (k .before .before .before .before .before .before .before .frame-at .result) (k .before .before .before .before .before .before .before .frame-at .ensures) (k .before .before .before .before .before .before .push .result) (k .before .before .before .before .before .before .push .ensures)
     (sym (k .before .before .before .before .before .is-bad-frame .ensures) ∙ k .before .before .before .before .if3 .left) (not-false _ (k .before .before .if4 .left)) (k .count .result) (k .count .ensures)
-    (c .before .before .input-size .result) (c .before .before .input-size .ensures) (acked-long (a .self) _ (k .before .before .before .before .before .before .before .before .before .before .before .before .before .before .before .before .before .before .before .before .good .0)) (c .before .is-full .result) (c .before .is-full .ensures) (c .if6 .taken)
+    (c .before .before .input-size .result) (c .before .before .input-size .ensures) (acked-long (a .self) _ (k .before .before .before .before .before .before .before .before .before .before .before .before .before .before .before .before .before .before .before .before .good .0)) (c .before .buffer-full .result) (c .before .buffer-full .ensures) (c .if6 .taken)
 
 push-requires-2 : tie.Need-push-requires-2
 push-requires-2 c κs = search needs
@@ -98,14 +98,14 @@ pending-input-requires c κs = search needs
 same-length : tie.Need-same-length
 same-length c = search needs
 
--- the endpoint after what is told
-after-telling : (c : tie.Joined7) → Telling (c .before .before .before .before .before .before .before .before .before .before .before .before .before .before .before .before .before .before .before .before .before .before .before .before .before .before .before .args .self) (c .before .before .before .before .before .before .before .count .result) (c .if7 .self)
-after-telling c =
+-- the endpoint after what is announced
+after-announcing : (c : tie.Joined7) → Announcing (c .before .before .before .before .before .before .before .before .before .before .before .before .before .before .before .before .before .before .before .before .before .before .before .before .before .before .before .args .self) (c .before .before .before .before .before .before .before .count .result) (c .if7 .self)
+after-announcing c =
     let s = c .before .before .before .before .before .before .before .before .before .before .before .before .before .before .before .before .before .before .before .before .before .before .before .before .before .before .before in
     let n = c .before .before .before .before .before .before .before .count .result in
     ⊎-elim {0, 0, 0}
-    (λ w. tells-one (s .args .self) n (c .before .before .before .before .before .before .count2 .result) (c .before .before .before .before .before .before .count2 .ensures) (w .1 .result) (sym (c .before .before .before .before .before .is-crowded .ensures) ∙ c .before .before .before .before .if5 .left) (w .0 .taken) (w .1 .ensures) (c .if7 .self) (w .3))
-    (λ w. tells-none (s .args .self) n (w .0 .left) (untold-room (s .args .self) _ (s .good .0)) (c .if7 .self) (w .1))
+    (λ w. announces-one (s .args .self) n (c .before .before .before .before .before .before .count2 .result) (c .before .before .before .before .before .before .count2 .ensures) (w .1 .result) (sym (c .before .before .before .before .before .events-full .ensures) ∙ c .before .before .before .before .if5 .left) (w .0 .taken) (w .1 .ensures) (c .if7 .self) (w .3))
+    (λ w. announces-none (s .args .self) n (w .0 .left) (no-event-fits (s .args .self) _ (s .good .0)) (c .if7 .self) (w .1))
     (c .if7 .came)
 
 returns-8 : tie.Need-returns-8
@@ -116,8 +116,8 @@ returns-8 c =
     send-done (a .self) (a .frame) (a .bytes .now) (a .statuses) (a .now) (a .out .now) (sym (k .before .before .before .before .before .before .before .before .before .before .before .before .before .before .before .before .before .is-bad .ensures) ∙ k .before .before .before .before .before .before .before .before .before .before .before .before .before .before .before .before .if1 .left) (k .before .before .before .before .before .before .before .before .before .before .before .before .before .before .before .sending-width .result) (k .before .before .before .before .before .before .before .before .before .before .before .before .before .before .before .sending-width .ensures)
     (k .before .before .before .before .before .before .before .before .before .before .before .before .if2 .left) (ap isRunning (k .before .before .before .before .before .before .before .before .before .enum-told .given .1)) (k .before .before .before .before .before .before .before .frame-at .result) (k .before .before .before .before .before .before .before .frame-at .ensures) (k .before .before .before .before .before .before .push .result) (k .before .before .before .before .before .before .push .ensures)
     (sym (k .before .before .before .before .before .is-bad-frame .ensures) ∙ k .before .before .before .before .if3 .left) (not-false _ (k .before .before .if4 .left)) (k .count .result) (k .count .ensures)
-    (c .before .before .before .before .before .before .before .before .before .input-size .result) (c .before .before .before .before .before .before .before .before .before .input-size .ensures) (acked-long (a .self) _ (k .before .before .before .before .before .before .before .before .before .before .before .before .before .before .before .before .before .before .before .before .good .0)) (c .before .before .before .before .before .before .before .before .is-full .result) (c .before .before .before .before .before .before .before .before .is-full .ensures) (c .before .before .before .before .before .before .before .if6 .left)
-    (j .if7 .self) (after-telling j) (c .before .before .before .before .newest .result) (c .before .before .before .before .newest .ensures) (c .before .before .before .pending-input .result) (c .before .before .before .pending-input .last .0) (c .before .before .before .pending-input .ensures)
+    (c .before .before .before .before .before .before .before .before .before .input-size .result) (c .before .before .before .before .before .before .before .before .before .input-size .ensures) (acked-long (a .self) _ (k .before .before .before .before .before .before .before .before .before .before .before .before .before .before .before .before .before .before .before .before .good .0)) (c .before .before .before .before .before .before .before .before .buffer-full .result) (c .before .before .before .before .before .before .before .before .buffer-full .ensures) (c .before .before .before .before .before .before .before .if6 .left)
+    (j .if7 .self) (after-announcing j) (c .before .before .before .before .newest .result) (c .before .before .before .before .newest .ensures) (c .before .before .before .pending-input .result) (c .before .before .before .pending-input .last .0) (c .before .before .before .pending-input .ensures)
 
 pub send-input-spec : {M : Type 1} → statement M
 send-input-spec =
@@ -137,10 +137,10 @@ send-input-spec =
     returns-5
     count-requires
     count-requires-2
-    is-crowded-requires
+    events-full-requires
     returns-6
     input-size-requires
-    is-full-requires
+    buffer-full-requires
     returns-7
     push-requires-2
     newest-requires

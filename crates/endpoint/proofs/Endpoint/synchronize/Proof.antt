@@ -1,10 +1,10 @@
 use borrow.Author.Tests.{not-true, not-false}
 use mathlib.Core.Logic.{⊎-elim}
 use mathlib.Core.Path.{ap}
-use Rattle.protocol.specs.Seen.{isInitializing}
-use Rattle.endpoint.proofs.Phases.{not-initializing}
-use Rattle.endpoint.proofs.Lengths.{untold-room}
-use Rattle.endpoint.proofs.Asks.{synchronize-clocks, synchronize-state, synchronize-full, synchronize-done}
+use Rattle.endpoint_rules.specs.Seen.{isInitializing}
+use Rattle.endpoint.proofs.Laws.Phases.{not-initializing}
+use Rattle.endpoint.proofs.Laws.Lengths.{no-event-fits}
+use Rattle.endpoint.proofs.Laws.Handshake.{synchronize-clocks, synchronize-state, synchronize-full, synchronize-done}
 use borrow.Author.Needs.{needs}
 use Rattle.endpoint.proofs.Endpoint.synchronize.Statement.{statement}
 use Rattle.endpoint.proofs.Endpoint.synchronize.Tie as tie
@@ -57,7 +57,7 @@ returns-4 c =
     let asked = c .before .before .before .before .before .before .before .request in
     synchronize-done (a .self) (a .out .now) (a .now) (a .epoch) (a .nonce) (rw (← c .before .before .before .before .before .before .before .before .before .before .before .before .before .before .before .before .is-bad .ensures, c .before .before .before .before .before .before .before .before .before .before .before .before .before .before .before .if1 .left, ← c .before .before .before .before .before .before .before .before .before .before .before .before .before .before .is-bad2 .ensures, c .before .before .before .before .before .before .before .before .before .before .before .before .before .if2 .left))
     (ap isInitializing (c .before .before .before .before .before .before .before .before .before .before .enum-told .given .1)) (c .before .before .before .before .before .before .before .before .before .issue .result) (c .before .before .before .before .before .before .before .before .before .issue .ensures) (asked .result) (asked .last .1 .1 .1 .1 .1 .0) (asked .ensures) (not-false _ (c .before .before .before .if3 .left))
-    (untold-room (a .self) _ (s .good .0)) (c .started .result) (c .started .ensures)
+    (no-event-fits (a .self) _ (s .good .0)) (c .started .result) (c .started .ensures)
 
 pub synchronize-spec : {M : Type 1} → statement M
 synchronize-spec =

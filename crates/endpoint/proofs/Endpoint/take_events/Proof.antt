@@ -1,4 +1,4 @@
-use Rattle.endpoint.proofs.Takes.{takes-events}
+use Rattle.endpoint.proofs.Laws.Taking.{takes-events}
 use Rattle.endpoint.proofs.Endpoint.take_events.Statement.{statement}
 use Rattle.endpoint.proofs.Endpoint.take_events.Tie as tie
 

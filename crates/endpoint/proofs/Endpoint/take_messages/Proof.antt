@@ -1,6 +1,6 @@
 use mathlib.Core.Path.{sym, _∙_}
 use lib.ListN.{length}
-use Rattle.endpoint.proofs.Takes.{take-short, take-done}
+use Rattle.endpoint.proofs.Laws.Taking.{take-short, take-done}
 use borrow.Author.Needs.{needs}
 use Rattle.endpoint.proofs.Endpoint.take_messages.Statement.{statement}
 use Rattle.endpoint.proofs.Endpoint.take_messages.Tie as tie

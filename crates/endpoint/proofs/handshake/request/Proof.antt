@@ -1,7 +1,7 @@
 use borrow.Author.Tests.{not-true, not-false}
 use mathlib.Core.Path.{_∙_, ap}
 use Rattle.timers.specs.Timers.{sentAt}
-use Rattle.endpoint.proofs.Asks.{ask-choked, ask-full, ask-done}
+use Rattle.endpoint.proofs.Laws.Handshake.{ask-choked, ask-full, ask-done}
 use borrow.Author.Needs.{needs}
 use Rattle.endpoint.proofs.handshake.request.Statement.{statement}
 use Rattle.endpoint.proofs.handshake.request.Tie as tie

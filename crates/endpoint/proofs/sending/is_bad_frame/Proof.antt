@@ -1,4 +1,4 @@
-use Rattle.endpoint.proofs.Frames.{negative, first, follows}
+use Rattle.endpoint.proofs.Laws.Sending.{negative, first, follows}
 use borrow.Author.Needs.{needs}
 use Rattle.endpoint.proofs.sending.is_bad_frame.Statement.{statement}
 use Rattle.endpoint.proofs.sending.is_bad_frame.Tie as tie

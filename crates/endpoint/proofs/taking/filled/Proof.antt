@@ -1,5 +1,5 @@
 use borrow.Author.Tests.{lt-ltb, le-ltb}
-use Rattle.endpoint.proofs.Phases.{not-shutdown}
+use Rattle.endpoint.proofs.Laws.Phases.{not-shutdown}
 use borrow.Author.Needs.{needs}
 use Rattle.endpoint.proofs.taking.filled.Statement.{statement}
 use Rattle.endpoint.proofs.taking.filled.Tie as tie

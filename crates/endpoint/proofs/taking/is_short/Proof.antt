@@ -1,4 +1,4 @@
-use Rattle.endpoint.proofs.Phases.{not-shutdown}
+use Rattle.endpoint.proofs.Laws.Phases.{not-shutdown}
 use borrow.Author.Needs.{needs}
 use Rattle.endpoint.proofs.taking.is_short.Statement.{statement}
 use Rattle.endpoint.proofs.taking.is_short.Tie as tie

@@ -1,4 +1,5 @@
 -- `event` goes by the variant, and each arm puts that variant's words.
+use Prim.Native.Nat.{_^_, _<_}
 use borrow.Author.Needs.{needs}
 use native.Mathlib.Nat.{add-zero}
 use lib.Dec.{lit≤}
@@ -80,39 +81,55 @@ slice-aggregate-put-6 c = search needs
 put-requires-6 : tie.Need-put-requires-6
 put-requires-6 c κs = search needs
 
+-- both counts have their width
+counts : (c : tie.After-known-told) →
+    let v = c .before .event .given .0 in
+    (v .0 < 2 ^ 32) × (v .1 .0 < 2 ^ 32)
+counts c = search needs
+
 returns : tie.Need-returns
 unfolding eventText ascii
 returns c =
-    let s = c .before .before .before .before .before .before .before .before .before in
-    rw (c .before .before .before .before .before .before .before .event .given .1) (synchronizing-added (s .args .draft) (s .pre) _ _ (search needs) (search needs) _ _ _ _ (c .before .before .before .before .put .ensures) (rw add-zero at (c .before .before .before .put-decimal .ensures)) (c .before .put2 .ensures) (rw add-zero at (c .put-decimal2 .ensures)))
+    let n = counts search in
+    let after-event : tie.After-event = search in
+    let after-put : tie.After-put = search in
+    let after-put-decimal : tie.After-put-decimal = search in
+    let s : tie.Start = search in
+    rw (after-event .event .given .1) (synchronizing-added (s .args .draft) (s .pre) _ _ (n .0) (n .1) _ _ _ _ (after-put .put .ensures) (rw add-zero at (after-put-decimal .put-decimal .ensures)) (c .before .put2 .ensures) (rw add-zero at (c .put-decimal2 .ensures)))
 
 returns-2 : tie.Need-returns-2
 unfolding eventText ascii
 returns-2 c =
-    let s = c .before .before .before .before in
-    rw (c .before .before .enum-told .given .1) (word-added (s .args .draft) (s .pre) _ _ (lit≤ tt) (c .put3 .ensures))
+    let after-enum-told : tie.After-enum-told = search in
+    let s : tie.Start = search in
+    rw (after-enum-told .enum-told .given .1) (word-added (s .args .draft) (s .pre) _ _ (lit≤ tt) (c .put3 .ensures))
 
 returns-3 : tie.Need-returns-3
 unfolding eventText
-returns-3 c = rw (c .before .before .before .event2 .given .1) (c .moved .ensures)
+returns-3 c =
+    let after-event2 : tie.After-event2 = search in
+    rw (after-event2 .event2 .given .1) (c .moved .ensures)
 
 returns-4 : tie.Need-returns-4
 unfolding eventText ascii
 returns-4 c =
-    let s = c .before .before .before .before in
-    rw (c .before .before .enum-told2 .given .1) (word-added (s .args .draft) (s .pre) _ _ (lit≤ tt) (c .put4 .ensures))
+    let after-enum-told2 : tie.After-enum-told2 = search in
+    let s : tie.Start = search in
+    rw (after-enum-told2 .enum-told2 .given .1) (word-added (s .args .draft) (s .pre) _ _ (lit≤ tt) (c .put4 .ensures))
 
 returns-5 : tie.Need-returns-5
 unfolding eventText ascii
 returns-5 c =
-    let s = c .before .before .before .before .before .before in
-    rw (c .before .before .before .before .event3 .given .1) (interrupted-added (s .args .draft) (s .pre) _ (search needs) _ _ (c .before .put5 .ensures) (rw add-zero at (c .put-decimal3 .ensures)))
+    let after-event3 : tie.After-event3 = search in
+    let s : tie.Start = search in
+    rw (after-event3 .event3 .given .1) (interrupted-added (s .args .draft) (s .pre) _ (search needs) _ _ (c .before .put5 .ensures) (rw add-zero at (c .put-decimal3 .ensures)))
 
 returns-6 : tie.Need-returns-6
 unfolding eventText ascii
 returns-6 c =
-    let s = c .before .before .before .before in
-    rw (c .before .before .enum-told3 .given .1) (word-added (s .args .draft) (s .pre) _ _ (lit≤ tt) (c .put6 .ensures))
+    let after-enum-told3 : tie.After-enum-told3 = search in
+    let s : tie.Start = search in
+    rw (after-enum-told3 .enum-told3 .given .1) (word-added (s .args .draft) (s .pre) _ _ (lit≤ tt) (c .put6 .ensures))
 
 pub event-spec : {M : Type 1} → statement M
 event-spec =

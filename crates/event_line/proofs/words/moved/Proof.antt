@@ -38,10 +38,10 @@ put-requires-3 : tie.Need-put-requires-3
 put-requires-3 c κs = search needs
 
 array-share-prefix-input : tie.Need-array-share-prefix-input
-array-share-prefix-input c = omega (arith, long (c .before .before .before .before .before .before .before .before .before))
+array-share-prefix-input c = omega (arith, long search)
 
 slice-aggregate-put-hex : tie.Need-slice-aggregate-put-hex
-slice-aggregate-put-hex c = sym (length-take-le _ _ (omega (arith, long (c .before .before .before .before .before .before .before .before .before .before))))
+slice-aggregate-put-hex c = sym (length-take-le _ _ (omega (arith, long search)))
 
 put-hex-requires : tie.Need-put-hex-requires
 put-hex-requires c κs = search needs
@@ -49,11 +49,16 @@ put-hex-requires c κs = search needs
 returns : tie.Need-returns
 unfolding ascii
 returns c =
-    let s = c .before .before .before .before .before .before .before .before .before .before .before in
-    input-added (s .args .draft) (s .pre) (s .args .frame) (s .args .player) (s .args .size) (s .args .t4) (search needs) (search needs) (long s) _ _ _ _ _ _ (c .before .before .before .before .before .before .before .before .before .put .ensures) (c .before .before .before .before .before .before .before .before .put-signed .ensures) (c .before .before .before .before .before .before .put2 .ensures) (rw add-zero at (c .before .before .before .before .before .put-decimal .ensures)) (c .before .before .before .put3 .ensures) (c .put-hex .ensures)
+    let after-put : tie.After-put = search in
+    let after-put-signed : tie.After-put-signed = search in
+    let after-put2 : tie.After-put2 = search in
+    let after-put-decimal : tie.After-put-decimal = search in
+    let after-put3 : tie.After-put3 = search in
+    let s : tie.Start = search in
+    input-added (s .args .draft) (s .pre) (s .args .frame) (s .args .player) (s .args .size) (s .args .t4) (search needs) (search needs) (long s) _ _ _ _ _ _ (after-put .put .ensures) (after-put-signed .put-signed .ensures) (after-put2 .put2 .ensures) (rw add-zero at (after-put-decimal .put-decimal .ensures)) (after-put3 .put3 .ensures) (c .put-hex .ensures)
 
 slice-aggregate-put-hex-2 : tie.Need-slice-aggregate-put-hex-2
-slice-aggregate-put-hex-2 c = sym (long (c .before .before .before .before .before .before .before .before .before .before))
+slice-aggregate-put-hex-2 c = sym (long search)
 
 put-hex-requires-2 : tie.Need-put-hex-requires-2
 put-hex-requires-2 c κs = search needs
@@ -61,8 +66,13 @@ put-hex-requires-2 c κs = search needs
 returns-2 : tie.Need-returns-2
 unfolding ascii
 returns-2 c =
-    let s = c .before .before .before .before .before .before .before .before .before .before .before in
-    input-added (s .args .draft) (s .pre) (s .args .frame) (s .args .player) (s .args .size) (s .args .t4) (search needs) (search needs) (long s) _ _ _ _ _ _ (c .before .before .before .before .before .before .before .before .before .put .ensures) (c .before .before .before .before .before .before .before .before .put-signed .ensures) (c .before .before .before .before .before .before .put2 .ensures) (rw add-zero at (c .before .before .before .before .before .put-decimal .ensures)) (c .before .before .before .put3 .ensures) (rw (take-all (s .args .size) (s .args .t4) (omega (arith, long s))) (c .put-hex2 .ensures))
+    let after-put : tie.After-put = search in
+    let after-put-signed : tie.After-put-signed = search in
+    let after-put2 : tie.After-put2 = search in
+    let after-put-decimal : tie.After-put-decimal = search in
+    let after-put3 : tie.After-put3 = search in
+    let s : tie.Start = search in
+    input-added (s .args .draft) (s .pre) (s .args .frame) (s .args .player) (s .args .size) (s .args .t4) (search needs) (search needs) (long s) _ _ _ _ _ _ (after-put .put .ensures) (after-put-signed .put-signed .ensures) (after-put2 .put2 .ensures) (rw add-zero at (after-put-decimal .put-decimal .ensures)) (after-put3 .put3 .ensures) (rw (take-all (s .args .size) (s .args .t4) (omega (arith, long s))) (c .put-hex2 .ensures))
 
 pub moved-spec : {M : Type 1} → statement M
 moved-spec =

@@ -10,48 +10,48 @@ use lib.ListN.{length}
 use Rattle.base.specs.Pick.{pick}
 use Rattle.base.proofs.Arrays.{unmap, view-le}
 use Rattle.events.specs.Events.{held, hasRoom, both}
-use Rattle.events.proofs.Laws.{Behind, behind-none, behind-one, pushed-behind, told-most, told-one, told-length, both-length}
+use Rattle.events.proofs.Laws.{Behind, behind-none, behind-one, pushed-behind, count-if-most, count-if-one, count-if-length, both-length}
 use Rattle.events.proofs.Events.push_both.Statement.{statement}
 use Rattle.events.proofs.Events.push_both.Tie as tie
 
 count-requires : tie.Need-count-requires
 count-requires c κs = search needs
 
-told-requires : tie.Need-told-requires
-told-requires c κs = search needs
+count-if-requires : tie.Need-count-if-requires
+count-if-requires c κs = search needs
 
-told-requires-2 : tie.Need-told-requires-2
-told-requires-2 c κs = search needs
+count-if-requires-2 : tie.Need-count-if-requires-2
+count-if-requires-2 c κs = search needs
 
 long : (c : tie.Start) → length (c .args .t1 .entries) ≡ 640
 long c = search (unmap, needs)
 
 -- the number that the room test looks at
-total : (c : tie.After-told2) → c .before .before .count .result + c .before .told .result + c .told2 .result
+total : (c : tie.After-count-if2) → c .before .before .count .result + c .before .count-if .result + c .count-if2 .result
     ≡ length (held (c .before .before .before .args .t1)) + length (both (c .before .before .before .args .first) (c .before .before .before .args .one) (c .before .before .before .args .second) (c .before .before .before .args .other))
 total c =
     let a = c .before .before .before .args in
-    omega (arith, both-length (a .first) (a .one) (a .second) (a .other), c .before .before .count .ensures, c .before .told .ensures, c .told2 .ensures)
+    omega (arith, both-length (a .first) (a .one) (a .second) (a .other), c .before .before .count .ensures, c .before .count-if .ensures, c .count-if2 .ensures)
 
 few : (c : tie.After-count) → c .count .result ≤ 640
 unfolding held
 few c = omega (arith, c .count .ensures, long (c .before), view-le (c .before .args .t1 .used) (c .before .args .t1 .entries))
 
 add-ok : tie.Need-add-ok
-add-ok c = omega (arith, few (c .before), c .told .ensures, told-most (c .before .before .args .first))
+add-ok c = omega (arith, few (c .before), c .count-if .ensures, count-if-most (c .before .before .args .first))
 
 add-ok-2 : tie.Need-add-ok-2
-add-ok-2 c = omega (arith, few (c .before .before), c .before .told .ensures, c .told2 .ensures, told-most (c .before .before .before .args .first), told-most (c .before .before .before .args .second))
+add-ok-2 c = omega (arith, few (c .before .before), c .before .count-if .ensures, c .count-if2 .ensures, count-if-most (c .before .before .before .args .first), count-if-most (c .before .before .before .args .second))
 
 -- all fit
-fit : (c : tie.Then1) → c .before .before .before .count .result + c .before .before .told .result + c .before .told2 .result ≤ 640
+fit : (c : tie.Then1) → c .before .before .before .count .result + c .before .before .count-if .result + c .before .count-if2 .result ≤ 640
 fit c = leb-true _ _ (c .if1 .taken)
 
 -- there is a place for the first
 free : (c : tie.Then2) → c .before .before .before .before .count .result < 640
 free c =
     let a = c .before .before .before .before .before .args in
-    omega (arith, fit (c .before), told-one (a .first) (c .before .before .before .told .result) (c .if2 .taken) (c .before .before .before .told .ensures))
+    omega (arith, fit (c .before), count-if-one (a .first) (c .before .before .before .count-if .result) (c .if2 .taken) (c .before .before .before .count-if .ensures))
 
 mul-one : tie.Need-mul-one
 mul-one c = omega (arith, free c)
@@ -69,7 +69,7 @@ stored c =
     let n = c .before .before .before .before .count .ensures in
     let none = behind-none (a .t1) (c .before .before .before .before .count .result) n (long (c .before .before .before .before .before)) in
     ⊎-elim {0, 0, 0}
-    (λ w. rw (w .1, w .2, w .0 .taken) (behind-one (held (a .t1)) [] (a .t1 .entries) _ (a .one) (omega (arith, fit (c .before), told-one (a .first) (c .before .before .before .told .result) (w .0 .taken) (c .before .before .before .told .ensures))) none))
+    (λ w. rw (w .1, w .2, w .0 .taken) (behind-one (held (a .t1)) [] (a .t1 .entries) _ (a .one) (omega (arith, fit (c .before), count-if-one (a .first) (c .before .before .before .count-if .result) (w .0 .taken) (c .before .before .before .count-if .ensures))) none))
     (λ w. rw (w .1, w .2, w .0 .left) none)
     (c .if2 .came)
 
@@ -77,7 +77,7 @@ stored c =
 free-2 : (c : tie.Then3) → c .before .if2 .to < 640
 free-2 c =
     let a = c .before .before .before .before .before .before .args in
-    omega (arith, fit (c .before .before), stored (c .before) .place, told-length (a .first) (a .one), c .before .before .before .before .told .ensures, told-one (a .second) (c .before .before .before .told2 .result) (c .if3 .taken) (c .before .before .before .told2 .ensures))
+    omega (arith, fit (c .before .before), stored (c .before) .place, count-if-length (a .first) (a .one), c .before .before .before .before .count-if .ensures, count-if-one (a .second) (c .before .before .before .count-if2 .result) (c .if3 .taken) (c .before .before .before .count-if2 .ensures))
 
 mul-other : tie.Need-mul-other
 mul-other c = omega (arith, free-2 (c .before))
@@ -112,4 +112,4 @@ returns-3 c =
     record { ok = c .if1 .left ∙ sym h; view = rw h; same = λ _. refl }
 
 pub push-both-spec : {M : Type 1} → statement M
-push-both-spec = tie.close (tie.spec count-requires told-requires add-ok told-requires-2 add-ok-2 mul-one element-set-from-one add-to mul-other element-set-from-other add-to-2 returns returns-2 returns-3)
+push-both-spec = tie.close (tie.spec count-requires count-if-requires add-ok count-if-requires-2 add-ok-2 mul-one element-set-from-one add-to mul-other element-set-from-other add-to-2 returns returns-2 returns-3)

@@ -17,8 +17,8 @@ use Rattle.base.proofs.Arrays.{unmap, view-le}
 use Rattle.packing.specs.Packing.{framesOf}
 use Rattle.packing.proofs.Pads.{padded-length}
 use Rattle.events.specs.declared.Event.the-variants.{NetworkResumed, Disconnected}
-use Rattle.events.specs.Events.{held, plain, both, ahead, hasRoom, packetFits, announced, announcedAll}
-use Rattle.events.proofs.Laws.{frame-turn, frame-end, packet-turn, packet-end, packet-room, packet-length, drop-min, each, told-most, told-one, told-length, both-length, Behind, behind-none, behind-one}
+use Rattle.events.specs.Events.{held, withoutInput, both, ahead, hasRoom, packetFits, announced, announcedAll}
+use Rattle.events.proofs.Laws.{frame-turn, frame-end, packet-turn, packet-end, packet-room, packet-length, drop-min, each, count-if-most, count-if-one, count-if-length, both-length, Behind, behind-none, behind-one}
 use Rattle.events.proofs.Events.push_packet.Statement.{statement}
 use Rattle.events.proofs.Events.push_packet.Tie as tie
 
@@ -88,36 +88,36 @@ least-requires c κs = search needs
 count-requires : tie.Need-count-requires Inv-handles μ-handles Inv-frames μ-frames
 count-requires c κs = search needs
 
-told-requires : tie.Need-told-requires Inv-handles μ-handles Inv-frames μ-frames
-told-requires c κs = search needs
+count-if-requires : tie.Need-count-if-requires Inv-handles μ-handles Inv-frames μ-frames
+count-if-requires c κs = search needs
 
-told-requires-2 : tie.Need-told-requires-2 Inv-handles μ-handles Inv-frames μ-frames
-told-requires-2 c κs = search needs
+count-if-requires-2 : tie.Need-count-if-requires-2 Inv-handles μ-handles Inv-frames μ-frames
+count-if-requires-2 c κs = search needs
 
 few : (c : tie.After-count Inv-handles μ-handles Inv-frames μ-frames) → c .count .result ≤ 640
 unfolding held
 few c = let s = c .before .before .before .args .t1 in omega (arith, c .count .ensures, long (c .before .before .before), view-le (s .used) (s .entries))
 
 add-packet-fits : tie.Need-add-packet-fits Inv-handles μ-handles Inv-frames μ-frames
-add-packet-fits c = omega (arith, few (c .before), c .told .ensures, told-most (c .before .before .before .before .args .resumed))
+add-packet-fits c = omega (arith, few (c .before), c .count-if .ensures, count-if-most (c .before .before .before .before .args .resumed))
 
 -- how many there are before the packet's own
-behind : (c : tie.After-told2 Inv-handles μ-handles Inv-frames μ-frames) → c .before .before .count .result + c .before .told .result + c .told2 .result
+behind : (c : tie.After-count-if2 Inv-handles μ-handles Inv-frames μ-frames) → c .before .before .count .result + c .before .count-if .result + c .count-if2 .result
     ≡ length (held (c .before .before .before .before .before .args .t1)) + length (ahead (c .before .before .before .before .before .args .resumed) (c .before .before .before .before .before .args .disconnected))
 unfolding ahead
 behind c =
     let a = c .before .before .before .before .before .args in
-    omega (arith, both-length (a .resumed) (plain NetworkResumed) (a .disconnected) (plain Disconnected), c .before .before .count .ensures, c .before .told .ensures, c .told2 .ensures)
+    omega (arith, both-length (a .resumed) (withoutInput NetworkResumed) (a .disconnected) (withoutInput Disconnected), c .before .before .count .ensures, c .before .count-if .ensures, c .count-if2 .ensures)
 
 add-packet-fits-2 : tie.Need-add-packet-fits-2 Inv-handles μ-handles Inv-frames μ-frames
 add-packet-fits-2 c =
     let a = c .before .before .before .before .before .args in
-    omega (arith, few (c .before .before), c .before .told .ensures, c .told2 .ensures, told-most (a .resumed), told-most (a .disconnected))
+    omega (arith, few (c .before .before), c .before .count-if .ensures, c .count-if2 .ensures, count-if-most (a .resumed), count-if-most (a .disconnected))
 
 packet-fits-requires : tie.Need-packet-fits-requires Inv-handles μ-handles Inv-frames μ-frames
 packet-fits-requires c κs =
     let a = c .before .before .before .before .before .args in
-    (omega (arith, few (c .before .before), c .before .told .ensures, c .told2 .ensures, told-most (a .resumed), told-most (a .disconnected)), omega arith)
+    (omega (arith, few (c .before .before), c .before .count-if .ensures, c .count-if2 .ensures, count-if-most (a .resumed), count-if-most (a .disconnected)), omega arith)
 
 -- what the room test answers
 able : (c : tie.After-packet-fits Inv-handles μ-handles Inv-frames μ-frames)
@@ -143,7 +143,7 @@ fit c =
 
 -- a place for each of the two
 free : (c : tie.Then1 Inv-handles μ-handles Inv-frames μ-frames) → c .before .before .before .before .before .before .before .args .resumed ≡ true → c .before .before .before .before .count .result < 640
-free c h = let a = c .before .before .before .before .before .before .before .args in omega (arith, fit c .1, behind (c .before .before), told-one (a .resumed) (c .before .before .before .told .result) h (c .before .before .before .told .ensures))
+free c h = let a = c .before .before .before .before .before .before .before .args in omega (arith, fit c .1, behind (c .before .before), count-if-one (a .resumed) (c .before .before .before .count-if .result) h (c .before .before .before .count-if .ensures))
 
 mul-t36 : tie.Need-mul-t36 Inv-handles μ-handles Inv-frames μ-frames
 mul-t36 c = omega (arith, free (c .before) (c .if2 .taken))
@@ -154,19 +154,19 @@ element-set-from-self c = free (c .before) (c .if2 .taken)
 add-to : tie.Need-add-to Inv-handles μ-handles Inv-frames μ-frames
 add-to c = omega (arith, free (c .before) (c .if2 .taken))
 
-after-resumed : (c : tie.Joined2 Inv-handles μ-handles Inv-frames μ-frames) → Behind (held (c .before .before .before .before .before .before .before .before .args .t1)) (pick (c .before .before .before .before .before .before .before .before .args .resumed) (plain NetworkResumed ∷ []) []) (c .if2 .self .entries) (c .if2 .to)
+after-resumed : (c : tie.Joined2 Inv-handles μ-handles Inv-frames μ-frames) → Behind (held (c .before .before .before .before .before .before .before .before .args .t1)) (pick (c .before .before .before .before .before .before .before .before .args .resumed) (withoutInput NetworkResumed ∷ []) []) (c .if2 .self .entries) (c .if2 .to)
 after-resumed c =
     let a = c .before .before .before .before .before .before .before .before .args in
     let none = behind-none (a .t1) (c .before .before .before .before .before .count .result) (c .before .before .before .before .before .count .ensures) (long (c .before .before .before .before .before .before .before .before)) in
     ⊎-elim {0, 0, 0}
-    (λ w. rw (w .1, w .2, w .0 .taken) (behind-one (held (a .t1)) [] (a .t1 .entries) _ (plain NetworkResumed) (free (c .before) (w .0 .taken)) none))
+    (λ w. rw (w .1, w .2, w .0 .taken) (behind-one (held (a .t1)) [] (a .t1 .entries) _ (withoutInput NetworkResumed) (free (c .before) (w .0 .taken)) none))
     (λ w. rw (w .1, w .2, w .0 .left) none)
     (c .if2 .came)
 
 free-2 : (c : tie.Joined2 Inv-handles μ-handles Inv-frames μ-frames) → c .before .before .before .before .before .before .before .before .args .disconnected ≡ true → c .if2 .to < 640
 free-2 c h =
     let a = c .before .before .before .before .before .before .before .before .args in
-    omega (arith, fit (c .before) .1, behind (c .before .before .before), after-resumed c .place, told-length (a .resumed) (plain NetworkResumed), c .before .before .before .before .told .ensures, told-one (a .disconnected) (c .before .before .before .told2 .result) h (c .before .before .before .told2 .ensures))
+    omega (arith, fit (c .before) .1, behind (c .before .before .before), after-resumed c .place, count-if-length (a .resumed) (withoutInput NetworkResumed), c .before .before .before .before .count-if .ensures, count-if-one (a .disconnected) (c .before .before .before .count-if2 .result) h (c .before .before .before .count-if2 .ensures))
 
 mul-t42 : tie.Need-mul-t42 Inv-handles μ-handles Inv-frames μ-frames
 mul-t42 c = omega (arith, free-2 (c .before .before) (c .before .if3 .taken))
@@ -181,9 +181,9 @@ after-both : (c : tie.Joined3 Inv-handles μ-handles Inv-frames μ-frames) → B
 unfolding ahead both
 after-both c =
     let a = c .before .before .before .before .before .before .before .before .before .args in
-    let first = pick (a .resumed) (plain NetworkResumed ∷ []) [] in
+    let first = pick (a .resumed) (withoutInput NetworkResumed ∷ []) [] in
     ⊎-elim {0, 0, 0}
-    (λ w. rw (w .2, w .3, w .0 .taken) (behind-one (held (a .t1)) first (c .before .if2 .self .entries) (c .before .if2 .to) (plain Disconnected) (free-2 (c .before) (w .0 .taken)) (after-resumed (c .before))))
+    (λ w. rw (w .2, w .3, w .0 .taken) (behind-one (held (a .t1)) first (c .before .if2 .self .entries) (c .before .if2 .to) (withoutInput Disconnected) (free-2 (c .before) (w .0 .taken)) (after-resumed (c .before))))
     (λ w. rw (w .1, w .2, w .0 .left, append-nil) (after-resumed (c .before)))
     (c .if3 .came)
 
@@ -332,9 +332,9 @@ push-packet-spec =
     μ-frames
     least-requires
     count-requires
-    told-requires
+    count-if-requires
     add-packet-fits
-    told-requires-2
+    count-if-requires-2
     add-packet-fits-2
     packet-fits-requires
     mul-t36

@@ -111,9 +111,11 @@ returns-4 c = rw (c .before .before .before .body4 .given .1) (wider _ _ _ _ (c 
 returns-5 : tie.Need-returns-5
 unfolding fieldsText field ascii
 returns-5 c =
-    let s = c .before .before .before .before .before .before .before in
-    rw (c .before .before .before .before .before .body5 .given .1)
-    (wider _ _ _ _ (both-adds (s .args .draft) _ _ _ _ _ _ (c .before .before .signed2 .ensures) (c .wide .ensures)) (omega arith))
+    let after-body5 : tie.After-body5 = search in
+    let after-signed2 : tie.After-signed2 = search in
+    let s : tie.Start = search in
+    rw (after-body5 .body5 .given .1)
+    (wider _ _ _ _ (both-adds (s .args .draft) _ _ _ _ _ _ (after-signed2 .signed2 .ensures) (c .wide .ensures)) (omega arith))
 
 returns-6 : tie.Need-returns-6
 unfolding fieldsText field ascii
@@ -122,9 +124,11 @@ returns-6 c = rw (c .before .before .before .body6 .given .1) (wider _ _ _ _ (c 
 returns-7 : tie.Need-returns-7
 unfolding fieldsText field ascii
 returns-7 c =
-    let s = c .before .before .before .before .before .before .before in
-    rw (c .before .before .before .before .before .body7 .given .1)
-    (wider _ _ _ _ (both-adds (s .args .draft) _ _ _ _ _ _ (c .before .before .wide3 .ensures) (c .signed3 .ensures)) (omega arith))
+    let after-body7 : tie.After-body7 = search in
+    let after-wide3 : tie.After-wide3 = search in
+    let s : tie.Start = search in
+    rw (after-body7 .body7 .given .1)
+    (wider _ _ _ _ (both-adds (s .args .draft) _ _ _ _ _ _ (after-wide3 .wide3 .ensures) (c .signed3 .ensures)) (omega arith))
 
 returns-8 : tie.Need-returns-8
 unfolding fieldsText

@@ -1,4 +1,4 @@
--- `disconnect` puts the word that its flag tells.
+-- `disconnect` puts the word that its flag determines.
 use borrow.Author.Needs.{needs}
 use native.Mathlib.Omega.{arith}
 use Rattle.text.specs.Ascii.{ascii}

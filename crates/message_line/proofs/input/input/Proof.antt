@@ -45,7 +45,10 @@ long c = search (unmap, needs)
 returns : tie.Need-returns
 unfolding field ascii
 returns c =
-    let n = c .before .before .before .before .before .before .before in
+    let after-statuses : tie.After-statuses = search in
+    let after-disconnect : tie.After-disconnect = search in
+    let after-signed : tie.After-signed = search in
+    let n : tie.After-number = search in
     let s = n .before .before in
     let a = s .args in
     let few : a .reports .count ≡ length (listed (a .reports)) = simp length-take (omega (arith, long s)) in
@@ -55,9 +58,9 @@ returns c =
     (both-adds (a .draft) _ _ _ _ _ _
     (both-adds (a .draft) _ _ _ _ _ _
     (both-adds (a .draft) _ _ _ _ _ _
-    (both-adds (a .draft) _ _ _ _ _ _ (n .number .ensures) (c .before .before .before .before .before .before .statuses .ensures))
-    (c .before .before .before .before .before .disconnect .ensures))
-    (c .before .before .before .signed .ensures))
+    (both-adds (a .draft) _ _ _ _ _ _ (n .number .ensures) (after-statuses .statuses .ensures))
+    (after-disconnect .disconnect .ensures))
+    (after-signed .signed .ensures))
     (c .before .signed2 .ensures))
     (c .payload-length .ensures))) (omega arith)
 

@@ -1,4 +1,4 @@
--- `status` puts the frame under the name that the flag tells.
+-- `status` puts the frame under the name that the flag determines.
 use borrow.Author.Needs.{needs}
 use native.Mathlib.Omega.{arith}
 use Rattle.text.specs.Ascii.{ascii}

@@ -10,14 +10,14 @@ enum-told c = search needs
 enum-known-self : tie.Need-enum-known-self
 enum-known-self c = search needs
 
-outside-requires : tie.Need-outside-requires
-outside-requires c κs = search needs
+is-outside-requires : tie.Need-is-outside-requires
+is-outside-requires c κs = search needs
 
 returns : tie.Need-returns
 returns c = search needs
 
 returns-2 : tie.Need-returns-2
-returns-2 c = c .outside .ensures ∙ rw (c .before .before .self .given .1)
+returns-2 c = c .is-outside .ensures ∙ rw (c .before .before .self .given .1)
 
 pub is-bad-spec : {M : Type 1} → statement M
-is-bad-spec = tie.close (tie.spec enum-told enum-known-self outside-requires returns returns-2)
+is-bad-spec = tie.close (tie.spec enum-told enum-known-self is-outside-requires returns returns-2)

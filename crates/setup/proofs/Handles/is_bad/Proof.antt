@@ -1,7 +1,7 @@
 -- `is_bad` makes the definition's three tests, the first being itself an or.
 use borrow.Author.Needs.{needs}
 use mathlib.Core.List.{[], _∷_}
-use Rattle.setup.specs.Setup.{outside}
+use Rattle.numbers.specs.Range.{outside}
 use Rattle.setup.proofs.Tests.{or-any}
 use Rattle.setup.proofs.Handles.is_bad.Statement.{statement}
 use Rattle.setup.proofs.Handles.is_bad.Tie as tie

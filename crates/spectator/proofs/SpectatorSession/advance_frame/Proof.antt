@@ -5,10 +5,10 @@ use native.Mathlib.Omega.{arith}
 use Rattle.base.specs.First.{firstOf}
 use Rattle.answer.specs.Number.{numberOf}
 use Rattle.answer.proofs.Done.{not-done}
-use Rattle.watching.specs.Advance.{advanceRefusals}
+use Rattle.spectator_rules.specs.Advance.{advanceRefusals}
 use Rattle.spectator.specs.Session.{seen}
-use Rattle.spectator.specs.Requesting.{framesFor}
-use Rattle.spectator.proofs.Advances.{frames-most, frames-within, next-fits, refused-early, refused-late, advances, counted-as, refused-as, given-as}
+use Rattle.spectator.specs.Inside.Requests.{framesFor}
+use Rattle.spectator.proofs.Laws.Advancing.{frames-most, frames-within, next-fits, refused-early, refused-late, advances, counted-as, refused-as, given-as}
 use Rattle.spectator.proofs.SpectatorSession.advance_frame.Statement.{statement}
 use Rattle.spectator.proofs.SpectatorSession.advance_frame.Tie as tie
 
@@ -68,8 +68,8 @@ returns-2 c =
     let r = c .before .before .frames-refusal in
     refused-late s (free (c .before .before .before .before .before .before)) (r .result) (r .ensures ∙ refused-as s (c .before .before .before .before .frames-to-advance .result) (frames (c .before .before .before))) (not-done (r .result) (c .before .match2 .keys2)) (c .not-advanced2 .result) (c .not-advanced2 .ensures)
 
-least-requires : tie.Need-least-requires
-least-requires c κs = search needs
+least-u32-requires : tie.Need-least-u32-requires
+least-u32-requires c κs = search needs
 
 cast-players : tie.Need-cast-players
 cast-players c = search needs
@@ -87,9 +87,9 @@ returns-3 c =
     let n = c .before .before .before .before .before .before .before .before .before .before .before .before .frames-to-advance .result in
     let q = c .before .before .before .before .before .before .requests-from in
     advances s (free (c .before .before .before .before .before .before .before .before .before .before .before .before .before .before)) (r .result) (c .before .before .before .before .before .before .before .before .enum-told2 .given .1) (r .ensures ∙ refused-as s n (frames (c .before .before .before .before .before .before .before .before .before .before .before))) n (counted-as s n (frames (c .before .before .before .before .before .before .before .before .before .before .before))) (q .result)
-    (q .ensures ∙ given-as s n (frames (c .before .before .before .before .before .before .before .before .before .before .before)) (c .before .before .before .before .before .before .before .least .result) (c .before .before .before .before .before .before .before .least .ensures))
+    (q .ensures ∙ given-as s n (frames (c .before .before .before .before .before .before .before .before .before .before .before)) (c .before .before .before .before .before .before .before .least-u32 .result) (c .before .before .before .before .before .before .before .least-u32 .ensures))
 
 pub advance-frame-spec : {M : Type 1} → statement M
 advance-frame-spec =
     tie.close
-    (tie.spec advance-refusal-requires enum-told not-advanced-requires returns behind-requires frames-to-advance-requires add-frame frames-refusal-requires enum-told-2 not-advanced-requires-2 returns-2 least-requires cast-players requests-from-requires add-t9 returns-3)
+    (tie.spec advance-refusal-requires enum-told not-advanced-requires returns behind-requires frames-to-advance-requires add-frame frames-refusal-requires enum-told-2 not-advanced-requires-2 returns-2 least-u32-requires cast-players requests-from-requires add-t9 returns-3)

@@ -1,4 +1,4 @@
-use Rattle.spectator.proofs.Tells.{tells-frame}
+use Rattle.spectator.proofs.Laws.Getters.{tells-frame}
 use Rattle.spectator.proofs.SpectatorSession.current_frame.Statement.{statement}
 use Rattle.spectator.proofs.SpectatorSession.current_frame.Tie as tie
 

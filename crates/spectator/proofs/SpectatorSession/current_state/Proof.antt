@@ -1,4 +1,4 @@
-use Rattle.spectator.proofs.Tells.{tells-state}
+use Rattle.spectator.proofs.Laws.Getters.{tells-state}
 use Rattle.spectator.proofs.SpectatorSession.current_state.Statement.{statement}
 use Rattle.spectator.proofs.SpectatorSession.current_state.Tie as tie
 

@@ -1,6 +1,6 @@
 use borrow.Author.Needs.{needs}
 use mathlib.Core.Path.{_≡_, sym, _∙_}
-use Rattle.spectator.proofs.Tells.{behind-overflow, behind-told}
+use Rattle.spectator.proofs.Laws.Getters.{behind-overflow, behind-told}
 use Rattle.spectator.proofs.SpectatorSession.frames_behind_host.Statement.{statement}
 use Rattle.spectator.proofs.SpectatorSession.frames_behind_host.Tie as tie
 

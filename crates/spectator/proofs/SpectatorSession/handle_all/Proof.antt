@@ -1,7 +1,7 @@
 use borrow.Author.Needs.{needs}
 use mathlib.Core.Path.{_≡_, _∙_, ap}
 use Rattle.events.specs.Events.{held}
-use Rattle.watching.specs.Handling.{handledAll}
+use Rattle.spectator_rules.specs.Handling.{handledAll}
 use Rattle.spectator.specs.Session.{seen}
 use Rattle.spectator.proofs.SpectatorSession.handle_all.Statement.{statement}
 use Rattle.spectator.proofs.SpectatorSession.handle_all.Tie as tie

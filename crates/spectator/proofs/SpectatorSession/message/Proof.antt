@@ -1,7 +1,7 @@
-use Rattle.protocol.specs.Step.{step as hostStep}
-use Rattle.watching.specs.Step.{step}
+use Rattle.endpoint_rules.specs.Step.{step as hostStep}
+use Rattle.spectator_rules.specs.Step.{step}
 use Rattle.spectator.specs.Session.{seen}
-use Rattle.spectator.proofs.Hosts.{host-did}
+use Rattle.spectator.proofs.Laws.Hosting.{host-did}
 use borrow.Author.Needs.{needs}
 use Rattle.spectator.proofs.SpectatorSession.message.Statement.{statement}
 use Rattle.spectator.proofs.SpectatorSession.message.Tie as tie

@@ -1,4 +1,4 @@
-use Rattle.spectator.proofs.Tells.{tells-stats}
+use Rattle.spectator.proofs.Laws.Getters.{tells-stats}
 use borrow.Author.Needs.{needs}
 use Rattle.spectator.proofs.SpectatorSession.network_stats.Statement.{statement}
 use Rattle.spectator.proofs.SpectatorSession.network_stats.Tie as tie

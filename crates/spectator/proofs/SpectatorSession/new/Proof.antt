@@ -1,5 +1,5 @@
 use borrow.Author.Needs.{needs}
-use Rattle.spectator.proofs.Makes.{makes}
+use Rattle.spectator.proofs.Laws.Creation.{makes}
 use Rattle.spectator.proofs.SpectatorSession.new.Statement.{statement}
 use Rattle.spectator.proofs.SpectatorSession.new.Tie as tie
 

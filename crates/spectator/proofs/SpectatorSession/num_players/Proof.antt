@@ -1,4 +1,4 @@
-use Rattle.spectator.proofs.Tells.{tells-players}
+use Rattle.spectator.proofs.Laws.Getters.{tells-players}
 use Rattle.spectator.proofs.SpectatorSession.num_players.Statement.{statement}
 use Rattle.spectator.proofs.SpectatorSession.num_players.Tie as tie
 

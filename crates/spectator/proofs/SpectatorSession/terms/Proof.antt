@@ -1,9 +1,9 @@
 use mathlib.Core.Path.{refl}
 use Rattle.setup.specs.Setup.{termsWith}
-use Rattle.protocol.specs.Value.{valueOf}
+use Rattle.endpoint_rules.specs.Value.{valueOf}
 use Rattle.endpoint.specs.Endpoint.{seen as seenHost}
 use Rattle.spectator.specs.Session.{seen}
-use Rattle.spectator.proofs.Polls.{newest-told}
+use Rattle.spectator.proofs.Laws.Polling.{newest-told}
 use borrow.Author.Needs.{needs}
 use Rattle.spectator.proofs.SpectatorSession.terms.Statement.{statement}
 use Rattle.spectator.proofs.SpectatorSession.terms.Tie as tie

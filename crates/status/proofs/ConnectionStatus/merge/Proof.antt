@@ -1,4 +1,4 @@
--- `merge` gives the or of the flags, by whichever side of `||` told, and the later of the frames.
+-- `merge` gives the or of the flags, by whichever side of `||` decides, and the later of the frames.
 use borrow.Author.Needs.{needs}
 use mathlib.Core.Path.{_≡_, _∙_}
 use mathlib.Core.Bool.{_||_}

@@ -19,22 +19,29 @@ abbrev μ-loop : tie.MeasureT-loop
 μ-loop out₀ at bytes len place₀ i₀ out place i = length bytes - i
 
 returns : tie.Need-returns Inv-loop μ-loop
-returns c = refused _ _ _ (omega (arith, hex-length (c .before .before .before .args .bytes .now)))
+returns c =
+    let start : tie.Start Inv-loop μ-loop = search in
+    refused _ _ _ (omega (arith, hex-length (start .args .bytes .now)))
 
 returns-2 : tie.Need-returns-2 Inv-loop μ-loop
-returns-2 c = refused _ _ _ (omega (arith, hex-length (c .before .before .before .before .args .bytes .now)))
+returns-2 c =
+    let start : tie.Start Inv-loop μ-loop = search in
+    refused _ _ _ (omega (arith, hex-length (start .args .bytes .now)))
 
 loop-holds : tie.Need-loop-holds Inv-loop μ-loop
 unfolding hexOf
 loop-holds c =
-    let a = c .before .before .before .before .args in
+    let start : tie.Start Inv-loop μ-loop = search in
+    let a = start .args in
     (omega arith, omega arith, refl, sym (laid-none (a .out .now) (a .at)))
 
 shared-slice-read-b : tie.Need-shared-slice-read-b Inv-loop μ-loop
 shared-slice-read-b c = omega arith
 
 digit-requires : tie.Need-digit-requires Inv-loop μ-loop
-digit-requires c κs = omega (arith, c .shared-slice-known2 .given (c .before .before .loop .i))
+digit-requires c κs =
+    let at-loop : tie.At-loop Inv-loop μ-loop = search in
+    omega (arith, c .shared-slice-known2 .given (at-loop .loop .i))
 
 slice-write-out : tie.Need-slice-write-out Inv-loop μ-loop
 slice-write-out c = omega arith
@@ -59,8 +66,10 @@ loop-less c = omega arith
 
 loop-again : tie.Need-loop-again Inv-loop μ-loop
 loop-again c =
-    let a = c .before .before .before .before .before .before .before .before .before .args in
-    let l = c .before .before .before .before .loop in (
+    let start : tie.Start Inv-loop μ-loop = search in
+    let a = start .args in
+    let at-loop : tie.At-loop Inv-loop μ-loop = search in
+    let l = at-loop .loop in (
       omega arith,
       omega arith,
       simp length-set (l .inv .2),
@@ -73,7 +82,8 @@ same-length c = c .before .loop .inv .2
 
 returns-3 : tie.Need-returns-3 Inv-loop μ-loop
 returns-3 c =
-    let a = c .before .before .before .before .before .before .args in
+    let start : tie.Start Inv-loop μ-loop = search in
+    let a = start .args in
     let l = c .before .loop in
     let e : l .i ≡ length (a .bytes .now) = omega arith in
     placed (a .out .now) (a .at) (hexOf (a .bytes .now)) (l .out) (omega (arith, hex-length (a .bytes .now))) (rw (e, take-length) at (l .inv .3))

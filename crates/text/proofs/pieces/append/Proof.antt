@@ -29,8 +29,10 @@ same-length c = search needs
 
 returns-3 : tie.Need-returns-3
 returns-3 c =
-    let a = c .before .before .before .before .before .before .before .before .args in
-    placed (a .out .now) (a .at) (a .piece .now) _ (omega arith) (laid-copied (a .out .now) (a .at) (a .piece .now) (c .before .before .copy .last .1 .0) (omega arith) (c .before .before .copy .ensures .1))
+    let after-copy : tie.After-copy = search in
+    let start : tie.Start = search in
+    let a = start .args in
+    placed (a .out .now) (a .at) (a .piece .now) _ (omega arith) (laid-copied (a .out .now) (a .at) (a .piece .now) (after-copy .copy .last .1 .0) (omega arith) (after-copy .copy .ensures .1))
 
 pub append-spec : {M : Type 1} → statement M
 append-spec =

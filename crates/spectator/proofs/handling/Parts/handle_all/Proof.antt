@@ -5,10 +5,10 @@ use Prim.Native.Nat.{_-_, _≤_}
 use native.Mathlib.Omega.{arith}
 use lib.ListN.{length, drop}
 use Rattle.events.specs.Events.{held}
-use Rattle.watching.specs.Watch.{Watch}
-use Rattle.watching.specs.Handling.{handled, handledAll}
-use Rattle.spectator.specs.Parts.{assembled, TermsOf}
-use Rattle.spectator.proofs.HandleLaws.{handled-turn, handled-end}
+use Rattle.spectator_rules.specs.Watch.{Watch}
+use Rattle.spectator_rules.specs.Handling.{handled, handledAll}
+use Rattle.spectator.specs.Inside.Handling.{assembled, TermsOf}
+use Rattle.spectator.proofs.Laws.Handling.{handled-turn, handled-end}
 use Rattle.spectator.proofs.handling.Parts.handle_all.Statement.{statement}
 use Rattle.spectator.proofs.handling.Parts.handle_all.Tie as tie
 

@@ -1,5 +1,5 @@
 use borrow.Author.Needs.{needs}
-use Rattle.spectator.proofs.HandleLaws.{store-changes}
+use Rattle.spectator.proofs.Laws.Handling.{store-changes}
 use Rattle.spectator.proofs.handling.Parts.store.Statement.{statement}
 use Rattle.spectator.proofs.handling.Parts.store.Tie as tie
 

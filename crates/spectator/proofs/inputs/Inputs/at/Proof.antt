@@ -6,7 +6,7 @@ use native.Mathlib.Omega.{arith}
 use lib.ListN.{length, List·getD-eq-default}
 use Rattle.base.proofs.Arrays.{unmap, view-at, view-le}
 use Rattle.base.proofs.Orders.{getD-within}
-use Rattle.watching.specs.Inputs.{blankInput, placeOf, inputAt}
+use Rattle.spectator_rules.specs.Inputs.{blankInput, placeOf, inputAt}
 use Rattle.spectator.specs.Stores.{inputsOf}
 use Rattle.spectator.proofs.inputs.Inputs.at.Statement.{statement}
 use Rattle.spectator.proofs.inputs.Inputs.at.Tie as tie

@@ -6,8 +6,8 @@ use native.Mathlib.Omega.{arith}
 use Rattle.answer.specs.Number.{numberOf}
 use Rattle.answer.proofs.Done.{not-done}
 use Rattle.spectator.specs.Stores.{inputsOf}
-use Rattle.spectator.specs.Requesting.{refusalsIn}
-use Rattle.spectator.proofs.RequestLaws.{refusals-next, refusals-here, refusals-none}
+use Rattle.spectator.specs.Inside.Requests.{refusalsIn}
+use Rattle.spectator.proofs.Laws.Requests.{refusals-next, refusals-here, refusals-none}
 use Rattle.spectator.proofs.inputs.Inputs.frames_refusal.Statement.{statement}
 use Rattle.spectator.proofs.inputs.Inputs.frames_refusal.Tie as tie
 

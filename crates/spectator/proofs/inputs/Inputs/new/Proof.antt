@@ -4,7 +4,7 @@ use mathlib.Core.Path.{_≡_, sym, _∙_}
 use native.Mathlib.Omega.{arith}
 use Prim.Native.Nat.{_*_, min, _≤_}
 use Rattle.base.proofs.Orders.{take-replicate}
-use Rattle.watching.specs.Inputs.{blankInput, freshInputs}
+use Rattle.spectator_rules.specs.Inputs.{blankInput, freshInputs}
 use Rattle.spectator.specs.Stores.{inputsOf}
 use Rattle.spectator.proofs.inputs.Inputs.new.Statement.{statement}
 use Rattle.spectator.proofs.inputs.Inputs.new.Tie as tie

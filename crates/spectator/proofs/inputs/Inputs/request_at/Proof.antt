@@ -1,7 +1,7 @@
 use borrow.Author.Needs.{needs}
 use mathlib.Core.Path.{_≡_}
 use Rattle.spectator.specs.Stores.{requestOf}
-use Rattle.spectator.specs.Requesting.{requestIn}
+use Rattle.spectator.specs.Inside.Requests.{requestIn}
 use Rattle.spectator.proofs.inputs.Inputs.request_at.Statement.{statement}
 use Rattle.spectator.proofs.inputs.Inputs.request_at.Tie as tie
 

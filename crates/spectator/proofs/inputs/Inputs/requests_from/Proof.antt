@@ -8,8 +8,8 @@ use lib.ListN.{length, take, length-set}
 use Rattle.base.proofs.Arrays.{unmap}
 use Rattle.status.specs.Statuses.{held}
 use Rattle.spectator.specs.Stores.{inputsOf, requestOf, framesOf}
-use Rattle.spectator.specs.Requesting.{requestsIn}
-use Rattle.spectator.proofs.RequestLaws.{request-turn}
+use Rattle.spectator.specs.Inside.Requests.{requestsIn}
+use Rattle.spectator.proofs.Laws.Requests.{request-turn}
 use Rattle.spectator.proofs.inputs.Inputs.requests_from.Statement.{statement}
 use Rattle.spectator.proofs.inputs.Inputs.requests_from.Tie as tie
 

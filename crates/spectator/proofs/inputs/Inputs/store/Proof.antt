@@ -6,7 +6,7 @@ use native.Mathlib.Omega.{arith}
 use lib.ListN.{length, length-take}
 use lib.Seq.{take-set-lt, set-out}
 use Rattle.base.proofs.Arrays.{unmap, view-le}
-use Rattle.watching.specs.Inputs.{inputStored}
+use Rattle.spectator_rules.specs.Inputs.{inputStored}
 use Rattle.spectator.specs.Stores.{inputsOf}
 use Rattle.spectator.proofs.inputs.Inputs.store.Statement.{statement}
 use Rattle.spectator.proofs.inputs.Inputs.store.Tie as tie

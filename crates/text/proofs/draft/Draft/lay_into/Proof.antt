@@ -16,13 +16,15 @@ count-requires c κs = search needs
 
 array-share-prefix-bytes : tie.Need-array-share-prefix-bytes
 array-share-prefix-bytes c =
-    let s = c .before .before .before .before in
-    omega (arith, drafted-le (s .args .self) (long s), c .before .before .count .ensures, long s)
+    let after-count : tie.After-count = search in
+    let s : tie.Start = search in
+    omega (arith, drafted-le (s .args .self) (long s), after-count .count .ensures, long s)
 
 slice-aggregate-lay : tie.Need-slice-aggregate-lay
 slice-aggregate-lay c =
-    let s = c .before .before .before .before .before in
-    sym (length-take-le _ _ (omega (arith, drafted-le (s .args .self) (long s), c .before .before .before .count .ensures, long s)))
+    let after-count : tie.After-count = search in
+    let s : tie.Start = search in
+    sym (length-take-le _ _ (omega (arith, drafted-le (s .args .self) (long s), after-count .count .ensures, long s)))
 
 lay-requires : tie.Need-lay-requires
 lay-requires c κs = search needs
@@ -32,8 +34,10 @@ same-length c = search needs
 
 returns : tie.Need-returns
 returns c =
-    let s = c .before .before .before .before .before .before .before .before in
-    rw (c .before .before .before .before .before .before .count .ensures, drafted-front (s .args .self) (long s)) at (c .before .before .lay .ensures)
+    let after-count : tie.After-count = search in
+    let after-lay : tie.After-lay = search in
+    let s : tie.Start = search in
+    rw (after-count .count .ensures, drafted-front (s .args .self) (long s)) at (after-lay .lay .ensures)
 
 pub lay-into-spec : {M : Type 1} → statement M
 lay-into-spec =

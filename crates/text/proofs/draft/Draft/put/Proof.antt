@@ -21,18 +21,24 @@ append-requires c κs = search needs
 
 add-t10 : tie.Need-add-t10
 add-t10 c =
-    let s = c .before .before .before .before .before .before .before in
-    omega (arith, put-fits (s .args .self) (long s) (s .args .piece .now) _ (c .before .before .before .before .before .count .ensures) _ _ (c .before .before .append .ensures) (c .if1 .taken))
+    let after-count : tie.After-count = search in
+    let after-append : tie.After-append = search in
+    let s : tie.Start = search in
+    omega (arith, put-fits (s .args .self) (long s) (s .args .piece .now) _ (after-count .count .ensures) _ _ (after-append .append .ensures) (c .if1 .taken))
 
 returns : tie.Need-returns
 returns c =
-    let s = c .before .before .before .before .before .before .before in
-    put-done (s .args .self) (long s) (s .args .piece .now) _ (c .before .before .before .before .before .count .ensures) _ _ (c .before .before .append .ensures) _ (refl) (c .if1 .taken)
+    let after-count : tie.After-count = search in
+    let after-append : tie.After-append = search in
+    let s : tie.Start = search in
+    put-done (s .args .self) (long s) (s .args .piece .now) _ (after-count .count .ensures) _ _ (after-append .append .ensures) _ (refl) (c .if1 .taken)
 
 returns-2 : tie.Need-returns-2
 returns-2 c =
-    let s = c .before .before .before .before .before .before .before in
-    put-none (s .args .self) (long s) (s .args .piece .now) _ (c .before .before .before .before .before .count .ensures) _ _ (c .before .before .append .ensures) (c .if1 .left)
+    let after-count : tie.After-count = search in
+    let after-append : tie.After-append = search in
+    let s : tie.Start = search in
+    put-none (s .args .self) (long s) (s .args .piece .now) _ (after-count .count .ensures) _ _ (after-append .append .ensures) (c .if1 .left)
 
 pub put-spec : {M : Type 1} → statement M
 put-spec =

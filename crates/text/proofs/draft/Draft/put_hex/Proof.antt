@@ -26,18 +26,24 @@ mul-t10 c = search needs
 
 add-t11 : tie.Need-add-t11
 add-t11 c =
-    let s = c .before .before .before .before .before .before .before in
-    omega (arith, put-fits (s .args .self) (long s) (hexOf (s .args .piece .now)) _ (c .before .before .before .before .before .count .ensures) _ _ (c .before .before .hex .ensures) (c .if1 .taken), hex-length (s .args .piece .now))
+    let after-count : tie.After-count = search in
+    let after-hex : tie.After-hex = search in
+    let s : tie.Start = search in
+    omega (arith, put-fits (s .args .self) (long s) (hexOf (s .args .piece .now)) _ (after-count .count .ensures) _ _ (after-hex .hex .ensures) (c .if1 .taken), hex-length (s .args .piece .now))
 
 returns : tie.Need-returns
 returns c =
-    let s = c .before .before .before .before .before .before .before in
-    put-done (s .args .self) (long s) (hexOf (s .args .piece .now)) _ (c .before .before .before .before .before .count .ensures) _ _ (c .before .before .hex .ensures) _ (rw hex-length) (c .if1 .taken)
+    let after-count : tie.After-count = search in
+    let after-hex : tie.After-hex = search in
+    let s : tie.Start = search in
+    put-done (s .args .self) (long s) (hexOf (s .args .piece .now)) _ (after-count .count .ensures) _ _ (after-hex .hex .ensures) _ (rw hex-length) (c .if1 .taken)
 
 returns-2 : tie.Need-returns-2
 returns-2 c =
-    let s = c .before .before .before .before .before .before .before in
-    put-none (s .args .self) (long s) (hexOf (s .args .piece .now)) _ (c .before .before .before .before .before .count .ensures) _ _ (c .before .before .hex .ensures) (c .if1 .left)
+    let after-count : tie.After-count = search in
+    let after-hex : tie.After-hex = search in
+    let s : tie.Start = search in
+    put-none (s .args .self) (long s) (hexOf (s .args .piece .now)) _ (after-count .count .ensures) _ _ (after-hex .hex .ensures) (c .if1 .left)
 
 pub put-hex-spec : {M : Type 1} → statement M
 put-hex-spec =

@@ -1,0 +1,56 @@
+-- The ceilings in definitions, each named once, as src/lib.rt names them in code.
+use mathlib.Core.Path.{_≡_, refl}
+use Prim.Native.Nat.{ℕ, _+_, _*_}
+
+-- players of a bout, handles of an endpoint, statuses of an Input
+abbrev pub mostPlayers : ℕ
+mostPlayers = 4
+
+-- bytes of one player's input
+abbrev pub mostInputSize : ℕ
+mostInputSize = 16
+
+-- bytes of one frame
+abbrev pub mostWidth : ℕ
+mostWidth = 64
+
+-- inputs that wait to be acknowledged
+abbrev pub mostPending : ℕ
+mostPending = 129
+
+-- payload bytes of an Input
+abbrev pub mostPayload : ℕ
+mostPayload = 8256
+
+-- frames that are predicted ahead
+abbrev pub mostPrediction : ℕ
+mostPrediction = 16
+
+-- inputs received that are kept
+abbrev pub mostReceived : ℕ
+mostReceived = 33
+
+-- nonces outstanding
+abbrev pub mostNonces : ℕ
+mostNonces = 256
+
+-- checksums stored, and how many of them bring the clean-up
+abbrev pub mostChecksums : ℕ
+mostChecksums = 64
+
+abbrev pub cleanChecksums : ℕ
+cleanChecksums = 32
+
+-- events that wait to be taken
+abbrev pub mostEvents : ℕ
+mostEvents = 640
+
+-- what some of them are made of
+width-of : mostWidth ≡ mostPlayers * mostInputSize
+width-of = refl
+
+payload-of : mostPayload ≡ mostPending * mostWidth
+payload-of = refl
+
+received-of : mostReceived ≡ 2 * mostPrediction + 1
+received-of = refl

@@ -1,0 +1,44 @@
+// A packet that arrives more than once is announced once. docs/FAILURES.md goes through it.
+use endpoint::Endpoint;
+use frame::BIAS32;
+use libc::STDOUT_FILENO;
+use status::Statuses;
+
+// The ends' magics, and their numbers as peers.
+const A: u16 = 65;
+
+const B: u16 = 66;
+
+fn main() {
+    let mut queue = [0u8; 128];
+    let statuses = Statuses::new(2);
+    let a = demo_ends::end(A, B, 1, 0);
+    let b = demo_ends::end(B, A, 0, 0);
+    // The packet with frame 0, which the line keeps, arrives twice.
+    let sent = a.send_input(BIAS32, b"\x05", statuses, 100, &mut queue);
+    let kept = queue;
+    let first = sent.endpoint.messages(&kept);
+    let b = arrive(b, first, 110);
+    let b = arrive(b, first, 120);
+    // The packet with frames 0 and 1 arrives, and then the first once more.
+    let taken = sent.endpoint.take_messages(&queue);
+    let a = taken.endpoint;
+    let sent = a.send_input(BIAS32 + 1, b"\x07", statuses, 130, &mut queue);
+    let b = arrive(b, sent.endpoint.messages(&queue), 140);
+    arrive(b, first, 150);
+}
+
+// A's datagram arrives at B: what it is, what B announces, and what B answers.
+fn arrive(b: Endpoint, datagram: &[u8], now: u64) -> Endpoint {
+    let mut queue = [0u8; 64];
+    let ended = b.datagram(A as u32, datagram, now, now, 0, &mut queue);
+    let taken = ended.endpoint.take_events();
+    let mut page = [0u8; 512];
+    let at = message_line::line_after(&mut page, 0, b"A: sends ", datagram);
+    let at = event_line::lines(&mut page, at, b'B', taken.events, 1);
+    let answer = taken.endpoint.messages(&queue);
+    let at = message_line::line_after(&mut page, at, b"B: sends ", answer);
+    io::write_all(STDOUT_FILENO, text::filled(&page, at));
+    let answered = taken.endpoint.take_messages(&queue);
+    answered.endpoint
+}

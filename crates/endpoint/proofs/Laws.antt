@@ -1,0 +1,17 @@
+-- Laws of all calls.
+pub mod Ends
+pub mod Announced
+pub mod Room
+pub mod Phases
+pub mod Lengths
+pub mod Settled
+-- Laws of one call or one group of calls, named as its source file.
+pub mod Creation
+pub mod Handshake
+pub mod Message
+pub mod Act
+pub mod Sending
+pub mod Disconnecting
+pub mod Advantage
+pub mod Taking
+pub mod Getters

@@ -1,0 +1,21 @@
+-- A message that arrives: the functions over its plain parts, then the ways out of `handle_message` by kind.
+pub mod Arrival
+pub mod Admission
+pub mod Hearing
+pub mod Informing
+pub mod Packet
+pub mod Reaction
+pub mod Bodies
+pub mod Quiet
+pub mod Changed
+pub mod Answered
+pub mod Unqueued
+pub mod SyncRequest
+pub mod SyncReply
+pub mod InputWays
+pub mod InputTaken
+pub mod Input
+pub mod InputAck
+pub mod Quality
+pub mod ChecksumReport
+pub mod Ways

@@ -1,0 +1,78 @@
+-- `merge_reports` merges one report after another. The invariant: what is held is what was held, merged with the first i reports.
+use borrow.Author.Needs.{needs}
+use borrow.Author.Tests.{ltb-true, ltb-false}
+use mathlib.Core.Path.{_≡_, sym, _∙_}
+use Prim.Native.Nat.{_-_, _≤_}
+use native.Mathlib.Omega.{arith}
+use lib.ListN.{length, take, length-take}
+use Rattle.base.proofs.Arrays.{unmap}
+use Rattle.codec.specs.Message.{listed}
+use Rattle.status.specs.Statuses.{held, mergedAll}
+use Rattle.status.proofs.MergeAll.{all-none}
+use Rattle.endpoint.proofs.Laws.Message.Informing.{reports-turn, reports-end}
+use Rattle.endpoint.specs.Inside.Informing.{statusesOf}
+use Rattle.endpoint.proofs.message.informing.merge_reports.Statement.{statement}
+use Rattle.endpoint.proofs.message.informing.merge_reports.Tie as tie
+
+abbrev Inv-loop : tie.InvT-loop
+Inv-loop reports next₀ i₀ next i =
+    (i ≤ 4) × (i ≤ reports .count) × (length (reports .list) ≡ 4) × (held next ≡ mergedAll (held next₀) (take i (statusesOf (listed reports))))
+
+abbrev μ-loop : tie.MeasureT-loop
+μ-loop reports next₀ i₀ next i = 4 - i
+
+loop-holds : tie.Need-loop-holds Inv-loop μ-loop
+loop-holds c = (omega arith, omega arith, search (unmap, needs), sym (all-none (held (c .args .statuses))))
+
+mul-report : tie.Need-mul-report Inv-loop μ-loop
+mul-report c = omega arith
+
+element-copy-out-report : tie.Need-element-copy-out-report Inv-loop μ-loop
+element-copy-out-report c = omega arith
+
+merge-report-requires : tie.Need-merge-report-requires Inv-loop μ-loop
+merge-report-requires c κs = search needs
+
+add-i : tie.Need-add-i Inv-loop μ-loop
+add-i c = omega arith
+
+loop-less : tie.Need-loop-less Inv-loop μ-loop
+loop-less c = omega arith
+
+loop-again : tie.Need-loop-again Inv-loop μ-loop
+loop-again c =
+    let a = c .before .before .before .before .before .args in
+    let l = c .before .before .before .before .loop in (
+      omega arith,
+      omega (arith, ltb-true),
+      l .inv .2,
+      c .merge-report .ensures .0 ∙ rw (l .inv .3) (sym (reports-turn (held (a .statuses)) (a .t2) (l .i) _ (omega (arith, ltb-true, l .inv .2, length-take (a .t2 .count) (a .t2 .list))))),
+    )
+
+returns : tie.Need-returns Inv-loop μ-loop
+returns c =
+    let a = c .before .before .before .args in
+    let l = c .before .before .loop in
+    l .inv .3 ∙ reports-end (held (a .statuses)) (listed (a .t2)) (l .i) (omega (arith, ltb-false, l .inv .2, length-take (a .t2 .count) (a .t2 .list)))
+
+returns-2 : tie.Need-returns-2 Inv-loop μ-loop
+returns-2 c =
+    let a = c .before .before .args in
+    let l = c .before .loop in
+    l .inv .3 ∙ reports-end (held (a .statuses)) (listed (a .t2)) (l .i) (omega (arith, l .inv .2, length-take (a .t2 .count) (a .t2 .list)))
+
+pub merge-reports-spec : {M : Type 1} → statement M
+merge-reports-spec =
+    tie.close
+    (tie.spec
+    Inv-loop
+    μ-loop
+    loop-holds
+    mul-report
+    element-copy-out-report
+    merge-report-requires
+    add-i
+    loop-less
+    loop-again
+    returns
+    returns-2)

@@ -1,0 +1,10 @@
+pub mod Lists
+pub mod Wires
+pub mod Tape
+pub mod Moves
+pub mod Effects
+pub mod Calls
+pub mod Announcing
+pub mod InOrder
+pub mod Brings
+pub mod Examples

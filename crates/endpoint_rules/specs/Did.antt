@@ -1,0 +1,72 @@
+-- What a call does: its answer, the state after it, the messages that it queues, the events that it announces.
+use mathlib.Core.Bool.{Bool}
+use mathlib.Core.List.{List, [], _∷_, _++_}
+use Prim.Native.Nat.{ℕ, _+_}
+use lib.Dec.{eqb}
+use Rattle.base.specs.Pick.{pick}
+use Rattle.codec.specs.Message.{Wire}
+use Rattle.codec.specs.Read.{plain}
+use Rattle.codec.specs.declared.MessageBody.{MessageBody}
+use Rattle.outbox.specs.Outbox.{sizes}
+use Rattle.events.specs.declared.Entry.{Entry}
+use Rattle.events.specs.declared.Event.{Event}
+use Rattle.events.specs.Events.{withoutInput}
+use Rattle.endpoint_rules.specs.Seen.{Seen, withEvents, withQueued, sentAt}
+
+pub record Did : Type 0 where
+  pub answer : ℕ
+  pub after : Seen
+  pub out : List Wire
+  pub events : List Entry
+
+-- a refusal (N-19): its number, and nothing else happens
+unfoldable pub refused : ℕ → Seen → Did
+refused n s = record { answer = n; after = s; out = []; events = [] }
+
+-- a silent return: its number is 0, and nothing changes
+abbrev pub silent : Seen → Did
+silent s = refused 0 s
+
+-- refused by the number of the first test that holds; 0, where none does, goes on
+unfoldable pub decided : ℕ → Seen → Did → Did
+decided n s d = pick (eqb n 0) d (refused n s)
+
+-- a test for a silent return; where it does not hold, what goes on
+abbrev pub silentIf : Bool → Seen → Did → Did
+silentIf b s d = pick b (silent s) d
+
+-- ---- a call that is done, step by step. Until it is booked, the state's events and queue are those from before the call.
+pub record Effect : Type 0 where
+  pub state : Seen
+  pub out : List Wire
+  pub events : List Entry
+
+abbrev pub begin : Seen → Effect
+begin s = record { state = s; out = []; events = [] }
+
+abbrev pub change : (Seen → Seen) → Effect → Effect
+change f e = record { state = f (e .state); out = e .out; events = e .events }
+
+-- a message is queued: the send time is noted
+unfoldable pub queueWire : ℕ → Wire → Effect → Effect
+queueWire now w e = record { state = sentAt now (e .state); out = e .out ++ w ∷ []; events = e .events }
+
+-- one that has neither statuses nor payload, under the own magic
+abbrev pub queue : ℕ → MessageBody → Effect → Effect
+queue now body e = queueWire now (plain (e .state .setup .magic) body) e
+
+abbrev pub announce : List Entry → Effect → Effect
+announce es e = record { state = e .state; out = e .out; events = e .events ++ es }
+
+-- an event that has no input
+abbrev pub announceEvent : Event → Effect → Effect
+announceEvent event e = announce (withoutInput event ∷ []) e
+
+unfoldable pub done : Effect → Did
+done e =
+    record {
+      answer = 0;
+      after = withEvents (e .state .events ++ e .events) (withQueued (e .state .queued + sizes (e .out)) (e .state));
+      out = e .out;
+      events = e .events;
+    }

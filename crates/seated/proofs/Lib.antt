@@ -1,8 +1,0 @@
-pub mod Rising
-pub mod Announcing
-pub mod Slots
-pub mod Handling
-pub mod Advancing
-pub mod Seated
-pub mod Told
-pub mod Examples

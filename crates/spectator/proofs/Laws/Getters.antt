@@ -1,0 +1,87 @@
+-- What the getters show, and what taking the events leaves.
+use mathlib.Core.Bool.{Bool, true, false}
+use mathlib.Core.List.{[]}
+use mathlib.Core.Path.{_≡_, refl, ap, _∙_}
+use Prim.Native.Nat.{ℕ, _-_}
+use lib.Dec.{eqb}
+use Rattle.base.specs.Pick.{pick}
+use Rattle.quality.specs.Advantage.{differenceOverflows}
+use Rattle.setup.specs.Setup.{termsWith}
+use Rattle.endpoint_rules.specs.Call.{Call as HostCall}
+use Rattle.endpoint_rules.specs.Step.{step as hostStep, statsStep}
+use Rattle.endpoint_rules.specs.Value.{Value as HostValue, valueOf as hostValueOf}
+use Rattle.endpoint_rules.specs.Reports.{statsOf}
+use Rattle.quality.specs.declared.NetworkStats.{NetworkStats}
+use Rattle.endpoint.specs.Endpoint.{seen as seenHost}
+use Rattle.endpoint.specs.Shown.{shown as hostShown, shownStats as shownHostStats}
+use Rattle.endpoint.specs.declared.getters.StatsResult.{StatsResult}
+use Rattle.endpoint.specs.declared.getters.StatsResult.the-variants.{Stats, Refused}
+use Rattle.spectator_rules.specs.Call.{Call}
+use Rattle.spectator_rules.specs.Step.{step, byHost, decided, refused, framesBehindStep}
+use Rattle.spectator_rules.specs.Value.{Value, valueOf}
+use Rattle.spectator.specs.declared.SpectatorSession.{SpectatorSession}
+use Rattle.spectator.specs.declared.session_events.SessionEvents.{SessionEvents}
+use Rattle.spectator.specs.declared.getters.FramesBehind.the-variants.{Frames, Overflow}
+use Rattle.spectator.specs.Stores.{eventsOf}
+use Rattle.spectator.specs.Session.{seen}
+use Rattle.spectator.specs.Answers.{told, shownStats, shownBehind, TakenAs}
+
+-- the host's values that its statistics are shown as, as the session's
+abbrev carriedOver : HostValue → Value
+carriedOver HostValue.nothing = Value.nothing
+carriedOver (HostValue.stats x) = Value.stats x
+carriedOver (HostValue.status x) = Value.nothing
+carriedOver (HostValue.events x) = Value.nothing
+carriedOver (HostValue.part x) = Value.nothing
+carriedOver (HostValue.numbers x) = Value.nothing
+carriedOver (HostValue.flag x) = Value.nothing
+carriedOver (HostValue.frame x) = Value.nothing
+carriedOver (HostValue.phase x) = Value.nothing
+carriedOver (HostValue.checksums x) = Value.nothing
+
+abbrev toldOver : ℕ × HostValue → ℕ × Value
+toldOver x = (x .0, carriedOver (x .1))
+
+shown-over : (r : StatsResult) → shownStats r ≡ toldOver (shownHostStats r)
+shown-over (Stats x) = refl
+shown-over (Refused a) = refl
+
+told-over : (b : Bool) (n : ℕ) (x : NetworkStats) → toldOver (n, pick b (HostValue.stats x) HostValue.nothing) ≡ (n, pick b (Value.stats x) Value.nothing)
+told-over true n x = refl
+told-over false n x = refl
+
+module _ (s : SpectatorSession) where
+  pub tells-state : Value.state (s .state) ≡ valueOf Call.currentState (seen s)
+  unfolding valueOf seen
+  tells-state = refl
+
+  pub tells-frame : Value.frame (s .«current_frame») ≡ valueOf Call.currentFrame (seen s)
+  unfolding valueOf seen
+  tells-frame = refl
+
+  pub tells-players : Value.count (s .host .setup .«num_players») ≡ valueOf Call.numPlayers (seen s)
+  unfolding valueOf seen seenHost termsWith
+  tells-players = refl
+
+  pub takes-events : TakenAs s (record {
+    session = record { host = s .host; limits = s .limits; state = s .state; inputs = s .inputs; statuses = s .statuses; events = record { entries = s .events .entries; used = 0 }; «current_frame» = s .«current_frame»; «last_recv_frame» = s .«last_recv_frame» };
+    events = s .events;
+  })
+  unfolding valueOf step seen eventsOf
+  takes-events = record { events = refl; after = refl }
+
+  -- how far behind
+  pub behind-overflow : differenceOverflows (s .«last_recv_frame») (s .«current_frame») ≡ true → shownBehind Overflow ≡ told Call.framesBehindHost (seen s)
+  unfolding told step framesBehindStep decided refused seen
+  behind-overflow h = rw h
+
+  pub behind-told : (n : ℕ) → differenceOverflows (s .«last_recv_frame») (s .«current_frame») ≡ false → n ≡ s .«last_recv_frame» - s .«current_frame»
+      → shownBehind (Frames n) ≡ told Call.framesBehindHost (seen s)
+  unfolding told step framesBehindStep decided valueOf seen
+  behind-told n h e = rw (h, e)
+
+  pub tells-stats : (epoch : ℕ) (r : StatsResult) → shownHostStats r ≡ hostShown (HostCall.networkStats epoch) (seenHost (s .host))
+      → shownStats r ≡ told (Call.networkStats epoch) (seen s)
+  unfolding told step byHost valueOf seen hostShown hostStep hostValueOf
+  tells-stats epoch r h =
+      shown-over r ∙ ap toldOver h ∙ told-over (eqb (statsStep epoch (seenHost (s .host)) .answer) 0) (statsStep epoch (seenHost (s .host)) .answer) (statsOf (seenHost (s .host)))

@@ -1,0 +1,131 @@
+-- Two answers that a call's contract allows are equal, as are the states and the lent buffers after them, for each public function.
+use mathlib.Core.List.{List, []}
+use mathlib.Core.Path.{_≡_, refl, sym, _∙_, ap}
+use Prim.Native.Nat.{ℕ}
+use lib.ListN.{length, take, getD}
+use Rattle.base.proofs.Settled.{settled}
+use Rattle.answer.specs.Number.{number-determines}
+use Rattle.codec.specs.Message.{Wire}
+use Rattle.endpoint_rules.specs.Value.{handedBack}
+use Rattle.endpoint.specs.declared.getters.StatsResult.{StatsResult}
+use Rattle.endpoint.specs.declared.getters.StatsResult.the-variants.{Stats, Refused}
+use Rattle.spectator_rules.specs.declared.SessionEntry.{SessionEntry}
+use Rattle.spectator_rules.specs.declared.SessionSetup.{SessionSetup}
+use Rattle.spectator_rules.specs.declared.SessionState.{SessionState}
+use Rattle.spectator_rules.specs.declared.SyncedInput.{SyncedInput}
+use Rattle.spectator_rules.specs.Call.{Call}
+use Rattle.spectator_rules.specs.Step.{Did, step}
+use Rattle.spectator_rules.specs.Value.{Value, valueOf}
+use Rattle.spectator.specs.declared.SpectatorSession.{SpectatorSession}
+use Rattle.spectator.specs.declared.Ended.{Ended}
+use Rattle.spectator.specs.declared.advancing.Advanced.{Advanced}
+use Rattle.spectator.specs.declared.getters.FramesBehind.{FramesBehind}
+use Rattle.spectator.specs.declared.getters.FramesBehind.the-variants.{Frames, Overflow}
+use Rattle.spectator.specs.declared.getters.TakenEvents.{TakenEvents}
+use Rattle.spectator.specs.declared.polling.Polled.{Polled}
+use Rattle.spectator.specs.declared.session_events.SessionEvents.{SessionEvents}
+use Rattle.spectator.specs.declared.requests.Request.{Request}
+use Rattle.spectator.specs.declared.requests.Requests.{Requests}
+use Rattle.spectator.specs.Stores.{eventsOf, requestOf, framesOf, blankEntry, blankSynced}
+use Rattle.spectator.specs.Session.{seen, DidAs, DoneAs}
+use Rattle.spectator.specs.Answers.{told, shownStats, shownBehind, MadeAs, TakenAs, polledPart, PolledAs, AdvancedAs}
+
+pub new-settled : (g : SessionSetup) (now : ℕ) (r s : Ended) → MadeAs g now r → MadeAs g now s → (r .answer ≡ s .answer) × (seen (r .session) ≡ seen (s .session))
+new-settled g now r s a b = (number-determines (r .answer) (s .answer) (a .answer ∙ sym (b .answer)), a .made ∙ sym (b .made))
+
+module _ (e : SessionEvents) where
+  pub session-events-count-settled : (m n : ℕ) → m ≡ length (eventsOf e) → n ≡ length (eventsOf e) → m ≡ n
+  session-events-count-settled = settled (λ x. x) (length (eventsOf e))
+
+  pub entry-settled : (i : ℕ) (r s : SessionEntry) → r ≡ getD (eventsOf e) i blankEntry → s ≡ getD (eventsOf e) i blankEntry → r ≡ s
+  entry-settled i = settled (λ x. x) (getD (eventsOf e) i blankEntry)
+
+module _ (q : Requests) where
+  pub requests-count-settled : (m n : ℕ) → m ≡ length (framesOf q) → n ≡ length (framesOf q) → m ≡ n
+  requests-count-settled = settled (λ x. x) (length (framesOf q))
+
+  pub frame-settled : (i : ℕ) (r s : Request) → requestOf r ≡ getD (framesOf q) i [] → requestOf s ≡ getD (framesOf q) i [] → requestOf r ≡ requestOf s
+  frame-settled i = settled requestOf (getD (framesOf q) i [])
+
+module _ (q : Request) where
+  pub request-count-settled : (m n : ℕ) → m ≡ length (requestOf q) → n ≡ length (requestOf q) → m ≡ n
+  request-count-settled = settled (λ x. x) (length (requestOf q))
+
+  pub input-settled : (player : ℕ) (r s : SyncedInput) → r ≡ getD (requestOf q) player blankSynced → s ≡ getD (requestOf q) player blankSynced → r ≡ s
+  input-settled player = settled (λ x. x) (getD (requestOf q) player blankSynced)
+
+same-stats : (r s : StatsResult) → shownStats r ≡ shownStats s → r ≡ s
+same-stats (Stats a) (Stats b) h = let v : Value.stats a ≡ Value.stats b = ap (λ (t : ℕ × Value). t .1) h in cc
+same-stats (Stats a) (Refused b) h = let v : Value.stats a ≡ Value.nothing = ap (λ (t : ℕ × Value). t .1) h in cc
+same-stats (Refused a) (Stats b) h = let v : Value.nothing ≡ Value.stats b = ap (λ (t : ℕ × Value). t .1) h in cc
+same-stats (Refused a) (Refused b) h = ap Refused (number-determines a b (ap (λ (t : ℕ × Value). t .0) h))
+
+same-behind : (r s : FramesBehind) → shownBehind r ≡ shownBehind s → r ≡ s
+same-behind (Frames m) (Frames n) h = let v : Value.count m ≡ Value.count n = ap (λ (t : ℕ × Value). t .1) h in cc
+same-behind (Frames m) Overflow h = let v : Value.count m ≡ Value.nothing = ap (λ (t : ℕ × Value). t .1) h in cc
+same-behind Overflow (Frames n) h = let v : Value.nothing ≡ Value.count n = ap (λ (t : ℕ × Value). t .1) h in cc
+same-behind Overflow Overflow h = refl
+
+module _ (e : SpectatorSession) where
+  module _ (d : Did) where
+    done-settled : (r s : Ended) → DoneAs e d r → DoneAs e d s → (r .answer ≡ s .answer) × (seen (r .session) ≡ seen (s .session))
+    done-settled r s a b = (number-determines (r .answer) (s .answer) (a .answer ∙ sym (b .answer)), a .after ∙ sym (b .after))
+
+    did-settled : (buffer : List ℕ) (r s : Ended) (b c : List ℕ) → DidAs e d buffer r b → DidAs e d buffer s c → (r .answer ≡ s .answer) × (seen (r .session) ≡ seen (s .session)) × (b ≡ c)
+    did-settled buffer r s b c x y = (number-determines (r .answer) (s .answer) (x .answer ∙ sym (y .answer)), x .after ∙ sym (y .after), x .lent ∙ sym (y .lent))
+
+  module _ (now epoch nonce : ℕ) (buffer : List ℕ) (r s : Ended) (b c : List ℕ) where
+    abbrev Same : Type 0
+    Same = (r .answer ≡ s .answer) × (seen (r .session) ≡ seen (s .session)) × (b ≡ c)
+
+    abbrev Both : Call → Type 0
+    Both x = DidAs e (step x (seen e)) buffer r b → DidAs e (step x (seen e)) buffer s c → Same
+
+    pub synchronize-settled : Both (Call.synchronize now epoch nonce (length buffer))
+    synchronize-settled = did-settled (step (Call.synchronize now epoch nonce (length buffer)) (seen e)) buffer r s b c
+
+    pub message-settled : (from count : ℕ) (w : Wire) → Both (Call.message from count w now epoch nonce (length buffer))
+    message-settled from count w = did-settled (step (Call.message from count w now epoch nonce (length buffer)) (seen e)) buffer r s b c
+
+    pub datagram-settled : (from : ℕ) (bytes : List ℕ) → Both (Call.datagram from bytes now epoch nonce (length buffer))
+    datagram-settled from bytes = did-settled (step (Call.datagram from bytes now epoch nonce (length buffer)) (seen e)) buffer r s b c
+
+  module _ (now epoch nonce : ℕ) (buffer : List ℕ) where
+    abbrev Polls : Polled → List ℕ → Type 0
+    Polls = PolledAs e (step (Call.pollRemoteClients now epoch nonce (length buffer)) (seen e)) (polledPart now epoch nonce (length buffer) (seen e)) buffer
+
+    pub poll-remote-clients-settled : (r s : Polled) (b c : List ℕ) → Polls r b → Polls s c
+        → (r .answer ≡ s .answer) × (seen (r .session) ≡ seen (s .session)) × (r .filled ≡ s .filled) × (b ≡ c)
+    poll-remote-clients-settled r s b c x y =
+        (number-determines (r .answer) (s .answer) (x .answer ∙ sym (y .answer)), x .after ∙ sym (y .after), x .filled ∙ sym (y .filled), x .lent ∙ sym (y .lent))
+
+  pub advance-frame-settled : (r s : Advanced) → AdvancedAs e r → AdvancedAs e s
+      → (r .answer ≡ s .answer) × (seen (r .session) ≡ seen (s .session)) × (framesOf (r .requests) ≡ framesOf (s .requests))
+  advance-frame-settled r s x y = (number-determines (r .answer) (s .answer) (x .answer ∙ sym (y .answer)), x .after ∙ sym (y .after), x .requests ∙ sym (y .requests))
+
+  pub take-messages-settled : (buffer : ℕ) (r s : Ended) → DoneAs e (step (Call.takeMessages buffer) (seen e)) r → DoneAs e (step (Call.takeMessages buffer) (seen e)) s
+      → (r .answer ≡ s .answer) × (seen (r .session) ≡ seen (s .session))
+  take-messages-settled buffer = done-settled (step (Call.takeMessages buffer) (seen e))
+
+  pub messages-settled : (buffer a b : List ℕ) → a ≡ take (handedBack (length buffer) (seen e .host)) buffer → b ≡ take (handedBack (length buffer) (seen e .host)) buffer → a ≡ b
+  messages-settled buffer a b = settled (λ x. x) (take (handedBack (length buffer) (seen e .host)) buffer) a b
+
+  pub take-events-settled : (r s : TakenEvents) → TakenAs e r → TakenAs e s → (eventsOf (r .events) ≡ eventsOf (s .events)) × (seen (r .session) ≡ seen (s .session))
+  take-events-settled r s x y =
+      let z : Value.events (eventsOf (r .events)) ≡ Value.events (eventsOf (s .events)) = x .events ∙ sym (y .events) in
+      (cc, x .after ∙ sym (y .after))
+
+  pub network-stats-settled : (epoch : ℕ) (r s : StatsResult) → shownStats r ≡ told (Call.networkStats epoch) (seen e) → shownStats s ≡ told (Call.networkStats epoch) (seen e) → r ≡ s
+  network-stats-settled epoch r s a b = same-stats r s (a ∙ sym b)
+
+  pub frames-behind-host-settled : (r s : FramesBehind) → shownBehind r ≡ told Call.framesBehindHost (seen e) → shownBehind s ≡ told Call.framesBehindHost (seen e) → r ≡ s
+  frames-behind-host-settled r s a b = same-behind r s (a ∙ sym b)
+
+  pub current-state-settled : (r s : SessionState) → Value.state r ≡ valueOf Call.currentState (seen e) → Value.state s ≡ valueOf Call.currentState (seen e) → r ≡ s
+  current-state-settled r s x y = let z : Value.state r ≡ Value.state s = x ∙ sym y in cc
+
+  pub current-frame-settled : (r s : ℕ) → Value.frame r ≡ valueOf Call.currentFrame (seen e) → Value.frame s ≡ valueOf Call.currentFrame (seen e) → r ≡ s
+  current-frame-settled r s x y = let z : Value.frame r ≡ Value.frame s = x ∙ sym y in cc
+
+  pub num-players-settled : (r s : ℕ) → Value.count r ≡ valueOf Call.numPlayers (seen e) → Value.count s ≡ valueOf Call.numPlayers (seen e) → r ≡ s
+  num-players-settled r s x y = let z : Value.count r ≡ Value.count s = x ∙ sym y in cc

@@ -1,0 +1,23 @@
+-- `count` is the length of the view: a `used` beyond the array is the array's length.
+use borrow.Author.Needs.{needs}
+use mathlib.Core.Path.{_≡_}
+use native.Mathlib.Omega.{arith}
+use lib.ListN.{length, length-take}
+use Rattle.base.proofs.Arrays.{unmap}
+use Rattle.spectator.specs.Stores.{requestOf}
+use Rattle.spectator.proofs.requests.Request.count.Statement.{statement}
+use Rattle.spectator.proofs.requests.Request.count.Tie as tie
+
+long : (c : tie.Start) → length (c .args .self .inputs) ≡ 4
+long c = search (unmap, needs)
+
+returns : tie.Need-returns
+unfolding requestOf
+returns c = simp length-take (omega (arith, long (c .before)))
+
+returns-2 : tie.Need-returns-2
+unfolding requestOf
+returns-2 c = simp length-take (omega (arith, long (c .before)))
+
+pub count-spec : {M : Type 1} → statement M
+count-spec = tie.close (tie.spec returns returns-2)

@@ -1,0 +1,43 @@
+-- `entry` reads the array below the count, where it is the view's; beyond the view there is nothing.
+use borrow.Author.Needs.{needs}
+use mathlib.Core.Path.{_≡_, sym, _∙_}
+use Prim.Native.Nat.{_<_}
+use native.Mathlib.Omega.{arith}
+use lib.ListN.{length, List·getD-eq-default}
+use Rattle.base.proofs.Arrays.{unmap, view-at, view-le}
+use Rattle.base.proofs.Orders.{getD-within}
+use Rattle.spectator.specs.Stores.{eventsOf, blankEntry}
+use Rattle.spectator.proofs.session_events.SessionEvents.entry.Statement.{statement}
+use Rattle.spectator.proofs.session_events.SessionEvents.entry.Tie as tie
+
+count-requires : tie.Need-count-requires
+count-requires c κs = search needs
+
+long : (c : tie.Start) → length (c .args .t1 .entries) ≡ 128
+long c = search (unmap, needs)
+
+mul-result : tie.Need-mul-result
+unfolding eventsOf
+mul-result c = let s = c .before .before .args .t1 in omega (arith, long (c .before .before), view-le (s .used) (s .entries), c .before .count .ensures)
+
+element-copy-out-result : tie.Need-element-copy-out-result
+unfolding eventsOf
+element-copy-out-result c = let s = c .before .before .args .t1 in omega (arith, long (c .before .before), view-le (s .used) (s .entries), c .before .count .ensures)
+
+returns : tie.Need-returns
+unfolding eventsOf
+returns c =
+    let a = c .before .before .before .args in
+    let h : a .i < length (eventsOf (a .t1)) = omega (arith, c .before .before .count .ensures) in
+    sym (view-at (a .t1 .used) (a .t1 .entries) (a .i) _ h) ∙ getD-within (eventsOf (a .t1)) (a .i) _ blankEntry h
+
+blank-entry-requires : tie.Need-blank-entry-requires
+blank-entry-requires c κs = search needs
+
+returns-2 : tie.Need-returns-2
+returns-2 c =
+    let a = c .before .before .before .args in
+    c .blank-entry .ensures ∙ sym (List·getD-eq-default (eventsOf (a .t1)) blankEntry (omega (arith, c .before .before .count .ensures)))
+
+pub entry-spec : {M : Type 1} → statement M
+entry-spec = tie.close (tie.spec count-requires mul-result element-copy-out-result returns blank-entry-requires returns-2)

@@ -1,0 +1,112 @@
+// The session's events that wait to be taken, oldest first: at most so many, the oldest dropped beyond them.
+ghost use mathlib.Core.Path.{_≡_};
+ghost use mathlib.Core.List.{[], _∷_, _++_};
+ghost use Prim.Native.Nat.{min};
+ghost use lib.Dec.{ltb};
+ghost use lib.ListN.{length, drop, getD};
+ghost use Rattle.base.specs.Pick.{pick};
+ghost use Rattle.spectator_rules.specs.Handling.{toldTo};
+ghost use Rattle.spectator.specs.Stores.{eventsOf, blankEntry};
+use spectator_rules::SessionEntry;
+use spectator_rules::SessionEvent;
+
+pub struct SessionEvents {
+    pub entries: [SessionEntry; 128],
+    pub used: usize,
+}
+
+// What stands in a place that holds no event.
+fn blank_entry() -> SessionEntry
+    ensures { λ r. ⌜ r ≡ blankEntry ⌝ }
+{
+    SessionEntry {
+        addr: 0,
+        event: SessionEvent::Synchronized,
+    }
+}
+
+impl SessionEvents {
+    pub(crate) fn new() -> SessionEvents
+        ensures { λ r. ⌜ eventsOf r ≡ [] ⌝ }
+    {
+        let blank = blank_entry();
+        SessionEvents {
+            entries: [blank; 128],
+            used: 0,
+        }
+    }
+
+    pub fn count(self) -> usize
+        ensures { λ r. ⌜ r ≡ length (eventsOf self) ⌝ }
+    {
+        let used = self.used;
+        if used < 128 { used } else { 128 }
+    }
+
+    // The i-th, oldest first; past the last, Synchronized of peer 0.
+    pub fn entry(self, i: usize) -> SessionEntry
+        ensures { λ r. ⌜ r ≡ getD (eventsOf self) i blankEntry ⌝ }
+    {
+        let n = self.count();
+        if i < n {
+            return self.entries[i];
+        }
+        blank_entry()
+    }
+
+    // The store after all its events are taken.
+    pub(crate) fn take_all(mut self) -> SessionEvents
+        ensures { λ r. ⌜ eventsOf r ≡ [] ⌝ }
+    {
+        self.used = 0;
+        self
+    }
+
+    // Those from the k-th on, moved to the front.
+    fn shift(mut self, k: usize) -> SessionEvents
+        ensures { λ r. ⌜ eventsOf r ≡ drop k (eventsOf self) ⌝ }
+    {
+        let n = self.count();
+        if n <= k {
+            self.used = 0;
+            return self;
+        }
+        let m = n - k;
+        let mut i = 0;
+        while i < m {
+            let entry = self.entries[i + k];
+            self.entries[i] = entry;
+            i += 1;
+        }
+        self.used = m;
+        self
+    }
+
+    // One more at the end, where there is a place.
+    fn push(mut self, entry: SessionEntry) -> SessionEvents
+        ensures { λ r. ⌜ eventsOf r ≡ pick (ltb (length (eventsOf self)) 128) (eventsOf self ++ entry ∷ []) (eventsOf self) ⌝ }
+    {
+        let n = self.count();
+        if n < 128 {
+            self.entries[n] = entry;
+            self.used = n + 1;
+        }
+        self
+    }
+
+    // One more at the end; the oldest are dropped beyond `most`.
+    pub(crate) fn announce(self, entry: SessionEntry, most: u32) -> SessionEvents
+        ensures { λ r. ⌜ eventsOf r ≡ toldTo most entry (eventsOf self) ⌝ }
+    {
+        let most = numbers::least(most as usize, 128);
+        let n = self.count();
+        if n < most {
+            return self.push(entry);
+        }
+        if most == 0 {
+            return self.take_all();
+        }
+        let rest = self.shift(n + 1 - most);
+        rest.push(entry)
+    }
+}

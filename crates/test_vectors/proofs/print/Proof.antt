@@ -1,0 +1,57 @@
+-- `print` writes the part of its buffer that the line takes, which ends inside it.
+use borrow.Author.Needs.{needs}
+use mathlib.Core.Path.{sym}
+use native.Mathlib.Omega.{arith}
+use lib.Seq.{length-take-le}
+use Rattle.message_line.proofs.LayLaws.{line-inside}
+use Rattle.test_vectors.proofs.print.Statement.{statement}
+use Rattle.test_vectors.proofs.print.Tie as tie
+
+slice-aggregate-line : tie.Need-slice-aggregate-line
+slice-aggregate-line c = search needs
+
+line-requires : tie.Need-line-requires
+line-requires c κs = search needs
+
+array-share-prefix-out : tie.Need-array-share-prefix-out
+array-share-prefix-out c = line-inside (c .before .line .ensures) (omega arith)
+
+slice-aggregate-write-all : tie.Need-slice-aggregate-write-all
+slice-aggregate-write-all c = sym (length-take-le _ _ (line-inside (c .before .before .line .ensures) (omega arith)))
+
+write-all-requires : tie.Need-write-all-requires
+write-all-requires c κs = search needs
+
+read-requires : tie.Need-read-requires
+read-requires c κs = search needs
+
+enum-told : tie.Need-enum-told
+enum-told c = search needs
+
+print-comparison-requires : tie.Need-print-comparison-requires
+print-comparison-requires c κs = search needs
+
+slice-aggregate-write-all-2 : tie.Need-slice-aggregate-write-all-2
+slice-aggregate-write-all-2 c = search needs
+
+write-all-requires-2 : tie.Need-write-all-requires-2
+write-all-requires-2 c κs = search needs
+
+returns : tie.Need-returns
+returns c = search needs
+
+pub print-spec : {M : Type 1} → statement M
+print-spec =
+    tie.close
+    (tie.spec
+    slice-aggregate-line
+    line-requires
+    array-share-prefix-out
+    slice-aggregate-write-all
+    write-all-requires
+    read-requires
+    enum-told
+    print-comparison-requires
+    slice-aggregate-write-all-2
+    write-all-requires-2
+    returns)
