@@ -1,4 +1,4 @@
--- The ceilings in definitions, each named once, as src/lib.rt names them in code.
+-- The sizes of the stores and the ceilings that several crates share, each named once for the definitions, as src/lib.rt names them for the code.
 use mathlib.Core.Path.{_≡_, refl}
 use Prim.Native.Nat.{ℕ, _+_, _*_}
 
