@@ -32,7 +32,7 @@ void *memmove(void *to, const void *from, size_t n) {
     return answer;
 }
 
-__attribute__((destructor)) static void told(void) {
+__attribute__((destructor)) static void print_counts(void) {
     for (size_t n = 0; n < LONGEST; n++) {
         if (counts[n]) {
             dprintf(2, "%zu %lu\n", n, counts[n]);

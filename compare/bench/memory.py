@@ -100,11 +100,11 @@ def stack():
     for program in ("test_bench", "test_replay"):
         frame, calls = frames(program)
         for name in frame:
-            if name.startswith("endpoint::Endpoint::"):
+            if name.startswith(("endpoint::Endpoint::", "spectator::SpectatorSession::")):
                 needs[name] = max(needs.get(name, (0, 0, "")), (deepest(name, frame, calls), frame[name], program))
-    print(f"\n| {'function':34} | its frame | with what it calls | in          |\n|{'-' * 36}|----------:|-------------------:|-------------|")
+    print(f"\n| {'function':42} | its frame | with what it calls | in          |\n|{'-' * 44}|----------:|-------------------:|-------------|")
     for name, (deep, own, program) in sorted(needs.items()):
-        print(f"| {name:34} | {own:9,} | {deep:18,} | {program:11} |")
+        print(f"| {name:42} | {own:9,} | {deep:18,} | {program:11} |")
     print(f"\nthe exchange ends well with a stack of {least_stack(CALLS[-1])} KiB, and not with 4 KiB less")
 
 

@@ -1,6 +1,6 @@
 #!/usr/bin/env python3
 """Looks for holes in the scripts: changes one operator or drops one statement of the crate at a
-time and runs DIR's scripts. Tells which changes no answer shows.  Usage: mutants.py DIR [FROM TO]
+time and runs DIR's scripts. Prints which changes no answer shows.  Usage: mutants.py DIR [FROM TO]
 It is no part of `run`: some changes cannot be seen (see README.md)."""
 import os, re, shutil, subprocess, sys
 

@@ -1,4 +1,4 @@
-//! Finds the crate's own messages.rs and tells main.rs where it is, so that it
+//! Finds the crate's own messages.rs and gives main.rs its place, so that it
 //! is compiled unchanged and in its place: it is not ours to copy.
 
 use std::env;

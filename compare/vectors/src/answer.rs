@@ -102,7 +102,7 @@ fn walk(from: Reader) -> Walked {
 
 /// bincode's own outcome on the whole message: the message and how many bytes
 /// it took, or the number of the refusal.  `deserialize` is what a user of the
-/// crate calls, but only a reader tells how far bincode went.
+/// crate calls, but only a reader shows how far bincode went.
 fn whole(datagram: &[u8]) -> Result<(Message, u64), u8> {
     let mut reader = Cursor::new(datagram);
     let from_reader: Result<Message, u8> = field(&mut reader);

@@ -1,9 +1,8 @@
--- The arm of a `let Answer::Done = .. else`: what is told there is that the answer is a refusal.
-use mathlib.Core.Path.{_≡_, refl}
+-- The arm of a `let Answer::Done = .. else`: what is known there is that the answer is a refusal.
+use mathlib.Core.Path.{_≡_}
 use mathlib.Core.List.{List, [], _∷_}
 use Prim.Native.Nat.{ℕ}
 use native.Mathlib.Omega.{arith}
-use lib.Dec.{T}
 use types.Run.{OneOf}
 use denote.Enum.Declared.{tagOf}
 use Rattle.base.proofs.Tags.{none-of}

@@ -1,4 +1,4 @@
--- The number of each answer (N-1 to N-18), and that the number tells the answer.
+-- The number of each answer (N-1 to N-18), and that the number determines the answer.
 use mathlib.Core.List.{List, [], _∷_}
 use mathlib.Core.Path.{_≡_, refl, sym, _∙_, ap}
 use native.Mathlib.Nat.{zero-add, add-zero}

@@ -6,7 +6,7 @@ use native.Mathlib.Omega.{arith}
 use native.Mathlib.Nat.{sub-zero, zero-sub, suc-sub-suc, add-comm}
 use native.Mathlib.Numerals.{add-one}
 use lib.ListN.{replicate, length, length-map, length-take, length-drop, take, drop, set, getD}
-use lib.Seq.{take-suc-set, take-suc, getD-drop, take-nil, drop-nil, drop-cons, set-at, length-take-le, append-snoc, getD-take}
+use lib.Seq.{take-suc-set, take-suc, getD-drop, take-nil, drop-cons, set-at, length-take-le, append-snoc, getD-take}
 
 pub unmap : {X Y : Type 0} (f : X → Y) (l : List X) (n : ℕ) → length (map f l) ≡ n → length l ≡ n
 unmap f l n p = sym (length-map l f) ∙ p

@@ -3,11 +3,15 @@ use mathlib.Core.Path.{_≡_, refl, sym, _∙_, ap}
 use mathlib.Core.List.{List, [], _∷_, _++_, append-assoc, append-nil}
 use Prim.Native.Nat.{ℕ, _+_, _-_, _<_, _≤_}
 use native.Mathlib.Omega.{arith}
-use native.Mathlib.Numerals.{add-one}
-use native.Mathlib.Nat.{add-assoc}
-use lib.ListN.{length, take, drop, set, length-append, length-take, length-drop, drop-of-length-le}
-use lib.Seq.{take-all, take-length, take-at, drop-at, drop-drop, drop-append-add, take-paste, drop-paste, length-take-le, length-paste, paste-zero, sets-eq}
+use native.Mathlib.Nat.{add-assoc, zero-add}
+use lib.ListN.{length, take, drop, set, length-append, length-drop, drop-of-length-le}
+use lib.Seq.{take-all, take-length, take-at, drop-at, drop-drop, take-paste, drop-paste, length-take-le, length-paste, paste-zero, sets-eq}
 use Rattle.base.specs.Lay.{laidAt}
+
+-- a piece copied over the front of all
+pub laid-first : (buffer piece : List ℕ) → take (length piece) piece ++ drop (length piece) buffer ≡ laidAt buffer 0 piece
+unfolding laidAt
+laid-first buffer piece = rw take-length (ap (λ k. piece ++ drop k buffer) (sym (zero-add (length piece))))
 
 module _ (buffer : List ℕ) (at : ℕ) where
   -- nothing laid

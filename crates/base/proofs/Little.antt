@@ -1,10 +1,10 @@
 -- Laws of numbers as bytes, over the count of bytes: the two undo each other, and pieces join.
 use mathlib.Core.Path.{_≡_, refl, sym, _∙_, ap}
 use mathlib.Core.List.{List, [], _∷_, _++_}
-use Prim.Native.Nat.{ℕ, zero, suc, _+_, _*_, _/_, _%_, _^_, _<_, _≤_}
+use Prim.Native.Nat.{ℕ, zero, suc, _+_, _*_, _/_, _%_, _^_, _<_}
 use native.Mathlib.Omega.{arith}
 use native.Mathlib.Nat.{pow-suc, div-lt-iff-lt-mul, mul-assoc, mul-comm, div-div-eq-div-mul, zero-add, suc-add, div-one, mod-add-div}
-use lib.ListN.{length, getD}
+use lib.ListN.{length}
 use Rattle.base.specs.Little.{Bytes, le, unle}
 
 pub le-length : (k n : ℕ) → length (le k n) ≡ k

@@ -1,4 +1,4 @@
--- Elements told apart by a key, a number: whether one is held, the one that is, the list without it, the list with one put in, and what it is for no key to stand twice.
+-- Elements distinguished by a key, a number: whether one is held, the one that is, the list without it, the list with one put in, and what it is for no key to stand twice.
 use mathlib.Core.Bool.{Bool, true, false, not}
 use mathlib.Core.List.{List, [], _∷_}
 use mathlib.Core.Path.{_≡_, refl}

@@ -1,6 +1,6 @@
 -- The sizes of the stores and the ceilings that several crates share, each named once for the definitions, as src/lib.rt names them for the code.
 use mathlib.Core.Path.{_≡_, refl}
-use Prim.Native.Nat.{ℕ, _+_, _*_}
+use Prim.Native.Nat.{ℕ, _+_, _-_, _*_}
 
 -- players of a bout, handles of an endpoint, statuses of an Input
 abbrev pub mostPlayers : ℕ
@@ -14,7 +14,7 @@ mostInputSize = 16
 abbrev pub mostWidth : ℕ
 mostWidth = 64
 
--- inputs that wait to be acknowledged
+-- pending inputs
 abbrev pub mostPending : ℕ
 mostPending = 129
 
@@ -45,6 +45,22 @@ cleanChecksums = 32
 abbrev pub mostEvents : ℕ
 mostEvents = 640
 
+-- slots of a spectator session
+abbrev pub mostSlots : ℕ
+mostSlots = 64
+
+-- places of a session's inputs
+abbrev pub mostPlaces : ℕ
+mostPlaces = 256
+
+-- frames that one advance of a session may bring
+abbrev pub mostAdvanced : ℕ
+mostAdvanced = 63
+
+-- events of a session that wait to be taken
+abbrev pub mostSessionEvents : ℕ
+mostSessionEvents = 128
+
 -- what some of them are made of
 width-of : mostWidth ≡ mostPlayers * mostInputSize
 width-of = refl
@@ -54,3 +70,9 @@ payload-of = refl
 
 received-of : mostReceived ≡ 2 * mostPrediction + 1
 received-of = refl
+
+places-of : mostPlaces ≡ mostSlots * mostPlayers
+places-of = refl
+
+advanced-of : mostAdvanced ≡ mostSlots - 1
+advanced-of = refl

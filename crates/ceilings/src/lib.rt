@@ -10,7 +10,7 @@ pub const MOST_INPUT_SIZE: usize = 16;
 // Bytes of one frame: the inputs of all players.
 pub const MOST_WIDTH: usize = 64;
 
-// Inputs that wait to be acknowledged.
+// Pending inputs: accepted and not acknowledged yet.
 pub const MOST_PENDING: usize = 129;
 
 // Payload bytes of an Input: every pending input at the greatest width.
@@ -32,3 +32,15 @@ pub const CLEAN_CHECKSUMS: usize = 32;
 
 // Events that wait to be taken.
 pub const MOST_EVENTS: usize = 640;
+
+// Slots of a spectator session: frames that are kept for playing.
+pub const MOST_SLOTS: usize = 64;
+
+// Places of a session's inputs: one for each player in each slot.
+pub const MOST_PLACES: usize = 256;
+
+// Frames that one advance of a session may bring: fewer than there are slots.
+pub const MOST_ADVANCED: usize = 63;
+
+// Events of a session that wait to be taken.
+pub const MOST_SESSION_EVENTS: usize = 128;

@@ -16,7 +16,7 @@ use Rattle.base.proofs.InPlace.{Keeping, keeping-end, keeping-all}
 use Rattle.base.proofs.Removal.{has-place, place-le, put-held, put-new}
 use Rattle.checksums.specs.declared.Checksum.{Checksum}
 use Rattle.checksums.specs.declared.Checksums.{Checksums}
-use Rattle.checksums.specs.Checksums.{stored, frameOf, keptFrom, cleaned, keepLine, overflows, isFull, fullAfter, reported, ReportedAs}
+use Rattle.checksums.specs.Checksums.{stored, checksumFrame, keptFrom, cleaned, keepLine, overflows, othersFull, fullAfter, withReport, ReportedAs}
 
 module _ {X : Type 0} (p : X → Bool) where
   -- a test that all pass keeps all
@@ -67,13 +67,13 @@ cleaned-line frame interval l =
 -- after the loop: the array is l, of which the first w stayed, and the frame's place among them is at
 pub record Swept (s : Checksums) (frame interval : ℕ) (l : List Checksum) (w at : ℕ) : Type 0 where
   pub front : take w l ≡ cleaned frame interval (stored s)
-  pub placed : at ≡ place frameOf frame (take w l)
+  pub placed : at ≡ place checksumFrame frame (take w l)
   pub few : w ≤ 64
   pub long : length l ≡ 64
   pub whole : w ≡ 64 → l ≡ s .entries
 
 pub swept : (s : Checksums) (frame interval line : ℕ) (l : List Checksum) (w at i : ℕ) → line ≡ keepLine (length (stored s)) frame interval
-    → Keeping (λ x. leb line (x .frame)) (s .used) (s .entries) l w i → at ≡ place frameOf frame (take w l) → i ≡ length (stored s) → w ≤ i → i ≤ 64 → length l ≡ 64
+    → Keeping (λ x. leb line (x .frame)) (s .used) (s .entries) l w i → at ≡ place checksumFrame frame (take w l) → i ≡ length (stored s) → w ≤ i → i ≤ 64 → length l ≡ 64
     → Swept s frame interval l w at
 unfolding stored
 swept s frame interval line l w at i el g ea all fewer bound size =
@@ -90,7 +90,7 @@ swept s frame interval line l w at i el g ea all fewer bound size =
 -- the ways out of `report`
 module _ (s : Checksums) (c : Checksum) (interval : ℕ) where
   pub gives-6 : overflows (c .frame) interval (stored s) ≡ true → ReportedAs s c interval (record { checksums = s; overflow = true; full = false })
-  unfolding fullAfter reported
+  unfolding fullAfter withReport
   gives-6 o = record { overflow = sym o; full = rw o; view = rw o; same-6 = λ _. refl; same-5 = λ _. refl }
 
   module _ (o : overflows (c .frame) interval (stored s) ≡ false) (l : List Checksum) (w at : ℕ) (d : Swept s (c .frame) interval l w at) where
@@ -98,13 +98,13 @@ module _ (s : Checksums) (c : Checksum) (interval : ℕ) where
     many = length-take-le w l (omega arith)
 
     within : at ≤ w
-    within = omega (arith, many, place-le frameOf (c .frame) (take w l))
+    within = omega (arith, many, place-le checksumFrame (c .frame) (take w l))
 
-    holds : has frameOf (c .frame) (take w l) ≡ ltb at w
-    holds = has-place frameOf (c .frame) (take w l) ∙ rw (← d .placed, many)
+    holds : has checksumFrame (c .frame) (take w l) ≡ ltb at w
+    holds = has-place checksumFrame (c .frame) (take w l) ∙ rw (← d .placed, many)
 
-    full-is : isFull (c .frame) (cleaned (c .frame) interval (stored s)) ≡ leb 64 at
-    unfolding isFull
+    full-is : othersFull (c .frame) (cleaned (c .frame) interval (stored s)) ≡ leb 64 at
+    unfolding othersFull
     full-is =
         rw (← d .front, holds, many)
         (elim (ltb at w) as (λ b. ltb at w ≡ b → pick b false (leb 64 w) ≡ leb 64 at)
@@ -113,7 +113,7 @@ module _ (s : Checksums) (c : Checksum) (interval : ℕ) where
 
     -- no room: all 64 stayed
     pub gives-5 : 64 ≤ at → (used : ℕ) → used ≡ s .used → ReportedAs s c interval (record { checksums = record { entries = l; used = used }; overflow = false; full = true })
-    unfolding fullAfter reported stored
+    unfolding fullAfter withReport stored
     gives-5 h used u =
         let f = full-is ∙ le-leb 64 at h in
         let e = d .whole (omega (arith, within)) in
@@ -126,29 +126,29 @@ module _ (s : Checksums) (c : Checksum) (interval : ℕ) where
         }
 
     module _ (h : at < 64) where
-      room : isFull (c .frame) (cleaned (c .frame) interval (stored s)) ≡ false
+      room : othersFull (c .frame) (cleaned (c .frame) interval (stored s)) ≡ false
       room = full-is ∙ lt-leb 64 at h
 
       -- a checksum of the frame stayed: the new one takes its place
       pub gives-over : at < w → ReportedAs s c interval (record { checksums = record { entries = set l at c; used = w }; overflow = false; full = false })
-      unfolding fullAfter reported stored
+      unfolding fullAfter withReport stored
       gives-over b =
           record {
             overflow = sym o;
             full = rw (o, room);
-            view = rw (o, room, ← d .front, put-held frameOf c (take w l) (holds ∙ lt-ltb at w b), ← d .placed) (take-set-lt w l at c b);
+            view = rw (o, room, ← d .front, put-held checksumFrame c (take w l) (holds ∙ lt-ltb at w b), ← d .placed) (take-set-lt w l at c b);
             same-6 = λ e. cc;
             same-5 = λ e. cc;
           }
 
       -- none did: it goes to the end
       pub gives-end : w ≤ at → ReportedAs s c interval (record { checksums = record { entries = set l at c; used = at + 1 }; overflow = false; full = false })
-      unfolding fullAfter reported stored
+      unfolding fullAfter withReport stored
       gives-end b =
           record {
             overflow = sym o;
             full = rw (o, room);
-            view = rw (o, room, ← d .front, put-new frameOf c (take w l) (holds ∙ le-ltb at w b)) (store-end l w at c (omega (arith, within, many)) (omega arith));
+            view = rw (o, room, ← d .front, put-new checksumFrame c (take w l) (holds ∙ le-ltb at w b)) (store-end l w at c (omega (arith, within, many)) (omega arith));
             same-6 = λ e. cc;
             same-5 = λ e. cc;
           }

@@ -8,7 +8,7 @@ use Rattle.checksums.specs.declared.Checksum.{Checksum}
 use Rattle.checksums.specs.declared.Checksums.{Checksums}
 use Rattle.checksums.specs.declared.Found.{Found}
 use Rattle.checksums.specs.declared.Reported.{Reported}
-use Rattle.checksums.specs.Checksums.{stored, blank, FoundAs, ReportedAs}
+use Rattle.checksums.specs.Checksums.{stored, blankChecksum, FoundAs, ReportedAs}
 
 pub new-settled : (r s : Checksums) → stored r ≡ [] → stored s ≡ [] → stored r ≡ stored s
 new-settled = settled stored []
@@ -17,8 +17,8 @@ module _ (c : Checksums) where
   pub count-settled : (r s : ℕ) → r ≡ length (stored c) → s ≡ length (stored c) → r ≡ s
   count-settled = settled (λ r. r) (length (stored c))
 
-  pub entry-settled : (i : ℕ) (r s : Checksum) → r ≡ getD (stored c) i blank → s ≡ getD (stored c) i blank → r ≡ s
-  entry-settled i = settled (λ r. r) (getD (stored c) i blank)
+  pub entry-settled : (i : ℕ) (r s : Checksum) → r ≡ getD (stored c) i blankChecksum → s ≡ getD (stored c) i blankChecksum → r ≡ s
+  entry-settled i = settled (λ r. r) (getD (stored c) i blankChecksum)
 
   pub find-settled : (frame : ℕ) (r s : Found) → FoundAs c frame r → FoundAs c frame s → (r .found ≡ s .found) × (r .checksum ≡ s .checksum)
   find-settled frame r s a b = (a .found ∙ sym (b .found), a .checksum ∙ sym (b .checksum))

@@ -17,12 +17,12 @@ use Rattle.checksums.specs.declared.Reported.{Reported}
 unfoldable pub stored : Checksums → List Checksum
 stored s = take (s .used) (s .entries)
 
-abbrev pub frameOf : Checksum → ℕ
-frameOf c = c .frame
+abbrev pub checksumFrame : Checksum → ℕ
+checksumFrame c = c .frame
 
 -- what stands for no checksum
-abbrev pub blank : Checksum
-blank = record { frame = 0; low = 0; high = 0 }
+abbrev pub blankChecksum : Checksum
+blankChecksum = record { frame = 0; low = 0; high = 0 }
 
 -- those of a frame or later
 abbrev pub keptFrom : ℕ → List Checksum → List Checksum
@@ -44,20 +44,20 @@ abbrev pub overflows : (frame interval : ℕ) → List Checksum → Bool
 overflows frame interval l = tooEarly (length l) frame interval
 
 -- 5: 64 others are stored (C-15)
-unfoldable pub isFull : ℕ → List Checksum → Bool
-isFull frame l = pick (has frameOf frame l) false (leb mostChecksums (length l))
+unfoldable pub othersFull : ℕ → List Checksum → Bool
+othersFull frame l = pick (has checksumFrame frame l) false (leb mostChecksums (length l))
 
 pub record FoundAs (s : Checksums) (frame : ℕ) (r : Found) : Type 0 where
-  pub found : r .found ≡ has frameOf frame (stored s)
-  pub checksum : r .checksum ≡ firstWith frameOf frame blank (stored s)
+  pub found : r .found ≡ has checksumFrame frame (stored s)
+  pub checksum : r .checksum ≡ firstWith checksumFrame frame blankChecksum (stored s)
 
 -- 6 before 5; done, the checksum is put into what the clean-up leaves
 unfoldable pub fullAfter : (frame interval : ℕ) → List Checksum → Bool
-fullAfter frame interval l = pick (overflows frame interval l) false (isFull frame (cleaned frame interval l))
+fullAfter frame interval l = pick (overflows frame interval l) false (othersFull frame (cleaned frame interval l))
 
-unfoldable pub reported : Checksum → (interval : ℕ) → List Checksum → List Checksum
-reported c interval l =
-    pick (overflows (c .frame) interval l) l (pick (fullAfter (c .frame) interval l) l (put frameOf c (cleaned (c .frame) interval l)))
+unfoldable pub withReport : Checksum → (interval : ℕ) → List Checksum → List Checksum
+withReport c interval l =
+    pick (overflows (c .frame) interval l) l (pick (fullAfter (c .frame) interval l) l (put checksumFrame c (cleaned (c .frame) interval l)))
 
 -- worked, at interval 10: with 31 stored nothing overflows, with 32 frame 309 does; frame 400 keeps from 90 on
 early-example : tooEarly 31 300 10 ≡ false
@@ -75,6 +75,6 @@ line-example = refl
 pub record ReportedAs (s : Checksums) (c : Checksum) (interval : ℕ) (r : Reported) : Type 0 where
   pub overflow : r .overflow ≡ overflows (c .frame) interval (stored s)
   pub full : r .full ≡ fullAfter (c .frame) interval (stored s)
-  pub view : stored (r .checksums) ≡ reported c interval (stored s)
+  pub view : stored (r .checksums) ≡ withReport c interval (stored s)
   pub same-6 : r .overflow ≡ true → r .checksums ≡ s
   pub same-5 : r .full ≡ true → r .checksums ≡ s

@@ -5,7 +5,7 @@ ghost use mathlib.Core.List.{[]};
 ghost use Prim.Native.Nat.{_-_, _*_};
 ghost use lib.ListN.{length, getD};
 ghost use Rattle.base.specs.Keyed.{place};
-ghost use Rattle.checksums.specs.Checksums.{stored, frameOf, keepLine, tooEarly, blank, FoundAs, ReportedAs};
+ghost use Rattle.checksums.specs.Checksums.{stored, checksumFrame, keepLine, tooEarly, blankChecksum, FoundAs, ReportedAs};
 use ceilings::CLEAN_CHECKSUMS;
 use ceilings::MOST_CHECKSUMS;
 
@@ -37,13 +37,7 @@ pub struct Reported {
 fn oldest(frame: u32, interval: u32) -> u32
     ensures { λ r. ⌜ r ≡ frame - 31 * interval ⌝ }
 {
-    let arriving = frame as u64;
-    let span = 31 * (interval as u64);
-    if arriving < span {
-        0
-    } else {
-        (arriving - span) as u32
-    }
+    numbers::minus(frame as u64, 31 * (interval as u64)) as u32
 }
 
 // The oldest frame to keep would lie below all frames: tested only where the clean-up needs it.
@@ -84,17 +78,12 @@ impl Checksums {
     pub fn count(self) -> usize
         ensures { λ r. ⌜ r ≡ length (stored self) ⌝ }
     {
-        let used = self.used;
-        if used < MOST_CHECKSUMS {
-            used
-        } else {
-            MOST_CHECKSUMS
-        }
+        numbers::least(self.used, MOST_CHECKSUMS)
     }
 
     // The i-th, or zeros.
     pub fn entry(self, i: usize) -> Checksum
-        ensures { λ r. ⌜ r ≡ getD (stored self) i blank ⌝ }
+        ensures { λ r. ⌜ r ≡ getD (stored self) i blankChecksum ⌝ }
     {
         let n = self.count();
         if i < n {
@@ -109,7 +98,7 @@ impl Checksums {
 
     // The first place of a frame, or the count.
     fn place(self, frame: u32) -> usize
-        ensures { λ r. ⌜ r ≡ place frameOf frame (stored self) ⌝ }
+        ensures { λ r. ⌜ r ≡ place checksumFrame frame (stored self) ⌝ }
     {
         let n = self.count();
         let mut i = 0;

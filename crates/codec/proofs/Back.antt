@@ -18,8 +18,8 @@ use Rattle.frame.proofs.Bits.{bits-below, bits-bits}
 use Rattle.ceilings.specs.Ceilings.{mostPlayers, mostPayload}
 use Rattle.codec.specs.Message.{kindOf, isInput, FitsWide, FitsBody, FitsReports, Fits}
 use Rattle.codec.specs.Bytes.{flagBytes, frameBytes, advantageBytes, wideBytes, reportBytes, reportsBytes, statusesBytes, inputBytes, bodyBytes, head, bytes}
-use Rattle.codec.specs.Read.{Got, Reads, after, give, part, refuse, number, flagOf, flag, frame, advantage, wide, report, reports, input, plain, kinds, message}
-use Rattle.codec.specs.Read.Got.{got, fault}
+use Rattle.codec.specs.Read.{Reading, Reads, andThen, give, part, refuse, number, flagOf, flag, frame, advantage, wide, report, reports, input, bodyOnly, kinds, message}
+use Rattle.codec.specs.Read.Reading.{got, fault}
 use Rattle.codec.proofs.Reports.{reports-append, fits-snoc}
 use Rattle.codec.specs.declared.StatusReport.{StatusReport}
 use Rattle.codec.specs.declared.MessageBody.{MessageBody}
@@ -37,17 +37,17 @@ known : {d a b left : List ℕ} → Splits d a left → a ≡ b → Splits d b l
 known s e = record { whole = s .whole ∙ rw e; bytes = s .bytes }
 
 -- a reading of d that gave a value read that value's bytes, and the value has its width; one that stopped gives one of the reader's numbers
-pub data Right {A : Type 0} (enc : A → List ℕ) (width : A → Type 0) (d : List ℕ) : Got A → Type 0 where
+pub data Right {A : Type 0} (enc : A → List ℕ) (width : A → Type 0) (d : List ℕ) : Reading A → Type 0 where
   right : {a : A} {left : List ℕ} → Splits d (enc a) left → width a → Right enc width d (got a left)
   stopped : {n : ℕ} → (9 ≤ n) × (n ≤ 12) → Right enc width d (fault n)
 
 -- one reading after another
-then : {A B : Type 0} {enc : A → List ℕ} {width : A → Type 0} {enc′ : B → List ℕ} {width′ : B → Type 0} {d l read : List ℕ} {g : Got A}
+then : {A B : Type 0} {enc : A → List ℕ} {width : A → Type 0} {enc′ : B → List ℕ} {width′ : B → Type 0} {d l read : List ℕ} {g : Reading A}
     {next : A → Reads B} → Splits d read l → (Bytes l → Right enc width l g)
-    → ((a : A) (left : List ℕ) → Splits d (read ++ enc a) left → width a → Right enc′ width′ d (next a left)) → Right enc′ width′ d (after g next)
+    → ((a : A) (left : List ℕ) → Splits d (read ++ enc a) left → width a → Right enc′ width′ d (next a left)) → Right enc′ width′ d (andThen g next)
 then {A} {B} {enc} {width} {enc′} {width′} {d} {l} {read} {g} {next} s first f = go g (first (s .bytes))
   where
-    go : (g : Got A) → Right enc width l g → Right enc′ width′ d (after g next)
+    go : (g : Reading A) → Right enc width l g → Right enc′ width′ d (andThen g next)
     go (got a left) (right t w) = f a left (record { whole = s .whole ∙ rw (t .whole, append-assoc); bytes = t .bytes }) w
     go (fault n) (stopped k) = stopped k
 
@@ -83,7 +83,7 @@ flag-right d h = then (start h) (number-right 1 d) (λ n left s w. of n left s)
 
 -- a signed number of k bytes, held with the bias b
 signed-right : (k b : ℕ) (d : List ℕ) → 0 < b → b + b ≡ 256 ^ k → Bytes d
-    → Right (λ f. le k (bitsOf b f)) (λ f. f < b + b) d (after (number k d) (λ n. give (bitsOf b n)))
+    → Right (λ f. le k (bitsOf b f)) (λ f. f < b + b) d (andThen (number k d) (λ n. give (bitsOf b n)))
 signed-right k b d pos e h =
     then (start h) (number-right k d)
     (λ n left s w. right (known s (ap (le k) (sym (bits-bits b n (rw e w))))) (bits-below b n pos))
@@ -123,11 +123,11 @@ all-right n d h = reports-right n n [] d d (omega arith) (λ i r k. absurd (omeg
 
 module _ (magic : ℕ) (small : magic < 2 ^ 16) where
   -- the end of each kind that is no Input
-  plain-right : (body : MessageBody) (d left : List ℕ) → FitsBody body
-      → Splits d (le 2 magic ++ le 4 (kindOf body) ++ bodyBytes body [] 0) left → Right bytes Fits d (got (plain magic body) left)
+  body-only-right : (body : MessageBody) (d left : List ℕ) → FitsBody body
+      → Splits d (le 2 magic ++ le 4 (kindOf body) ++ bodyBytes body [] 0) left → Right bytes Fits d (got (bodyOnly magic body) left)
   unfolding bytes head
-  plain-right body d left fits s =
-      right {a = plain magic body} (known s (sym (append-nil _)))
+  body-only-right body d left fits s =
+      right {a = bodyOnly magic body} (known s (sym (append-nil _)))
       (record {
         magic = small;
         body = fits;
@@ -163,19 +163,19 @@ module _ (magic : ℕ) (small : magic < 2 ^ 16) where
 
   kinds-right : (kind : ℕ) (d l : List ℕ) → Splits d (le 2 magic ++ le 4 kind) l → Right bytes Fits d (kinds kind magic l)
   unfolding kinds kindOf bodyBytes
-  kinds-right zero d l s = then s (number-right 4 l) (λ n left s′ w. plain-right (SyncRequest n) d left w s′)
-  kinds-right (suc zero) d l s = then s (number-right 4 l) (λ n left s′ w. plain-right (SyncReply n) d left w s′)
+  kinds-right zero d l s = then s (number-right 4 l) (λ n left s′ w. body-only-right (SyncRequest n) d left w s′)
+  kinds-right (suc zero) d l s = then s (number-right 4 l) (λ n left s′ w. body-only-right (SyncReply n) d left w s′)
   kinds-right (suc (suc zero)) d l s = input-right d l s
-  kinds-right (suc (suc (suc zero))) d l s = then s (frame-right l) (λ a left s′ w. plain-right (InputAck a) d left w s′)
+  kinds-right (suc (suc (suc zero))) d l s = then s (frame-right l) (λ a left s′ w. body-only-right (InputAck a) d left w s′)
   kinds-right (suc (suc (suc (suc zero)))) d l s =
       then s (advantage-right l)
-      (λ a l′ s′ w. then s′ (wide-right l′) (λ x left s″ w′. plain-right (QualityReport a x) d left (w, w′) (known s″ (simp append-assoc))))
+      (λ a l′ s′ w. then s′ (wide-right l′) (λ x left s″ w′. body-only-right (QualityReport a x) d left (w, w′) (known s″ (simp append-assoc))))
   kinds-right (suc (suc (suc (suc (suc zero))))) d l s =
-      then s (wide-right l) (λ x left s′ w. plain-right (QualityReply x) d left w s′)
+      then s (wide-right l) (λ x left s′ w. body-only-right (QualityReply x) d left w s′)
   kinds-right (suc (suc (suc (suc (suc (suc zero)))))) d l s =
       then s (wide-right l)
-      (λ x l′ s′ w. then s′ (frame-right l′) (λ f left s″ w′. plain-right (ChecksumReport x f) d left (w, w′) (known s″ (simp append-assoc))))
-  kinds-right (suc (suc (suc (suc (suc (suc (suc zero))))))) d l s = plain-right KeepAlive d l tt (known s (sym (append-nil _)))
+      (λ x l′ s′ w. then s′ (frame-right l′) (λ f left s″ w′. body-only-right (ChecksumReport x f) d left (w, w′) (known s″ (simp append-assoc))))
+  kinds-right (suc (suc (suc (suc (suc (suc (suc zero))))))) d l s = body-only-right KeepAlive d l tt (known s (sym (append-nil _)))
   kinds-right (suc (suc (suc (suc (suc (suc (suc (suc n)))))))) d l s = stopped {n = 10} (omega arith)
 
 pub message-right : (d : List ℕ) → Bytes d → Right bytes Fits d (message d)

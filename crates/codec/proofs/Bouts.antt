@@ -8,12 +8,12 @@ use Rattle.base.specs.Little.{le, unle}
 use Rattle.frame.specs.Bias.{bitsOf, nullFrame}
 use Rattle.codec.specs.Message.{Wire, Fits, kindOf, isInput}
 use Rattle.codec.specs.Bytes.{frameBytes, bodyBytes, head, bytes}
-use Rattle.codec.specs.Read.{part, number, frame, plain, kinds, message, datagram, numberIn}
+use Rattle.codec.specs.Read.{part, number, frame, bodyOnly, kinds, message, datagram, numberIn}
 use Rattle.codec.specs.declared.MessageBody.the-variants.{InputAck}
 
 -- an InputAck with magic 0x1234 and ack -1
 abbrev pub p1Message : Wire
-p1Message = plain 0x1234 (InputAck nullFrame)
+p1Message = bodyOnly 0x1234 (InputAck nullFrame)
 
 abbrev pub p1Bytes : List ℕ
 p1Bytes = 0x34 ∷ 0x12 ∷ 0x03 ∷ 0x00 ∷ 0x00 ∷ 0x00 ∷ 0xFF ∷ 0xFF ∷ 0xFF ∷ 0xFF ∷ []

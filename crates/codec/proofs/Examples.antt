@@ -7,8 +7,8 @@ use Rattle.base.specs.Little.{le, unle}
 use Rattle.frame.specs.Bias.{bitsOf}
 use Rattle.codec.specs.Message.{Wire, kindOf}
 use Rattle.codec.specs.Bytes.{flagBytes, frameBytes, advantageBytes, wideBytes, reportBytes, reportsBytes, statusesBytes, inputBytes, bodyBytes, head, bytes}
-use Rattle.codec.specs.Read.{part, number, flag, frame, advantage, wide, report, reports, input, plain, kinds, message, datagram, numberIn}
-use Rattle.codec.specs.Read.Got.{got}
+use Rattle.codec.specs.Read.{part, number, flag, frame, advantage, wide, report, reports, input, bodyOnly, kinds, message, datagram, numberIn}
+use Rattle.codec.specs.Read.Reading.{got}
 use Rattle.codec.specs.Calls.{messageEnd}
 use Rattle.codec.proofs.Bouts.{p1Message, p1Bytes}
 use Rattle.codec.specs.declared.MessageBody.the-variants.{SyncRequest, SyncReply, Input, QualityReport, QualityReply, ChecksumReport, KeepAlive}
@@ -20,8 +20,8 @@ count n = n ∷ 0 ∷ 0 ∷ 0 ∷ 0 ∷ 0 ∷ 0 ∷ 0 ∷ []
 -- frames are biased: 2147483655 is frame 7, 2147483647 is -1, 0 is the least i32; the advantage 32765 is -3
 abbrev written : List (Wire × List ℕ)
 written =
-    (plain 65535 (SyncRequest 16909060), 255 ∷ 255 ∷ 0 ∷ 0 ∷ 0 ∷ 0 ∷ 4 ∷ 3 ∷ 2 ∷ 1 ∷ [])
-    ∷ (plain 0 (SyncReply 4294967295), 0 ∷ 0 ∷ 1 ∷ 0 ∷ 0 ∷ 0 ∷ 255 ∷ 255 ∷ 255 ∷ 255 ∷ [])
+    (bodyOnly 65535 (SyncRequest 16909060), 255 ∷ 255 ∷ 0 ∷ 0 ∷ 0 ∷ 0 ∷ 4 ∷ 3 ∷ 2 ∷ 1 ∷ [])
+    ∷ (bodyOnly 0 (SyncReply 4294967295), 0 ∷ 0 ∷ 1 ∷ 0 ∷ 0 ∷ 0 ∷ 255 ∷ 255 ∷ 255 ∷ 255 ∷ [])
     ∷ (
       record {
         magic = 256;
@@ -42,18 +42,18 @@ written =
     )
     ∷ (p1Message, p1Bytes)
     ∷ (
-      plain 7 (QualityReport 32765 (record { low = 72623859790382856; high = 1230066625199609624 })),
+      bodyOnly 7 (QualityReport 32765 (record { low = 72623859790382856; high = 1230066625199609624 })),
       7 ∷ 0 ∷ 4 ∷ 0 ∷ 0 ∷ 0 ∷ 253 ∷ 255 ∷ 8 ∷ 7 ∷ 6 ∷ 5 ∷ 4 ∷ 3 ∷ 2 ∷ 1 ∷ 24 ∷ 23 ∷ 22 ∷ 21 ∷ 20 ∷ 19 ∷ 18 ∷ 17 ∷ [],
     )
     ∷ (
-      plain 7 (QualityReply (record { low = 0; high = 18446744073709551615 })),
+      bodyOnly 7 (QualityReply (record { low = 0; high = 18446744073709551615 })),
       7 ∷ 0 ∷ 5 ∷ 0 ∷ 0 ∷ 0 ∷ [] ++ count 0 ++ 255 ∷ 255 ∷ 255 ∷ 255 ∷ 255 ∷ 255 ∷ 255 ∷ 255 ∷ [],
     )
     ∷ (
-      plain 7 (ChecksumReport (record { low = 1; high = 2 }) 2147483738),
+      bodyOnly 7 (ChecksumReport (record { low = 1; high = 2 }) 2147483738),
       7 ∷ 0 ∷ 6 ∷ 0 ∷ 0 ∷ 0 ∷ [] ++ count 1 ++ count 2 ++ 90 ∷ 0 ∷ 0 ∷ 0 ∷ [],
     )
-    ∷ (plain 513 KeepAlive, 1 ∷ 2 ∷ 7 ∷ 0 ∷ 0 ∷ 0 ∷ [])
+    ∷ (bodyOnly 513 KeepAlive, 1 ∷ 2 ∷ 7 ∷ 0 ∷ 0 ∷ 0 ∷ [])
     ∷ []
 
 each-written : map (λ (row : Wire × List ℕ). bytes (row .0)) written ≡ map (λ (row : Wire × List ℕ). row .1) written

@@ -9,7 +9,7 @@ use lib.ListN.{length, take, drop, getD, length-drop}
 use lib.Seq.{drop-cons, drop-drop}
 use Rattle.base.specs.Little.{unle}
 use Rattle.codec.specs.Read.{flagOf, flag, report}
-use Rattle.codec.specs.Read.Got.{got, fault}
+use Rattle.codec.specs.Read.Reading.{got, fault}
 use Rattle.codec.specs.Front.{numberAt, reportAt}
 use Rattle.codec.proofs.Takes.{takes-number, takes-frame}
 

@@ -12,9 +12,9 @@ use Rattle.answer.specs.Number.{numberOf}
 use Rattle.answer.specs.declared.Answer.{Answer}
 use Rattle.answer.specs.declared.Answer.the-variants.{Done}
 use Rattle.codec.specs.Message.{Wire, meant}
-use Rattle.codec.specs.Read.{Got, after, plain, ended, message, datagram, wireIn, leftIn}
-use Rattle.codec.specs.Read.Got.{got, fault}
-use Rattle.codec.specs.Front.{numberAt, endIn, FrontAs, RefusedAs, PlainAs}
+use Rattle.codec.specs.Read.{Reading, andThen, bodyOnly, ended, message, datagram, wireIn, leftIn}
+use Rattle.codec.specs.Read.Reading.{got, fault}
+use Rattle.codec.specs.Front.{numberAt, endIn, FrontAs, RefusedAs, BodyOnlyAs}
 use Rattle.codec.specs.Calls.{PayloadAs, payloadIn, messageEnd}
 use Rattle.codec.proofs.Left.{message-shortens}
 use Rattle.codec.proofs.Statuses.{fault-of}
@@ -26,10 +26,10 @@ more : (w : Wire) (left : List ℕ) → 0 < length left → ended w left ≡ fau
 more w [] h = absurd (omega arith)
 more w (b ∷ bs) h = refl
 
-ended-alone : (g : Got Wire) (w : Wire) → g ≡ got w [] → after g ended ≡ g
+ended-alone : (g : Reading Wire) (w : Wire) → g ≡ got w [] → andThen g ended ≡ g
 ended-alone g w e = rw e
 
-module _ (d : List ℕ) (reading : Got Wire) (r : Front) where
+module _ (d : List ℕ) (reading : Reading Wire) (r : Front) where
   pub refused-front : (a : Answer) → RefusedAs a r → reading ≡ fault (numberOf a) → (numberOf a ≡ 0 → ⊥) → FrontAs d reading r
   refused-front a h e n =
       rw e
@@ -44,9 +44,9 @@ module _ (d : List ℕ) (reading : Got Wire) (r : Front) where
         left = λ z. absurd (n (ap numberOf (sym (h .same)) ∙ z));
       })
 
-  pub plain-front : (size : ℕ) (body : MessageBody) → PlainAs d size body r → size ≤ length d → reading ≡ got (plain (numberAt 2 0 d) body) (drop size d)
+  pub body-only-front : (size : ℕ) (body : MessageBody) → BodyOnlyAs d size body r → size ≤ length d → reading ≡ got (bodyOnly (numberAt 2 0 d) body) (drop size d)
       → FrontAs d reading r
-  plain-front size body h l e =
+  body-only-front size body h l e =
       rw e
       (record {
         answer = ap numberOf (h .done);
@@ -60,7 +60,7 @@ module _ (d : List ℕ) (reading : Got Wire) (r : Front) where
       })
 
 -- a message whose payload stands between two places
-pub found-front : (d : List ℕ) (reading : Got Wire) (m : Message) (start stop : ℕ) (w : Wire) → reading ≡ got w (drop stop d) → meant m (w .payload) ≡ w
+pub found-front : (d : List ℕ) (reading : Reading Wire) (m : Message) (start stop : ℕ) (w : Wire) → reading ≡ got w (drop stop d) → meant m (w .payload) ≡ w
     → m .reports .count ≡ length (w .reports) → start ≤ stop → stop ≤ length d → w .payload ≡ take (stop - start) (drop start d)
     → FrontAs d reading (record { answer = Done; message = m; payload = start; end = stop })
 found-front d reading m start stop w e f n o l p =
@@ -107,7 +107,7 @@ module _ (queue : List ℕ) (at : ℕ) (inside : at < length queue) (r : Front) 
   unfolding messageEnd
   end-none none = go (message (drop at queue)) (h .end) shorter
     where
-      go : (g : Got Wire) → r .end ≡ endIn (drop at queue) g → length (leftIn g) < length queue - at → length queue ≡ length queue - length (leftIn g)
+      go : (g : Reading Wire) → r .end ≡ endIn (drop at queue) g → length (leftIn g) < length queue - at → length queue ≡ length queue - length (leftIn g)
       go (got w left) e l = absurd (omega (arith, length-drop at queue))
       go (fault n) e l = omega arith
 
@@ -115,7 +115,7 @@ module _ (queue : List ℕ) (at : ℕ) (inside : at < length queue) (r : Front) 
   unfolding messageEnd
   end-found some = go (message (drop at queue)) (h .end) shorter
     where
-      go : (g : Got Wire) → r .end ≡ endIn (drop at queue) g → length (leftIn g) < length queue - at → at + r .end ≡ length queue - length (leftIn g)
+      go : (g : Reading Wire) → r .end ≡ endIn (drop at queue) g → length (leftIn g) < length queue - at → at + r .end ≡ length queue - length (leftIn g)
       go (got w left) e l = omega (arith, length-drop at queue)
       go (fault n) e l = absurd (some e)
 
@@ -123,7 +123,7 @@ module _ (queue : List ℕ) (at : ℕ) (inside : at < length queue) (r : Front) 
 same-left : (v w : Wire) (l left : List ℕ) → got v l ≡ got w left → left ≡ l
 same-left v w l left e = cc
 
-ended-left : (g : Got Wire) (w : Wire) (left : List ℕ) → after g ended ≡ got w left → left ≡ []
+ended-left : (g : Reading Wire) (w : Wire) (left : List ℕ) → andThen g ended ≡ got w left → left ≡ []
 ended-left (got v []) w left e = same-left v w [] left e
 ended-left (got v (b ∷ bs)) w left e = absurd (no-fault 13 w left e)
 ended-left (fault n) w left e = absurd (no-fault n w left e)
@@ -139,7 +139,7 @@ payload-front d r h =
           elim (below-or-not 0 (numberOf (r .answer))) [
             | inl l ↦
                 let e : datagram d ≡ fault (numberOf (r .answer)) = fault-of (datagram d) (numberOf (r .answer)) (sym (h .answer)) (λ z. omega arith) in
-                let none : payloadIn d ≡ [] = ap (λ (g : Got Wire). wireIn g .payload) e in
+                let none : payloadIn d ≡ [] = ap (λ (g : Reading Wire). wireIn g .payload) e in
                 h .payload ∙ none ∙ rw (none, sub-zero) (sym (drop-length d))
             | inr l ↦
                 let none : drop (r .end) d ≡ [] = nothing-left d (wireIn (datagram d)) (drop (r .end) d) (h .left (omega arith)) in

@@ -14,8 +14,8 @@ use Rattle.base.proofs.Digits.{below-or-not}
 use Rattle.frame.specs.Bias.{bias32, bitsOf}
 use Rattle.ceilings.specs.Ceilings.{mostPlayers, mostPayload}
 use Rattle.codec.specs.Message.{Wire}
-use Rattle.codec.specs.Read.{Reads, after, _>>=_, give, part, refuse, reports, input, kinds, message}
-use Rattle.codec.specs.Read.Got.{got, fault}
+use Rattle.codec.specs.Read.{Reads, andThen, _>>=_, give, part, refuse, reports, input, kinds, message}
+use Rattle.codec.specs.Read.Reading.{got, fault}
 use Rattle.codec.specs.Front.{numberAt, afterReports}
 use Rattle.codec.proofs.Takes.{takes-part, takes-number, takes-frame, head-whole}
 use Rattle.codec.proofs.Flags.{flag-none, flag-bad, flag-good}
@@ -135,7 +135,7 @@ module _ (d : List ℕ) (h : 6 ≤ length d) (two : numberAt 4 2 d ≡ 2) where
         begun ∙ rw (takes-number 8 .whole (drop 6 d) (rw length-drop (omega arith)), lt-ltb mostPlayers (numberAt 8 6 d) m)
 
     module _ (m : numberAt 8 6 d ≤ mostPlayers) where
-      pub with-statuses : message d ≡ after (reports (numberAt 8 6 d) [] (drop 14 d)) (λ rs. afterReports (numberAt 2 0 d) rs)
+      pub with-statuses : message d ≡ andThen (reports (numberAt 8 6 d) [] (drop 14 d)) (λ rs. afterReports (numberAt 2 0 d) rs)
       unfolding input numberAt afterReports
       with-statuses =
           begun

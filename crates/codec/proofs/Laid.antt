@@ -13,7 +13,7 @@ use Rattle.base.specs.Little.{Bytes}
 use Rattle.base.proofs.Lay.{laid-join}
 use Rattle.answer.specs.Number.{numberOf}
 use Rattle.answer.specs.declared.Answer.the-variants.{Done, Full, TooLong}
-use Rattle.codec.specs.Message.{Wire, Fits, isInput, listed, meant}
+use Rattle.codec.specs.Message.{Wire, Fits, isInput, reportList, meant}
 use Rattle.codec.specs.Bytes.{bodyBytes, head, bytes}
 use Rattle.codec.specs.Put.{HeadPut}
 use Rattle.codec.specs.Calls.{tooLong, sizeFor, writeRefusal, LaidAs, HeadAs, WrittenAs}
@@ -61,7 +61,7 @@ module _ (m : Message) (n : ℕ) (t : tooLong m n ≡ false) where
         body = h .fits;
         frames = h .frames;
         statuses =
-            chosen-length (listed (m .reports)) mostPlayers (isInput (m .body))
+            chosen-length (reportList (m .reports)) mostPlayers (isInput (m .body))
             (λ e. omega (arith, input-counts m n t e .0, length-take (m .reports .count) (m .reports .list)));
         length = chosen-length [] mostPayload (isInput (m .body)) (λ e. omega arith);
         bytes = chosen-bytes [] (isInput (m .body)) (λ i. omega arith);

@@ -16,10 +16,10 @@ use Rattle.answer.specs.Number.{numberOf, number-determines}
 use Rattle.answer.specs.declared.Answer.the-variants.{Done}
 use Rattle.ceilings.specs.Ceilings.{mostPlayers, mostPayload}
 use Rattle.codec.specs.Sizes.{fixedSize}
-use Rattle.codec.specs.Message.{Wire, Fits, kindOf, isInput, listed, meant, sizeWith, bodySize, tableSize}
+use Rattle.codec.specs.Message.{Wire, Fits, kindOf, isInput, reportList, meant, sizeWith, bodySize, tableSize}
 use Rattle.codec.specs.Bytes.{wideBytes, head, bytes}
-use Rattle.codec.specs.Read.{Got, after, message, ended, datagram, numberIn, wireIn, leftIn}
-use Rattle.codec.specs.Read.Got.{got, fault}
+use Rattle.codec.specs.Read.{Reading, andThen, message, ended, datagram, numberIn, wireIn, leftIn}
+use Rattle.codec.specs.Read.Reading.{got, fault}
 use Rattle.codec.specs.Calls.{tooLong, writeRefusal, HeadAs, WrittenAs, ReadAs, PayloadAs, payloadIn}
 use Rattle.codec.proofs.Lengths.{head-length, head-parts}
 use Rattle.codec.proofs.Sizes.{kind-below, input-counts, size-head}
@@ -62,7 +62,7 @@ pub bytes-read : (d : List ℕ) (w : Wire) (rest : List ℕ) → Bytes d → dat
 unfolding datagram
 bytes-read d w rest h e = go (message d) refl e
   where
-    go : (g : Got Wire) → message d ≡ g → after g ended ≡ got w rest → (bytes w ≡ d) × Fits w × (rest ≡ [])
+    go : (g : Reading Wire) → message d ≡ g → andThen g ended ≡ got w rest → (bytes w ≡ d) × Fits w × (rest ≡ [])
     go (got v []) m q =
         let t = bytes-message d w [] h (m ∙ rw (ap wireIn q)) in
         (sym (append-nil (bytes w)) ∙ sym (t .0), t .1, sym (ap leftIn q))
@@ -77,7 +77,7 @@ pub datagram-fault-range : (d : List ℕ) (n : ℕ) → Bytes d → datagram d �
 unfolding datagram
 datagram-fault-range d n h e = go (message d) refl e
   where
-    go : (g : Got Wire) → message d ≡ g → after g ended ≡ fault n → (9 ≤ n) × (n ≤ 13)
+    go : (g : Reading Wire) → message d ≡ g → andThen g ended ≡ fault n → (9 ≤ n) × (n ≤ 13)
     go (got v []) m q = let z : _≡_ {A = ℕ} 0 1 = cc in absurd (omega arith)
     go (got v (b ∷ bs)) m q = let e : 13 ≡ n = cc in omega arith
     go (fault k) m q = let e : k ≡ n = cc in omega (arith, fault-range d k h m)
@@ -150,8 +150,8 @@ size-meant m p short four =
     fixed : ℕ
     fixed = fixedSize (kindOf (m .body))
 
-    go : (t : Bool) → (t ≡ true → length (listed (m .reports)) ≡ m .reports .count)
-        → fixed + pick t (5 * m .reports .count + length p) 0 ≡ fixed + pick t (5 * length (pick t (listed (m .reports)) []) + length (pick t p [])) 0
+    go : (t : Bool) → (t ≡ true → length (reportList (m .reports)) ≡ m .reports .count)
+        → fixed + pick t (5 * m .reports .count + length p) 0 ≡ fixed + pick t (5 * length (pick t (reportList (m .reports)) []) + length (pick t p [])) 0
     go true f = rw (f refl)
     go false f = refl
 
@@ -211,7 +211,7 @@ written-end buffer at m p r buffer′ h done =
     (rw none at (h .end)) ∙ rw (bytes-length (meant m p) (h .fits none))
 
 payload-in : (w : Wire) → Fits w → payloadIn (bytes w) ≡ w .payload
-payload-in w h = ap (λ (g : Got Wire). wireIn g .payload) (read-bytes w h)
+payload-in w h = ap (λ (g : Reading Wire). wireIn g .payload) (read-bytes w h)
 
 pub received : (w : Wire) (r : Received) → Fits w → ReadAs (bytes w) r
     → (r .answer ≡ Done) × (meant (r .message) (w .payload) ≡ w) × (r .message .reports .count ≡ length (w .reports))
@@ -223,7 +223,7 @@ pub read-back : (d : List ℕ) (r : Received) → Bytes d → ReadAs d r → num
     → (bytes (meant (r .message) (payloadIn d)) ≡ d) × Fits (meant (r .message) (payloadIn d))
 read-back d r h c done = rw (c .message) (go (datagram d) refl (sym (c .answer) ∙ done))
   where
-    go : (g : Got Wire) → datagram d ≡ g → numberIn g ≡ 0 → (bytes (wireIn g) ≡ d) × Fits (wireIn g)
+    go : (g : Reading Wire) → datagram d ≡ g → numberIn g ≡ 0 → (bytes (wireIn g) ≡ d) × Fits (wireIn g)
     go (got w left) m z = let t = bytes-read d w left h m in (t .0, t .1)
     go (fault n) m z = absurd (omega (arith, datagram-fault-range d n h m))
 

@@ -9,8 +9,8 @@ use lib.ListN.{length, take, drop, length-drop}
 use Rattle.base.specs.Pick.{pick}
 use Rattle.base.proofs.Digits.{below-or-not}
 use Rattle.ceilings.specs.Ceilings.{mostPlayers, mostPayload}
-use Rattle.codec.specs.Read.{Got, Reads, after, _>>=_, refuse, part, number, flagOf, flag, frame, advantage, wide, report, reports, input, kinds, message, leftIn}
-use Rattle.codec.specs.Read.Got.{got, fault}
+use Rattle.codec.specs.Read.{Reading, Reads, andThen, _>>=_, refuse, part, number, flagOf, flag, frame, advantage, wide, report, reports, input, kinds, message, leftIn}
+use Rattle.codec.specs.Read.Reading.{got, fault}
 use Rattle.codec.specs.Front.{numberAt}
 use Rattle.codec.proofs.Takes.{head-short, head-whole}
 use Rattle.codec.specs.declared.StatusReport.{StatusReport}
@@ -21,7 +21,7 @@ Shortens p = (d : List ℕ) → length (leftIn (p d)) ≤ length d
 of-then : {A B : Type 0} (p : Reads A) (next : A → Reads B) → Shortens p → ((a : A) → Shortens (next a)) → Shortens (_>>=_ p next)
 of-then {A} p next h f d = go (p d) (h d)
   where
-    go : (g : Got A) → length (leftIn g) ≤ length d → length (leftIn (after g next)) ≤ length d
+    go : (g : Reading A) → length (leftIn g) ≤ length d → length (leftIn (andThen g next)) ≤ length d
     go (got a left) l = omega (arith, f a left)
     go (fault n) l = omega arith
 

@@ -12,7 +12,7 @@ use Rattle.base.specs.Pick.{pick}
 use Rattle.codec.specs.Message.{Wire, Fits, FitAll}
 use Rattle.codec.specs.Bytes.{bytes, queueOf}
 use Rattle.codec.specs.Read.{number, part, message, datagram, wireIn}
-use Rattle.codec.specs.Read.Got.{fault}
+use Rattle.codec.specs.Read.Reading.{fault}
 use Rattle.codec.specs.Calls.{messageEnd}
 use Rattle.codec.proofs.Left.{message-shortens}
 use Rattle.codec.proofs.Laws.{message-bytes, read-bytes, least}

@@ -14,8 +14,8 @@ use Rattle.frame.proofs.Bits.{bits-below, bits-bits}
 use Rattle.ceilings.specs.Ceilings.{mostPlayers, mostPayload}
 use Rattle.codec.specs.Message.{Wire, kindOf, isInput, FitsWide, FitsBody, FitsReports}
 use Rattle.codec.specs.Bytes.{flagBytes, frameBytes, advantageBytes, wideBytes, reportBytes, reportsBytes, statusesBytes, inputBytes, bodyBytes}
-use Rattle.codec.specs.Read.{Got, part, number, flag, frame, advantage, wide, report, reports, input, kinds}
-use Rattle.codec.specs.Read.Got.{got}
+use Rattle.codec.specs.Read.{Reading, part, number, flag, frame, advantage, wide, report, reports, input, kinds}
+use Rattle.codec.specs.Read.Reading.{got}
 use Rattle.codec.specs.declared.Wide.{Wide}
 use Rattle.codec.specs.declared.StatusReport.{StatusReport}
 use Rattle.codec.specs.declared.MessageBody.{MessageBody}
@@ -61,7 +61,7 @@ reports-bytes (r ∷ rs) acc h rest =
 
 module _ (magic : ℕ) (rs : List StatusReport) (p rest : List ℕ) where
   -- a message of this body, with the rest left
-  abbrev pub made : MessageBody → Got Wire
+  abbrev pub made : MessageBody → Reading Wire
   made body = got (record { magic = magic; body = body; reports = rs; payload = p }) rest
 
   input-read : (d : Bool) (s a : ℕ) → s < 2 ^ 32 → a < 2 ^ 32 → FitsReports rs → length rs ≤ mostPlayers → length p ≤ mostPayload

@@ -9,7 +9,7 @@ use Rattle.base.specs.Little.{unle}
 use Rattle.base.specs.Pick.{pick}
 use Rattle.answer.specs.Number.{number-determines}
 use Rattle.answer.specs.declared.Answer.the-variants.{Done}
-use Rattle.codec.specs.Message.{Wire, kindOf, isInput, listed, meant}
+use Rattle.codec.specs.Message.{Wire, kindOf, isInput, reportList, meant}
 use Rattle.codec.specs.Read.{part, number, kinds, message, datagram, wireIn}
 use Rattle.codec.specs.Calls.{shownSize, sizeAs, LaidAs, WrittenAs, HeadAs, ReadAs, PayloadAs, messageEnd}
 use Rattle.codec.specs.declared.StatusReport.{StatusReport}
@@ -51,24 +51,24 @@ module _ (r s : Written) (buffer′ buffer″ : List ℕ) where
       → (r ≡ s) × (buffer′ ≡ buffer″)
   write-head-settled buffer at m n = laid-settled buffer at _ _ _
 
-pub no-reports-settled : (r s : StatusReports) → r .count ≡ 0 → s .count ≡ 0 → (listed r ≡ listed s) × (r .count ≡ s .count)
+pub no-reports-settled : (r s : StatusReports) → r .count ≡ 0 → s .count ≡ 0 → (reportList r ≡ reportList s) × (r .count ≡ s .count)
 no-reports-settled r s e f = (rw (e, f), e ∙ sym f)
 
 -- the list of a message that was read: what its array holds below the count
-read-list : (d : List ℕ) (r : Received) → ReadAs d r → listed (r .message .reports) ≡ wireIn (datagram d) .reports
+read-list : (d : List ℕ) (r : Received) → ReadAs d r → reportList (r .message .reports) ≡ wireIn (datagram d) .reports
 unfolding meant
 read-list d r x = by-kind (isInput (r .message .body)) (ap (λ (w : Wire). w .reports) (x .message))
   where
     rs : List StatusReport
     rs = wireIn (datagram d) .reports
 
-    by-kind : (t : Bool) → pick t (listed (r .message .reports)) [] ≡ rs → listed (r .message .reports) ≡ rs
+    by-kind : (t : Bool) → pick t (reportList (r .message .reports)) [] ≡ rs → reportList (r .message .reports) ≡ rs
     by-kind true e = e
     by-kind false e = rw (x .count, ← e)
 
 pub read-settled : (d : List ℕ) (r s : Received) → ReadAs d r → ReadAs d s
     → (r .answer ≡ s .answer) × (r .message .magic ≡ s .message .magic) × (r .message .body ≡ s .message .body)
-    × (listed (r .message .reports) ≡ listed (s .message .reports)) × (r .message .reports .count ≡ s .message .reports .count)
+    × (reportList (r .message .reports) ≡ reportList (s .message .reports)) × (r .message .reports .count ≡ s .message .reports .count)
 unfolding meant
 read-settled d r s x y = (
   number-determines (r .answer) (s .answer) (x .answer ∙ sym (y .answer)),

@@ -11,7 +11,7 @@ use lib.ListN.{length, length-take}
 use Rattle.base.specs.Pick.{pick}
 use Rattle.ceilings.specs.Ceilings.{mostPlayers, mostPayload}
 use Rattle.codec.specs.Sizes.{fixedSize}
-use Rattle.codec.specs.Message.{kindOf, isInput, listed, meant, sizeWith}
+use Rattle.codec.specs.Message.{kindOf, isInput, reportList, meant, sizeWith}
 use Rattle.codec.specs.Bytes.{head}
 use Rattle.codec.specs.Calls.{tooLong, sizeFor, sizeAs}
 use Rattle.codec.proofs.Lengths.{head-length}
@@ -111,7 +111,7 @@ module _ (m : Message) (n : ℕ) where
         fixed = fixedSize (kindOf (m .body))
 
         rs : List StatusReport
-        rs = listed (m .reports)
+        rs = reportList (m .reports)
 
         go : (t : Bool) → (t ≡ true → length rs ≡ m .reports .count)
             → fixed + pick t (5 * m .reports .count + n) 0 ≡ fixed + pick t (5 * length (pick t rs [])) 0 + pick t n 0

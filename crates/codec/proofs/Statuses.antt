@@ -8,17 +8,17 @@ use native.Mathlib.Numerals.{add-one}
 use lib.ListN.{length, take, drop, getD, set}
 use lib.Seq.{take-suc-set}
 use Rattle.base.proofs.Digits.{below-or-not}
-use Rattle.codec.specs.Read.{Got, Reads, after, report, reports, numberIn}
-use Rattle.codec.specs.Read.Got.{got, fault}
+use Rattle.codec.specs.Read.{Reading, Reads, andThen, report, reports, numberIn}
+use Rattle.codec.specs.Read.Reading.{got, fault}
 use Rattle.codec.specs.Front.{reportAt}
 use Rattle.codec.proofs.Flags.{report-none, report-bad, report-short, report-good}
 use Rattle.codec.specs.declared.StatusReport.{StatusReport}
 
-fault-after : {A B : Type 0} (g : Got A) (next : A → Reads B) (n : ℕ) → numberIn g ≡ n → (n ≡ 0 → ⊥) → after g next ≡ fault n
+fault-after : {A B : Type 0} (g : Reading A) (next : A → Reads B) (n : ℕ) → numberIn g ≡ n → (n ≡ 0 → ⊥) → andThen g next ≡ fault n
 fault-after (got a left) next n e z = absurd (z (sym e))
 fault-after (fault m) next n e z = ap fault e
 
-pub fault-of : {A : Type 0} (g : Got A) (n : ℕ) → numberIn g ≡ n → (n ≡ 0 → ⊥) → g ≡ fault n
+pub fault-of : {A : Type 0} (g : Reading A) (n : ℕ) → numberIn g ≡ n → (n ≡ 0 → ⊥) → g ≡ fault n
 fault-of (got a left) n e z = absurd (z (sym e))
 fault-of (fault m) n e z = ap fault e
 

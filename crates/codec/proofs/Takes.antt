@@ -11,8 +11,8 @@ use lib.Seq.{drop-drop}
 use Rattle.base.specs.Little.{unle}
 use Rattle.base.proofs.Digits.{below-or-not}
 use Rattle.frame.specs.Bias.{bias32, bias16, bitsOf}
-use Rattle.codec.specs.Read.{Reads, _>>=_, give, part, number, frame, advantage, wide, kinds, message, plain}
-use Rattle.codec.specs.Read.Got.{got, fault}
+use Rattle.codec.specs.Read.{Reads, _>>=_, give, part, number, frame, advantage, wide, kinds, message, bodyOnly}
+use Rattle.codec.specs.Read.Reading.{got, fault}
 use Rattle.codec.specs.Sizes.{fixedSize}
 use Rattle.codec.specs.Message.{Wire}
 use Rattle.codec.specs.Front.{numberAt, wideAt}
@@ -62,39 +62,39 @@ takes-wide =
 
 -- the message of a fixed size, by its kind
 module _ (magic : ℕ) where
-  kind-0 : Takes (kinds 0 magic) 4 (λ d. plain magic (SyncRequest (unle (take 4 d))))
+  kind-0 : Takes (kinds 0 magic) 4 (λ d. bodyOnly magic (SyncRequest (unle (take 4 d))))
   unfolding kinds
-  kind-0 = takes-then (number 4) 4 _ _ 0 _ (takes-number 4) (λ n. takes-give (plain magic (SyncRequest n)))
+  kind-0 = takes-then (number 4) 4 _ _ 0 _ (takes-number 4) (λ n. takes-give (bodyOnly magic (SyncRequest n)))
 
-  kind-1 : Takes (kinds 1 magic) 4 (λ d. plain magic (SyncReply (unle (take 4 d))))
+  kind-1 : Takes (kinds 1 magic) 4 (λ d. bodyOnly magic (SyncReply (unle (take 4 d))))
   unfolding kinds
-  kind-1 = takes-then (number 4) 4 _ _ 0 _ (takes-number 4) (λ n. takes-give (plain magic (SyncReply n)))
+  kind-1 = takes-then (number 4) 4 _ _ 0 _ (takes-number 4) (λ n. takes-give (bodyOnly magic (SyncReply n)))
 
-  kind-3 : Takes (kinds 3 magic) 4 (λ d. plain magic (InputAck (bitsOf bias32 (unle (take 4 d)))))
+  kind-3 : Takes (kinds 3 magic) 4 (λ d. bodyOnly magic (InputAck (bitsOf bias32 (unle (take 4 d)))))
   unfolding kinds
-  kind-3 = takes-then frame 4 _ _ 0 _ takes-frame (λ f. takes-give (plain magic (InputAck f)))
+  kind-3 = takes-then frame 4 _ _ 0 _ takes-frame (λ f. takes-give (bodyOnly magic (InputAck f)))
 
   kind-4 : Takes (kinds 4 magic) 18
-      (λ d. plain magic (QualityReport (bitsOf bias16 (unle (take 2 d))) (record { low = unle (take 8 (drop 2 d)); high = unle (take 8 (drop 8 (drop 2 d))) })))
+      (λ d. bodyOnly magic (QualityReport (bitsOf bias16 (unle (take 2 d))) (record { low = unle (take 8 (drop 2 d)); high = unle (take 8 (drop 8 (drop 2 d))) })))
   unfolding kinds
   kind-4 =
       takes-then advantage 2 _ _ 16 _ takes-advantage
-      (λ a. takes-then wide 16 _ _ 0 _ takes-wide (λ p. takes-give (plain magic (QualityReport a p))))
+      (λ a. takes-then wide 16 _ _ 0 _ takes-wide (λ p. takes-give (bodyOnly magic (QualityReport a p))))
 
-  kind-5 : Takes (kinds 5 magic) 16 (λ d. plain magic (QualityReply (record { low = unle (take 8 d); high = unle (take 8 (drop 8 d)) })))
+  kind-5 : Takes (kinds 5 magic) 16 (λ d. bodyOnly magic (QualityReply (record { low = unle (take 8 d); high = unle (take 8 (drop 8 d)) })))
   unfolding kinds
-  kind-5 = takes-then wide 16 _ _ 0 _ takes-wide (λ p. takes-give (plain magic (QualityReply p)))
+  kind-5 = takes-then wide 16 _ _ 0 _ takes-wide (λ p. takes-give (bodyOnly magic (QualityReply p)))
 
   kind-6 : Takes (kinds 6 magic) 20
-      (λ d. plain magic (ChecksumReport (record { low = unle (take 8 d); high = unle (take 8 (drop 8 d)) }) (bitsOf bias32 (unle (take 4 (drop 16 d))))))
+      (λ d. bodyOnly magic (ChecksumReport (record { low = unle (take 8 d); high = unle (take 8 (drop 8 d)) }) (bitsOf bias32 (unle (take 4 (drop 16 d))))))
   unfolding kinds
   kind-6 =
       takes-then wide 16 _ _ 4 _ takes-wide
-      (λ x. takes-then frame 4 _ _ 0 _ takes-frame (λ f. takes-give (plain magic (ChecksumReport x f))))
+      (λ x. takes-then frame 4 _ _ 0 _ takes-frame (λ f. takes-give (bodyOnly magic (ChecksumReport x f))))
 
-  kind-7 : Takes (kinds 7 magic) 0 (λ d. plain magic KeepAlive)
+  kind-7 : Takes (kinds 7 magic) 0 (λ d. bodyOnly magic KeepAlive)
   unfolding kinds
-  kind-7 = takes-give (plain magic KeepAlive)
+  kind-7 = takes-give (bodyOnly magic KeepAlive)
 
 -- a kind above 7
 above : (n magic : ℕ) (d : List ℕ) → 7 < n → kinds n magic d ≡ fault 10
@@ -160,32 +160,32 @@ module _ (d : List ℕ) where
     fixed-short (suc (suc (suc (suc (suc (suc (suc (suc k)))))))) e l n s = absurd (omega arith)
 
     -- the body that stands there, where it is whole
-    pub request : numberAt 4 2 d ≡ 0 → 10 ≤ length d → message d ≡ got (plain (numberAt 2 0 d) (SyncRequest (numberAt 4 6 d))) (drop 10 d)
+    pub request : numberAt 4 2 d ≡ 0 → 10 ≤ length d → message d ≡ got (bodyOnly (numberAt 2 0 d) (SyncRequest (numberAt 4 6 d))) (drop 10 d)
     unfolding numberAt
     request e l = upto 0 4 _ (kind-0 (numberAt 2 0 d)) e l
 
-    pub reply : numberAt 4 2 d ≡ 1 → 10 ≤ length d → message d ≡ got (plain (numberAt 2 0 d) (SyncReply (numberAt 4 6 d))) (drop 10 d)
+    pub reply : numberAt 4 2 d ≡ 1 → 10 ≤ length d → message d ≡ got (bodyOnly (numberAt 2 0 d) (SyncReply (numberAt 4 6 d))) (drop 10 d)
     unfolding numberAt
     reply e l = upto 1 4 _ (kind-1 (numberAt 2 0 d)) e l
 
-    pub ack : numberAt 4 2 d ≡ 3 → 10 ≤ length d → message d ≡ got (plain (numberAt 2 0 d) (InputAck (bitsOf bias32 (numberAt 4 6 d)))) (drop 10 d)
+    pub ack : numberAt 4 2 d ≡ 3 → 10 ≤ length d → message d ≡ got (bodyOnly (numberAt 2 0 d) (InputAck (bitsOf bias32 (numberAt 4 6 d)))) (drop 10 d)
     unfolding numberAt
     ack e l = upto 3 4 _ (kind-3 (numberAt 2 0 d)) e l
 
     pub quality : numberAt 4 2 d ≡ 4 → 24 ≤ length d
-        → message d ≡ got (plain (numberAt 2 0 d) (QualityReport (bitsOf bias16 (numberAt 2 6 d)) (wideAt 8 d))) (drop 24 d)
+        → message d ≡ got (bodyOnly (numberAt 2 0 d) (QualityReport (bitsOf bias16 (numberAt 2 6 d)) (wideAt 8 d))) (drop 24 d)
     unfolding numberAt wideAt
     quality e l = upto 4 18 _ (kind-4 (numberAt 2 0 d)) e l ∙ simp drop-drop
 
-    pub pong : numberAt 4 2 d ≡ 5 → 22 ≤ length d → message d ≡ got (plain (numberAt 2 0 d) (QualityReply (wideAt 6 d))) (drop 22 d)
+    pub pong : numberAt 4 2 d ≡ 5 → 22 ≤ length d → message d ≡ got (bodyOnly (numberAt 2 0 d) (QualityReply (wideAt 6 d))) (drop 22 d)
     unfolding numberAt wideAt
     pong e l = upto 5 16 _ (kind-5 (numberAt 2 0 d)) e l ∙ simp drop-drop
 
     pub checksum : numberAt 4 2 d ≡ 6 → 26 ≤ length d
-        → message d ≡ got (plain (numberAt 2 0 d) (ChecksumReport (wideAt 6 d) (bitsOf bias32 (numberAt 4 22 d)))) (drop 26 d)
+        → message d ≡ got (bodyOnly (numberAt 2 0 d) (ChecksumReport (wideAt 6 d) (bitsOf bias32 (numberAt 4 22 d)))) (drop 26 d)
     unfolding numberAt wideAt
     checksum e l = upto 6 20 _ (kind-6 (numberAt 2 0 d)) e l ∙ simp drop-drop
 
-    pub alive : numberAt 4 2 d ≡ 7 → message d ≡ got (plain (numberAt 2 0 d) KeepAlive) (drop 6 d)
+    pub alive : numberAt 4 2 d ≡ 7 → message d ≡ got (bodyOnly (numberAt 2 0 d) KeepAlive) (drop 6 d)
     unfolding numberAt
     alive e = upto 7 0 _ (kind-7 (numberAt 2 0 d)) e h

@@ -14,7 +14,7 @@ use mir.Val.{Val}
 use Rattle.base.specs.Little.{Bytes}
 use Rattle.base.specs.Pick.{pick}
 use Rattle.base.proofs.Arrays.{view-at, view-le}
-use Rattle.codec.specs.Message.{FitsBody, FitsReports, isInput, listed, meant}
+use Rattle.codec.specs.Message.{FitsBody, FitsReports, isInput, reportList, meant}
 use Rattle.codec.specs.declared.StatusReport.{StatusReport}
 use Rattle.codec.specs.declared.Message.{Message}
 use Rattle.codec.specs.declared.MessageBody.{MessageBody}
@@ -42,7 +42,7 @@ reports-typed (x ∷ l) (u ∷ us) h zero d k = search needs
 reports-typed (x ∷ l) (u ∷ us) h (suc i) d k = reports-typed l us (h .1) i d (omega arith)
 
 module _ (m : Message) (vs : List Val) (h : Is (Struct.row Message.the-type) m vs) where
-  listed-typed : FitsReports (listed (m .reports))
+  listed-typed : FitsReports (reportList (m .reports))
   listed-typed i d k =
       let l = m .reports .list in
       rw (view-at (m .reports .count) l i d k) (reports-typed l _ (h .1 .1 .1 .1 .0 .1 .1 .0 .1 .1) i d (omega (arith, view-le (m .reports .count) l)))
@@ -52,7 +52,7 @@ module _ (m : Message) (vs : List Val) (h : Is (Struct.row Message.the-type) m v
       → (meant m payload .magic < 2 ^ 16) × FitsBody (meant m payload .body) × FitsReports (meant m payload .reports) × Bytes (meant m payload .payload)
   unfolding meant
   message-typed payload q =
-      (search needs, body-typed (m .body) _ (h .1 .1 .1 .0), chosen (isInput (m .body)) (listed (m .reports)) listed-typed, chosen-bytes (isInput (m .body)) payload q)
+      (search needs, body-typed (m .body) _ (h .1 .1 .1 .0), chosen (isInput (m .body)) (reportList (m .reports)) listed-typed, chosen-bytes (isInput (m .body)) payload q)
     where
       chosen : (t : Bool) (rs : List StatusReport) → FitsReports rs → FitsReports (pick t rs [])
       chosen true rs f = f

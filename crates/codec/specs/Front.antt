@@ -9,9 +9,9 @@ use Rattle.frame.specs.Bias.{bias32, bitsOf}
 use Rattle.answer.specs.Number.{numberOf}
 use Rattle.answer.specs.declared.Answer.{Answer}
 use Rattle.answer.specs.declared.Answer.the-variants.{Done}
-use Rattle.codec.specs.Message.{Wire, listed, meant}
-use Rattle.codec.specs.Read.{Got, Reads, _>>=_, give, part, number, flag, frame, refuse, reports, plain, blank, numberIn, wireIn}
-use Rattle.codec.specs.Read.Got.{got, fault}
+use Rattle.codec.specs.Message.{Wire, reportList, meant}
+use Rattle.codec.specs.Read.{Reading, Reads, _>>=_, give, part, number, flag, frame, refuse, reports, bodyOnly, blankWire, numberIn, wireIn}
+use Rattle.codec.specs.Read.Reading.{got, fault}
 use Rattle.codec.specs.declared.Wide.{Wide}
 use Rattle.codec.specs.declared.StatusReport.{StatusReport}
 use Rattle.ceilings.specs.Ceilings.{mostPayload}
@@ -32,12 +32,12 @@ unfoldable pub reportAt : ℕ → List ℕ → StatusReport
 reportAt at d = record { disconnected = eqb (getD d at 0) 1; «last_frame» = bitsOf bias32 (numberAt 4 (at + 1) d) }
 
 -- where the message that was read ends, 0 for a fault
-abbrev pub endIn : List ℕ → Got Wire → ℕ
+abbrev pub endIn : List ℕ → Reading Wire → ℕ
 endIn d (got w left) = length d - length left
 endIn d (fault n) = 0
 
 -- the answer of one reading of a slice; the payload is the last part before the end
-pub record FrontAs (d : List ℕ) (reading : Got Wire) (r : Front) : Type 0 where
+pub record FrontAs (d : List ℕ) (reading : Reading Wire) (r : Front) : Type 0 where
   pub answer : numberOf (r .answer) ≡ numberIn reading
   pub message : meant (r .message) (wireIn reading .payload) ≡ wireIn reading
   pub count : r .message .reports .count ≡ length (wireIn reading .reports)
@@ -50,15 +50,15 @@ pub record FrontAs (d : List ℕ) (reading : Got Wire) (r : Front) : Type 0 wher
 -- a refusal comes with a blank message
 pub record RefusedAs (answer : Answer) (r : Front) : Type 0 where
   pub same : r .answer ≡ answer
-  pub message : meant (r .message) [] ≡ blank
+  pub message : meant (r .message) [] ≡ blankWire
   pub count : r .message .reports .count ≡ 0
   pub start : r .payload ≡ 0
   pub end : r .end ≡ 0
 
 -- a message of a fixed size with this body
-pub record PlainAs (d : List ℕ) (size : ℕ) (body : MessageBody) (r : Front) : Type 0 where
+pub record BodyOnlyAs (d : List ℕ) (size : ℕ) (body : MessageBody) (r : Front) : Type 0 where
   pub done : r .answer ≡ Done
-  pub message : meant (r .message) [] ≡ plain (numberAt 2 0 d) body
+  pub message : meant (r .message) [] ≡ bodyOnly (numberAt 2 0 d) body
   pub count : r .message .reports .count ≡ 0
   pub start : r .payload ≡ size
   pub end : r .end ≡ size
@@ -78,5 +78,5 @@ afterReports magic rs = do
 pub record ReportsAs (d : List ℕ) (n : ℕ) (r : Reports) : Type 0 where
   pub count : r .reports .count ≡ n
   pub answer : numberOf (r .answer) ≡ numberIn (reports n [] d)
-  pub found : numberOf (r .answer) ≡ 0 → reports n [] d ≡ got (listed (r .reports)) (drop (5 * n) d)
+  pub found : numberOf (r .answer) ≡ 0 → reports n [] d ≡ got (reportList (r .reports)) (drop (5 * n) d)
   pub within : numberOf (r .answer) ≡ 0 → 5 * n ≤ length d

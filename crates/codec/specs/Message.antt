@@ -43,8 +43,8 @@ isInput (ChecksumReport c f) = false
 isInput KeepAlive = false
 
 -- the list that a status array with a count holds
-abbrev pub listed : StatusReports → List StatusReport
-listed r = take (r .count) (r .list)
+abbrev pub reportList : StatusReports → List StatusReport
+reportList r = take (r .count) (r .list)
 
 -- what a message struct with a payload beside it stands for: only an Input has reports and a payload
 unfoldable pub meant : Message → List ℕ → Wire
@@ -52,7 +52,7 @@ meant m payload =
     record {
       magic = m .magic;
       body = m .body;
-      reports = pick (isInput (m .body)) (listed (m .reports)) [];
+      reports = pick (isInput (m .body)) (reportList (m .reports)) [];
       payload = pick (isInput (m .body)) payload [];
     }
 

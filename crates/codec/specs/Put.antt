@@ -4,7 +4,7 @@ use mathlib.Core.List.{List, []}
 use Prim.Native.Nat.{ℕ, _+_, _^_, _<_}
 use lib.ListN.{length}
 use Rattle.base.specs.Lay.{laidAt}
-use Rattle.codec.specs.Message.{FitsBody, FitsReports, listed, meant}
+use Rattle.codec.specs.Message.{FitsBody, FitsReports, reportList, meant}
 use Rattle.codec.specs.Bytes.{reportBytes, reportsBytes, statusesBytes, bodyBytes, head}
 use Rattle.codec.specs.declared.StatusReport.{StatusReport}
 use Rattle.codec.specs.declared.StatusReports.{StatusReports}
@@ -21,13 +21,13 @@ pub record ReportPut (report : StatusReport) (buffer : List ℕ) (at r : ℕ) (b
   pub frame : report .«last_frame» < 2 ^ 32
 
 pub record ReportsPut (reports : StatusReports) (buffer : List ℕ) (at r : ℕ) (buffer′ : List ℕ) : Type 0 where
-  pub put : PutAs buffer at (reportsBytes (listed reports)) r buffer′
-  pub frames : FitsReports (listed reports)
+  pub put : PutAs buffer at (reportsBytes (reportList reports)) r buffer′
+  pub frames : FitsReports (reportList reports)
 
 pub record StatusesPut (reports : StatusReports) (buffer : List ℕ) (at r : ℕ) (buffer′ : List ℕ) : Type 0 where
-  pub put : PutAs buffer at (statusesBytes (listed reports)) r buffer′
-  pub frames : FitsReports (listed reports)
-  pub count : length (listed reports) ≡ reports .count
+  pub put : PutAs buffer at (statusesBytes (reportList reports)) r buffer′
+  pub frames : FitsReports (reportList reports)
+  pub count : length (reportList reports) ≡ reports .count
 
 pub record BodyPut (m : Message) (n : ℕ) (buffer : List ℕ) (at r : ℕ) (buffer′ : List ℕ) : Type 0 where
   pub put : PutAs buffer at (bodyBytes (m .body) (meant m [] .reports) n) r buffer′

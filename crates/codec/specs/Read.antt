@@ -15,20 +15,20 @@ use Rattle.codec.specs.declared.MessageBody.{MessageBody}
 use Rattle.codec.specs.declared.MessageBody.the-variants.{SyncRequest, SyncReply, Input, InputAck, QualityReport, QualityReply, ChecksumReport, KeepAlive}
 
 -- a value and the bytes that are left, or the number of the fault
-pub data Got (A : Type 0) : Type 0 where
-  got : A → List ℕ → Got A
-  fault : ℕ → Got A
+pub data Reading (A : Type 0) : Type 0 where
+  got : A → List ℕ → Reading A
+  fault : ℕ → Reading A
 
 abbrev pub Reads : Type 0 → Type 0
-Reads A = List ℕ → Got A
+Reads A = List ℕ → Reading A
 
 -- one reading after another
-abbrev pub after : {A B : Type 0} → Got A → (A → Reads B) → Got B
-after (got a left) next = next a left
-after (fault n) next = fault n
+abbrev pub andThen : {A B : Type 0} → Reading A → (A → Reads B) → Reading B
+andThen (got a left) next = next a left
+andThen (fault n) next = fault n
 
 abbrev pub _>>=_ : {A B : Type 0} → Reads A → (A → Reads B) → Reads B
-_>>=_ first next d = after (first d) next
+_>>=_ first next d = andThen (first d) next
 
 abbrev pub give : {A : Type 0} → A → Reads A
 give a d = got a d
@@ -87,8 +87,8 @@ reports (suc n) rs = do
   reports n (rs ++ r ∷ [])
 
 -- a message that is no Input
-abbrev pub plain : ℕ → MessageBody → Wire
-plain magic body = record { magic = magic; body = body; reports = []; payload = [] }
+abbrev pub bodyOnly : ℕ → MessageBody → Wire
+bodyOnly magic body = record { magic = magic; body = body; reports = []; payload = [] }
 
 unfoldable pub input : ℕ → Reads Wire
 input magic = do
@@ -107,26 +107,26 @@ input magic = do
 unfoldable pub kinds : ℕ → ℕ → Reads Wire
 kinds zero magic = do
   nonce ← number 4
-  give (plain magic (SyncRequest nonce))
+  give (bodyOnly magic (SyncRequest nonce))
 kinds (suc zero) magic = do
   nonce ← number 4
-  give (plain magic (SyncReply nonce))
+  give (bodyOnly magic (SyncReply nonce))
 kinds (suc (suc zero)) magic = input magic
 kinds (suc (suc (suc zero))) magic = do
   ack ← frame
-  give (plain magic (InputAck ack))
+  give (bodyOnly magic (InputAck ack))
 kinds (suc (suc (suc (suc zero)))) magic = do
   behind ← advantage
   ping ← wide
-  give (plain magic (QualityReport behind ping))
+  give (bodyOnly magic (QualityReport behind ping))
 kinds (suc (suc (suc (suc (suc zero))))) magic = do
   pong ← wide
-  give (plain magic (QualityReply pong))
+  give (bodyOnly magic (QualityReply pong))
 kinds (suc (suc (suc (suc (suc (suc zero)))))) magic = do
   checksum ← wide
   at ← frame
-  give (plain magic (ChecksumReport checksum at))
-kinds (suc (suc (suc (suc (suc (suc (suc zero))))))) magic = give (plain magic KeepAlive)
+  give (bodyOnly magic (ChecksumReport checksum at))
+kinds (suc (suc (suc (suc (suc (suc (suc zero))))))) magic = give (bodyOnly magic KeepAlive)
 kinds (suc (suc (suc (suc (suc (suc (suc (suc n)))))))) magic = λ d. fault 10
 
 -- one message, and what stands after it
@@ -148,17 +148,17 @@ datagram = do
   ended w
 
 -- what a reading answers: its number, its message (a blank one for a fault), the bytes that are left
-abbrev pub numberIn : {A : Type 0} → Got A → ℕ
+abbrev pub numberIn : {A : Type 0} → Reading A → ℕ
 numberIn (got a left) = 0
 numberIn (fault n) = n
 
-abbrev pub blank : Wire
-blank = plain 0 KeepAlive
+abbrev pub blankWire : Wire
+blankWire = bodyOnly 0 KeepAlive
 
-abbrev pub wireIn : Got Wire → Wire
+abbrev pub wireIn : Reading Wire → Wire
 wireIn (got w left) = w
-wireIn (fault n) = blank
+wireIn (fault n) = blankWire
 
-abbrev pub leftIn : {A : Type 0} → Got A → List ℕ
+abbrev pub leftIn : {A : Type 0} → Reading A → List ℕ
 leftIn (got a left) = left
 leftIn (fault n) = []

@@ -5,6 +5,7 @@ mod reader;
 mod writer;
 
 use answer::Answer;
+use ceilings::MOST_PLAYERS;
 pub use reader::message_end;
 pub use reader::no_reports;
 pub use reader::payload_of;
@@ -16,7 +17,7 @@ ghost use mathlib.Core.Path.{_≡_};
 ghost use Rattle.codec.specs.Message.{kindOf};
 
 // Fixed sizes by kind. An Input adds STATUS_SIZE per status and 1 per payload byte.
-pub const SIZES: [usize; 8] = [10, 10, 31, 10, 24, 22, 26, 6];
+pub const FIXED_SIZES: [usize; 8] = [10, 10, 31, 10, 24, 22, 26, 6];
 
 pub const STATUS_SIZE: usize = 5;
 
@@ -28,7 +29,7 @@ pub struct StatusReport {
 
 // An Input's status list, with the count as given: a writer refuses one above MOST_PLAYERS.
 pub struct StatusReports {
-    pub list: [StatusReport; 4],
+    pub list: [StatusReport; MOST_PLAYERS],
     pub count: usize,
 }
 

@@ -1,8 +1,8 @@
 // The reader: any bytes, field by field, the first fault wins.
+use crate::FIXED_SIZES;
 use crate::Message;
 use crate::MessageBody;
 use crate::Received;
-use crate::SIZES;
 use crate::STATUS_SIZE;
 use crate::StatusReport;
 use crate::StatusReports;
@@ -11,15 +11,17 @@ use answer::Answer;
 use ceilings::MOST_PAYLOAD;
 use ceilings::MOST_PLAYERS;
 use frame::NULL_FRAME;
+use numbers::WORD;
 ghost use mathlib.Core.Path.{_≡_};
 ghost use Prim.Native.Nat.{_+_, _*_, _≤_, _<_};
 ghost use lib.ListN.{length, drop};
+ghost use Rattle.ceilings.specs.Ceilings.{mostPlayers};
 ghost use Rattle.frame.specs.Bias.{bias32, bitsOf};
 ghost use Rattle.answer.specs.Number.{numberOf};
-ghost use Rattle.codec.specs.Message.{listed};
+ghost use Rattle.codec.specs.Message.{reportList};
 ghost use Rattle.codec.specs.Read.{message, datagram, report, numberIn};
 ghost use Rattle.codec.specs.Calls.{ReadAs, PayloadAs, messageEnd};
-ghost use Rattle.codec.specs.Front.{numberAt, wideAt, reportAt, afterReports, RefusedAs, PlainAs, FrontAs, ReportsAs};
+ghost use Rattle.codec.specs.Front.{numberAt, wideAt, reportAt, afterReports, RefusedAs, BodyOnlyAs, FrontAs, ReportsAs};
 
 // Where an Input's reports start: after magic, kind and count.
 const STATUSES_AT: usize = 14;
@@ -108,33 +110,33 @@ fn fixed(d: &[u8], kind: u32) -> Front
     requires { ⌜ (6 ≤ length (now d)) × (kind ≡ numberAt 4 2 (now d)) × (kind < 8) × (kind ≡ 2 → ⊥) ⌝ }
     ensures { λ r. ⌜ FrontAs (now (d .entry)) (message (now (d .entry))) r ⌝ }
 {
-    let size = SIZES[kind as usize];
+    let size = FIXED_SIZES[kind as usize];
     if d.len() < size {
         return refused(Answer::Short);
     }
     match kind {
-        0 => plain(
+        0 => body_only(
             d,
             size,
             MessageBody::SyncRequest {
                 random_request: number4(d, 6),
             },
         ),
-        1 => plain(
+        1 => body_only(
             d,
             size,
             MessageBody::SyncReply {
                 random_reply: number4(d, 6),
             },
         ),
-        3 => plain(
+        3 => body_only(
             d,
             size,
             MessageBody::InputAck {
                 ack_frame: frame_at(d, 6),
             },
         ),
-        4 => plain(
+        4 => body_only(
             d,
             size,
             MessageBody::QualityReport {
@@ -142,14 +144,14 @@ fn fixed(d: &[u8], kind: u32) -> Front
                 ping: wide_at(d, 8),
             },
         ),
-        5 => plain(
+        5 => body_only(
             d,
             size,
             MessageBody::QualityReply {
                 pong: wide_at(d, 6),
             },
         ),
-        6 => plain(
+        6 => body_only(
             d,
             size,
             MessageBody::ChecksumReport {
@@ -157,7 +159,7 @@ fn fixed(d: &[u8], kind: u32) -> Front
                 frame: frame_at(d, 22),
             },
         ),
-        _ => plain(d, size, MessageBody::KeepAlive),
+        _ => body_only(d, size, MessageBody::KeepAlive),
     }
 }
 
@@ -184,7 +186,7 @@ fn input(d: &[u8]) -> Front
 
 // The reports from their place on.
 fn statuses_of(d: &[u8], count: usize) -> Reports
-    requires { ⌜ (14 ≤ length (now d)) × (count ≤ 4) ⌝ }
+    requires { ⌜ (14 ≤ length (now d)) × (count ≤ mostPlayers) ⌝ }
     ensures { λ r. ⌜ ReportsAs (drop 14 (now (d .entry))) count r ⌝ }
 {
     let mut found = no_reports();
@@ -239,12 +241,12 @@ fn report_at(d: &[u8], at: usize) -> StatusReport
 
 // The rest of an Input, whose reports stand up to the flag.
 fn after_statuses(d: &[u8], reports: StatusReports) -> Front
-    requires { ⌜ (reports .count ≤ 4) × (14 + 5 * reports .count ≤ length (now d)) ⌝ }
-    ensures { λ r. ⌜ FrontAs (now (d .entry)) (afterReports (numberAt 2 0 (now (d .entry))) (listed reports) (drop (14 + 5 * reports .count) (now (d .entry)))) r ⌝ }
+    requires { ⌜ (reports .count ≤ mostPlayers) × (14 + 5 * reports .count ≤ length (now d)) ⌝ }
+    ensures { λ r. ⌜ FrontAs (now (d .entry)) (afterReports (numberAt 2 0 (now (d .entry))) (reportList reports) (drop (14 + 5 * reports .count) (now (d .entry)))) r ⌝ }
 {
     let count = reports.count;
     let at = STATUSES_AT + STATUS_SIZE * count;
-    let payload = SIZES[2] + STATUS_SIZE * count;
+    let payload = FIXED_SIZES[2] + STATUS_SIZE * count;
     if d.len() == at {
         return refused(Answer::Short);
     }
@@ -278,9 +280,9 @@ fn after_statuses(d: &[u8], reports: StatusReports) -> Front
     }
 }
 
-fn plain(d: &[u8], size: usize, body: MessageBody) -> Front
+fn body_only(d: &[u8], size: usize, body: MessageBody) -> Front
     requires { ⌜ 2 ≤ length (now d) ⌝ }
-    ensures { λ r. ⌜ PlainAs (now (d .entry)) size body r ⌝ }
+    ensures { λ r. ⌜ BodyOnlyAs (now (d .entry)) size body r ⌝ }
 {
     Front {
         answer: Answer::Done,
@@ -318,7 +320,7 @@ pub fn no_reports() -> StatusReports
         last_frame: NULL_FRAME,
     };
     StatusReports {
-        list: [none; 4],
+        list: [none; MOST_PLAYERS],
         count: 0,
     }
 }
@@ -344,7 +346,7 @@ fn number8(d: &[u8], at: usize) -> u64
     requires { ⌜ at + 8 ≤ length (now d) ⌝ }
     ensures { λ r. ⌜ r ≡ numberAt 8 at (now (d .entry)) ⌝ }
 {
-    number4(d, at) as u64 + 0x1_0000_0000 * (number4(d, at + 4) as u64)
+    number4(d, at) as u64 + WORD * (number4(d, at + 4) as u64)
 }
 
 fn number4(d: &[u8], at: usize) -> u32

@@ -1,8 +1,8 @@
 // The writer: a message's bytes at a place of a lent buffer. Everything is known to fit before the
 // first byte is written, so a refusal leaves the buffer as it was.
+use crate::FIXED_SIZES;
 use crate::Message;
 use crate::MessageBody;
-use crate::SIZES;
 use crate::STATUS_SIZE;
 use crate::Size;
 use crate::StatusReport;
@@ -13,12 +13,14 @@ use crate::kind_of;
 use answer::Answer;
 use ceilings::MOST_PAYLOAD;
 use ceilings::MOST_PLAYERS;
+use numbers::WORD;
 ghost use mathlib.Core.Path.{_≡_};
 ghost use mathlib.Core.Bool.{true};
 ghost use mathlib.Core.List.{[], _++_};
 ghost use Prim.Native.Nat.{_+_, _*_, _≤_};
 ghost use lib.ListN.{length};
 ghost use Rattle.base.specs.Little.{le};
+ghost use Rattle.ceilings.specs.Ceilings.{mostPlayers};
 ghost use Rattle.codec.specs.Message.{isInput, meant};
 ghost use Rattle.codec.specs.Bytes.{flagNumber, flagBytes, frameBytes, advantageBytes, wideBytes, inputBytes, bodyBytes, head};
 ghost use Rattle.codec.specs.Calls.{shownSize, sizeAs, HeadAs, WrittenAs};
@@ -30,7 +32,7 @@ pub fn size_of(message: Message, length: usize) -> Size
 {
     let body = message.body;
     let kind = kind_of(body) as usize;
-    let fixed = SIZES[kind];
+    let fixed = FIXED_SIZES[kind];
     if kind != 2 {
         return Size::Bytes(fixed);
     }
@@ -97,7 +99,7 @@ pub fn write(out: &mut [u8], at: usize, message: Message, payload: &[u8]) -> Wri
 
 fn put_head(out: &mut [u8], at: usize, message: Message, length: usize) -> usize
     requires { ⌜ at + lib.ListN.length (head (meant message []) length) ≤ lib.ListN.length (now out) ⌝ }
-    requires { ⌜ (isInput (message .body) ≡ true → message .reports .count ≤ 4) ⌝ }
+    requires { ⌜ (isInput (message .body) ≡ true → message .reports .count ≤ mostPlayers) ⌝ }
     ensures { λ r. ⌜ HeadPut message length (now (out .entry)) at r (now (out .exit)) ⌝ }
 {
     let body = message.body;
@@ -108,7 +110,7 @@ fn put_head(out: &mut [u8], at: usize, message: Message, length: usize) -> usize
 
 fn put_body(out: &mut [u8], at: usize, message: Message, length: usize) -> usize
     requires { ⌜ at + lib.ListN.length (bodyBytes (message .body) (meant message [] .reports) length) ≤ lib.ListN.length (now out) ⌝ }
-    requires { ⌜ (isInput (message .body) ≡ true → message .reports .count ≤ 4) ⌝ }
+    requires { ⌜ (isInput (message .body) ≡ true → message .reports .count ≤ mostPlayers) ⌝ }
     ensures { λ r. ⌜ BodyPut message length (now (out .entry)) at r (now (out .exit)) ⌝ }
 {
     let body = message.body;
@@ -143,7 +145,7 @@ fn put_body(out: &mut [u8], at: usize, message: Message, length: usize) -> usize
 
 fn put_statuses(out: &mut [u8], at: usize, reports: StatusReports) -> usize
     requires { ⌜ at + (8 + 5 * reports .count) ≤ length (now out) ⌝ }
-    requires { ⌜ reports .count ≤ 4 ⌝ }
+    requires { ⌜ reports .count ≤ mostPlayers ⌝ }
     ensures { λ r. ⌜ StatusesPut reports (now (out .entry)) at r (now (out .exit)) ⌝ }
 {
     let next = put8(out, at, reports.count as u64);
@@ -186,7 +188,7 @@ fn put_checksum(out: &mut [u8], at: usize, checksum: Wide, frame: u32) -> usize
 
 fn put_reports(out: &mut [u8], at: usize, reports: StatusReports) -> usize
     requires { ⌜ at + 5 * reports .count ≤ length (now out) ⌝ }
-    requires { ⌜ reports .count ≤ 4 ⌝ }
+    requires { ⌜ reports .count ≤ mostPlayers ⌝ }
     ensures { λ r. ⌜ ReportsPut reports (now (out .entry)) at r (now (out .exit)) ⌝ }
 {
     let count = reports.count;
@@ -241,8 +243,8 @@ fn put8(out: &mut [u8], at: usize, n: u64) -> usize
     requires { ⌜ at + 8 ≤ length (now out) ⌝ }
     ensures { λ r. ⌜ PutAs (now (out .entry)) at (le 8 n) r (now (out .exit)) ⌝ }
 {
-    let next = put4(out, at, (n % 0x1_0000_0000) as u32);
-    put4(out, next, (n / 0x1_0000_0000) as u32)
+    let next = put4(out, at, (n % WORD) as u32);
+    put4(out, next, (n / WORD) as u32)
 }
 
 fn put4(out: &mut [u8], at: usize, n: u32) -> usize

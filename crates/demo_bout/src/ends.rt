@@ -2,10 +2,10 @@
 use crate::lines;
 use endpoint::Ended;
 use endpoint::Endpoint;
-use events::Entry;
-use events::Event;
-use events::Events;
-use status::Statuses;
+use endpoint::Entry;
+use endpoint::Event;
+use endpoint::Events;
+use endpoint::Statuses;
 
 const NUM_PLAYERS: usize = 2;
 

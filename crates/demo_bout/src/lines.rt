@@ -1,11 +1,11 @@
 // What the bout prints: a line begins with the letter of the end that it is about.
-use answer::Answer;
+use endpoint::Answer;
+use endpoint::Events;
+use endpoint::NetworkStats;
+use endpoint::Phase;
 use endpoint::StatsResult;
-use endpoint_rules::Phase;
-use events::Events;
 use frame::BIAS32;
 use libc::STDOUT_FILENO;
-use quality::NetworkStats;
 use text::Draft;
 
 pub(crate) fn heading(text: &[u8]) {

@@ -1,6 +1,7 @@
 // Checksum reports in falling frame order: none is so old that it could go, so the store fills up, and the report that finds no room is refused.
 // docs/FAILURES.md goes through it.
 use answer::Answer;
+use ceilings::MOST_CHECKSUMS;
 use checksums::Checksums;
 use codec::Message;
 use codec::MessageBody;
@@ -89,7 +90,7 @@ fn print_line(frame: u32, answer: Answer, held: Checksums) {
 // All that fit, place by place.
 fn same(before: Checksums, after: Checksums) -> bool {
     let mut i = 0;
-    while i < 64 {
+    while i < MOST_CHECKSUMS {
         let x = before.entry(i);
         let y = after.entry(i);
         if x.frame != y.frame || x.low != y.low || x.high != y.high {

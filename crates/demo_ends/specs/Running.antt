@@ -24,5 +24,5 @@ twoPlayers magic peer player =
     }
 
 -- in Running, with no reply to come and the filter on the other end's magic; all else as it was
-unfoldable pub synchronized : (magic : ℕ) → Seen → Seen
-synchronized magic s = withPhase Running (withSync (record { remaining = 0; nonces = s .sync .nonces; remoteMagic = magic }) s)
+unfoldable pub synchronizedWith : (magic : ℕ) → Seen → Seen
+synchronizedWith magic s = withPhase Running (withSync (record { remaining = 0; nonces = s .sync .nonces; remoteMagic = magic }) s)

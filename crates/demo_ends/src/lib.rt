@@ -3,14 +3,14 @@
 ghost use mathlib.Core.Path.{_≡_};
 ghost use Rattle.endpoint_rules.specs.Seen.{made};
 ghost use Rattle.endpoint.specs.Endpoint.{seen};
-ghost use Rattle.demo_ends.specs.Running.{twoPlayers, synchronized};
+ghost use Rattle.demo_ends.specs.Running.{twoPlayers, synchronizedWith};
+use endpoint::Choices;
+use endpoint::DesyncDetection;
 use endpoint::Endpoint;
+use endpoint::Handles;
+use endpoint::Phase;
+use endpoint::Setup;
 use endpoint::Sync;
-use endpoint_rules::Phase;
-use setup::Choices;
-use setup::DesyncDetection;
-use setup::Handles;
-use setup::Setup;
 
 // Two players, one at each end, whose inputs are a byte; `player` is the one at the other end.
 pub fn two_players(magic: u16, peer: u32, player: u32) -> Setup
@@ -38,7 +38,7 @@ pub fn two_players(magic: u16, peer: u32, player: u32) -> Setup
 
 // The endpoint in Running: no reply is to come, and only messages of the other end's magic are heard.
 pub fn synchronized(endpoint: Endpoint, magic: u16) -> Endpoint
-    ensures { λ r. ⌜ seen r ≡ synchronized magic (seen endpoint) ⌝ }
+    ensures { λ r. ⌜ seen r ≡ synchronizedWith magic (seen endpoint) ⌝ }
 {
     Endpoint {
         sync: Sync {
@@ -52,7 +52,7 @@ pub fn synchronized(endpoint: Endpoint, magic: u16) -> Endpoint
 
 // An end of such a bout, running. The other end's number as a peer is its magic.
 pub fn end(own: u16, other: u16, player: u32, now: u64) -> Endpoint
-    ensures { λ r. ⌜ seen r ≡ synchronized other (made (twoPlayers own other player) now) ⌝ }
+    ensures { λ r. ⌜ seen r ≡ synchronizedWith other (made (twoPlayers own other player) now) ⌝ }
 {
     let made = Endpoint::new(two_players(own, other as u32, player), now);
     synchronized(made.endpoint, other)

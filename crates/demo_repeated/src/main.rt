@@ -1,4 +1,4 @@
-// A packet that arrives more than once is announced once. docs/FAILURES.md goes through it.
+// A datagram that arrives more than once is announced once. docs/FAILURES.md goes through it.
 use endpoint::Endpoint;
 use frame::BIAS32;
 use libc::STDOUT_FILENO;
@@ -14,14 +14,14 @@ fn main() {
     let statuses = Statuses::new(2);
     let a = demo_ends::end(A, B, 1, 0);
     let b = demo_ends::end(B, A, 0, 0);
-    // The packet with frame 0, which the line keeps, arrives twice.
+    // The datagram with frame 0, of which the network keeps a copy, arrives twice.
     let sent = a.send_input(BIAS32, b"\x05", statuses, 100, &mut queue);
-    let kept = queue;
-    let first = sent.endpoint.messages(&kept);
+    let mut copy = [0u8; 128];
+    let taken = sent.endpoint.take_messages_into(&queue, &mut copy);
+    let first = text::filled(&copy, taken.count);
     let b = arrive(b, first, 110);
     let b = arrive(b, first, 120);
-    // The packet with frames 0 and 1 arrives, and then the first once more.
-    let taken = sent.endpoint.take_messages(&queue);
+    // The datagram with frames 0 and 1 arrives, and then the first once more.
     let a = taken.endpoint;
     let sent = a.send_input(BIAS32 + 1, b"\x07", statuses, 130, &mut queue);
     let b = arrive(b, sent.endpoint.messages(&queue), 140);

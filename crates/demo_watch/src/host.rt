@@ -3,13 +3,13 @@ use crate::ends::BOX;
 use crate::ends::HOST;
 use crate::ends::epoch;
 use crate::lines;
+use endpoint::Choices;
+use endpoint::DesyncDetection;
 use endpoint::Ended;
 use endpoint::Endpoint;
-use setup::Choices;
-use setup::DesyncDetection;
-use setup::Handles;
-use setup::Setup;
-use status::Statuses;
+use endpoint::Handles;
+use endpoint::Setup;
+use endpoint::Statuses;
 
 pub(crate) struct Host {
     pub endpoint: Endpoint,

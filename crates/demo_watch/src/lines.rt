@@ -1,19 +1,19 @@
 // What is printed: a line begins with the letter of the end that it is about.
 use crate::ends::BOX;
 use crate::ends::HOST;
-use answer::Answer;
-use endpoint::StatsResult;
-use events::Events;
+use endpoint::Events;
 use frame::BIAS32;
 use libc::STDOUT_FILENO;
-use quality::NetworkStats;
+use spectator::Answer;
 use spectator::FramesBehind;
+use spectator::InputStatus;
+use spectator::NetworkStats;
 use spectator::Request;
 use spectator::Requests;
+use spectator::SessionEvent;
 use spectator::SessionEvents;
-use spectator_rules::InputStatus;
-use spectator_rules::SessionEvent;
-use spectator_rules::SyncedInput;
+use spectator::StatsResult;
+use spectator::SyncedInput;
 use text::Draft;
 
 fn put(text: &[u8]) {

@@ -3,12 +3,12 @@ use crate::ends::BOX;
 use crate::ends::HOST;
 use crate::ends::epoch;
 use crate::lines;
-use setup::Choices;
-use setup::DesyncDetection;
+use spectator::Choices;
+use spectator::DesyncDetection;
 use spectator::Ended;
+use spectator::Limits;
+use spectator::SessionSetup;
 use spectator::SpectatorSession;
-use spectator_rules::Limits;
-use spectator_rules::SessionSetup;
 
 pub(crate) struct Viewer {
     pub session: SpectatorSession,

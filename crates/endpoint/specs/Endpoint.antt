@@ -8,9 +8,9 @@ use Rattle.codec.specs.Bytes.{queueOf}
 use Rattle.pending.specs.Pending.{waiting}
 use Rattle.history.specs.History.{received}
 use Rattle.nonces.specs.Nonces.{outstanding}
-use Rattle.status.specs.Statuses.{held as heldStatuses}
+use Rattle.status.specs.Statuses.{heldStatuses}
 use Rattle.checksums.specs.Checksums.{stored}
-use Rattle.events.specs.Events.{held as heldEvents}
+use Rattle.events.specs.Events.{heldEvents}
 use Rattle.setup.specs.Setup.{termsOf}
 use Rattle.endpoint_rules.specs.Seen.{Seen}
 use Rattle.endpoint_rules.specs.Did.{Did}

@@ -6,7 +6,7 @@ use lib.ListN.{length}
 use Rattle.base.specs.Pick.{pick}
 use Rattle.answer.specs.Number.{numberOf}
 use Rattle.setup.specs.declared.Handles.{Handles}
-use Rattle.setup.specs.Setup.{listed}
+use Rattle.setup.specs.Setup.{handleList}
 use Rattle.endpoint_rules.specs.Seen.{Seen}
 use Rattle.endpoint_rules.specs.Call.{Call, Question}
 use Rattle.endpoint_rules.specs.Step.{step}
@@ -21,7 +21,7 @@ shown c s = (step c s .answer, pick (eqb (step c s .answer) 0) (valueOf c s) Val
 
 -- the handles, with a count that is their number
 abbrev pub HandlesAs : Seen → Handles → Type 0
-HandlesAs s r = (Value.numbers (listed r) ≡ valueOf (Call.ask Question.handles) s) × (r .count ≡ length (listed r))
+HandlesAs s r = (Value.numbers (handleList r) ≡ valueOf (Call.ask Question.handles) s) × (r .count ≡ length (handleList r))
 
 abbrev pub shownStatus : StatusResult → ℕ × Value
 shownStatus (Status status) = (0, Value.status status)

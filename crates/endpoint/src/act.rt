@@ -3,7 +3,7 @@ mod batch;
 mod due;
 
 ghost use lib.ListN.{length};
-ghost use Rattle.status.specs.Statuses.{held};
+ghost use Rattle.status.specs.Statuses.{heldStatuses};
 ghost use Rattle.endpoint_rules.specs.Call.{Call};
 ghost use Rattle.endpoint_rules.specs.Step.{step};
 ghost use Rattle.endpoint.specs.Endpoint.{seen, DidAs};
@@ -29,7 +29,7 @@ impl Endpoint {
         nonce: u32,
         out: &mut [u8],
     ) -> Ended
-        ensures { λ r. ⌜ DidAs self (step (Call.act (statuses .count) (held statuses) now epoch nonce (length (out .entry .now))) (seen self)) (out .entry .now) r (out .exit .now) ⌝ }
+        ensures { λ r. ⌜ DidAs self (step (Call.act (statuses .count) (heldStatuses statuses) now epoch nonce (length (out .entry .now))) (seen self)) (out .entry .now) r (out .exit .now) ⌝ }
     {
         if timers::is_bad(now) || timers::is_bad(epoch) {
             return Ended {
@@ -77,14 +77,14 @@ impl Endpoint {
                     answer: Answer::Done,
                 };
             }
-            // All that is due fits, or nothing is done. A store that nothing is told to or packed from is left alone: to pass it is to copy it.
+            // All that is due fits, or nothing is done. A store that nothing is added to or packed from is left alone: to pass it is to copy it.
             Phase::Running => {
                 let timeout = self.setup.disconnect_timeout;
                 let notify_start = self.setup.disconnect_notify_start;
                 let pending = self.pending.count();
                 let due = due::due_at(now, self.clocks, self.flags, pending, notify_start, timeout);
-                let told = due::told(due);
-                if MOST_EVENTS < self.events.count() + told {
+                let announced = due::event_count(due);
+                if MOST_EVENTS < self.events.count() + announced {
                     return Ended {
                         endpoint: self,
                         answer: Answer::Full,
@@ -121,8 +121,8 @@ impl Endpoint {
                         epoch,
                     );
                 }
-                if 0 < told {
-                    let pushed = due::tell(self.events, due, timeout, notify_start);
+                if 0 < announced {
+                    let pushed = due::announce(self.events, due, timeout, notify_start);
                     let events = pushed.events;
                     self.events = events;
                 }

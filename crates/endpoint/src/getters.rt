@@ -1,10 +1,7 @@
 // What an endpoint shows of itself: nothing changes.
-ghost use mathlib.Core.Bool.{not, _||_};
 ghost use mathlib.Core.Path.{_≡_};
-ghost use Prim.Native.Nat.{_-_};
-ghost use lib.Dec.{ltb};
 ghost use Rattle.checksums.specs.Checksums.{stored};
-ghost use Rattle.endpoint_rules.specs.Seen.{isSynchronizing, isRunning};
+ghost use Rattle.endpoint_rules.specs.Reports.{notSynchronizedIn, earlyBy};
 ghost use Rattle.endpoint_rules.specs.Call.{Call, Question};
 ghost use Rattle.endpoint_rules.specs.Value.{Value, valueOf, synchronizedIn};
 ghost use Rattle.endpoint.specs.Endpoint.{seen};
@@ -46,7 +43,7 @@ fn is_synchronized_in(phase: Phase) -> bool
 
 // Neither synchronizing nor running.
 fn has_no_stats(phase: Phase) -> bool
-    ensures { λ r. ⌜ r ≡ not (isSynchronizing phase || isRunning phase) ⌝ }
+    ensures { λ r. ⌜ r ≡ notSynchronizedIn phase ⌝ }
 {
     match phase {
         Phase::Initializing => true,
@@ -59,7 +56,7 @@ fn has_no_stats(phase: Phase) -> bool
 
 // Also where the clock is before the start.
 fn is_early(start: u64, epoch: u64) -> bool
-    ensures { λ r. ⌜ r ≡ ltb (epoch - start) 1000 ⌝ }
+    ensures { λ r. ⌜ r ≡ earlyBy start epoch ⌝ }
 {
     epoch < start || epoch - start < STATS_WAIT
 }

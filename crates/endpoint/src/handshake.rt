@@ -53,7 +53,7 @@ pub(crate) fn request(
             ok: false,
         };
     }
-    let written = outbox::plain(
+    let written = outbox::body_only(
         out,
         queued,
         magic,

@@ -15,6 +15,11 @@ mod taking;
 pub use answer::Answer;
 pub use checksums::Checksum;
 pub use checksums::Checksums;
+pub use codec::Message;
+pub use codec::MessageBody;
+pub use codec::StatusReport;
+pub use codec::StatusReports;
+pub use codec::Wide;
 use endpoint_rules::Flags;
 pub use endpoint_rules::Phase;
 pub use events::Entry;
@@ -35,6 +40,7 @@ pub use setup::Setup;
 pub use status::ConnectionStatus;
 pub use status::Statuses;
 pub use taking::TakenEvents;
+pub use taking::TakenMessages;
 use timers::Clocks;
 
 // How many replies complete a handshake.
@@ -49,7 +55,7 @@ pub struct Sync {
 }
 
 // The setup, its handles ascending; what carries inputs: those sent and not acknowledged, the last acknowledged one, against which they are packed,
-// and those received; what the handshake and the clocks stand at, with the nonces outstanding; what was told and reported; the events that wait to be
+// and those received; what the handshake and the clocks stand at, with the nonces outstanding; what was announced and reported; the events that wait to be
 // taken, and how many bytes of the lent buffer are queued.
 pub struct Endpoint {
     pub setup: Setup,

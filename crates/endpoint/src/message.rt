@@ -11,7 +11,7 @@ ghost use lib.ListN.{length};
 ghost use Rattle.codec.specs.Message.{meant};
 ghost use Rattle.endpoint_rules.specs.Call.{Call};
 ghost use Rattle.endpoint_rules.specs.Step.{step};
-ghost use Rattle.endpoint.specs.Inside.Arrival.{callOf};
+ghost use Rattle.endpoint.specs.Inside.Arrival.{arrivalCall};
 ghost use Rattle.endpoint.specs.Endpoint.{seen, DidAs};
 use crate::Ended;
 use crate::Endpoint;
@@ -38,7 +38,7 @@ impl Endpoint {
         nonce: u32,
         out: &mut [u8],
     ) -> Ended
-        ensures { λ r. ⌜ DidAs self (step (callOf «is_datagram» from given (bytes .entry .now) now epoch nonce (length (out .entry .now))) (seen self)) (out .entry .now) r (out .exit .now) ⌝ }
+        ensures { λ r. ⌜ DidAs self (step (arrivalCall «is_datagram» from given (bytes .entry .now) now epoch nonce (length (out .entry .now))) (seen self)) (out .entry .now) r (out .exit .now) ⌝ }
     {
         let received = arrival::read(is_datagram, given, bytes);
         let reading = received.answer;
@@ -67,7 +67,7 @@ impl Endpoint {
         let body = message.body;
         let kind = codec::kind_of(body);
         match kind {
-            // SyncReply: one that counts is told, and another request goes out or the handshake is over; any other is only heard.
+            // SyncReply: one that counts is announced, and another request goes out or the handshake is over; any other is only heard.
             1 => {
                 let reply = body::reply_of(body);
                 if let Phase::Synchronizing = phase {
@@ -93,11 +93,11 @@ impl Endpoint {
                                 answer: Answer::Full,
                             };
                         }
-                        let told = self.events.push(handshake::progress(remaining));
+                        let pushed = self.events.push(handshake::progress(remaining));
                         let sync = counted.sync;
                         let nonces = spent.nonces;
                         let clocks = counted.clocks;
-                        let events = told.events;
+                        let events = pushed.events;
                         self.sync = sync;
                         self.nonces = nonces;
                         self.clocks = clocks;
@@ -157,13 +157,13 @@ impl Endpoint {
                         payload.len(),
                         width,
                     );
-                    // A store that nothing is told to or dropped from is left alone: to pass it is to copy it.
-                    if informed.resumes | informed.tells | (0 < news.count) {
+                    // A store that nothing is added to or dropped from is left alone: to pass it is to copy it.
+                    if informed.resumes | informed.disconnects | (0 < news.count) {
                         let handles = self.setup.handles;
                         let list = handles.list;
-                        let told = self.events.push_packet(
+                        let pushed = self.events.push_packet(
                             informed.resumes,
-                            informed.tells,
+                            informed.disconnects,
                             news.first,
                             news.count,
                             payload,
@@ -174,13 +174,13 @@ impl Endpoint {
                             handles.count,
                             self.setup.input_size as usize,
                         );
-                        if !told.ok {
+                        if !pushed.ok {
                             return Ended {
                                 endpoint: self,
                                 answer: Answer::Full,
                             };
                         }
-                        let events = told.events;
+                        let events = pushed.events;
                         self.events = events;
                     }
                     if self.pending.drops(head.ack_frame) {
@@ -205,7 +205,7 @@ impl Endpoint {
                             opened.newest,
                             self.setup.max_prediction,
                         );
-                        let queued = outbox::plain(
+                        let queued = outbox::body_only(
                             out,
                             self.queued,
                             self.setup.magic,
@@ -296,8 +296,8 @@ impl Endpoint {
         }
         // What is left of every other message is that it was heard.
         if resumes {
-            let told = self.events.push(NETWORK_RESUMED);
-            let events = told.events;
+            let pushed = self.events.push(NETWORK_RESUMED);
+            let events = pushed.events;
             self.events = events;
             self.flags.disconnect_notify_sent = false;
         }

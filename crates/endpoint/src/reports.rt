@@ -12,7 +12,7 @@ use frame::NULL_FRAME;
 use quality::Advantage;
 
 impl Endpoint {
-    // The own checksum of a frame is told to the other end.
+    // The own checksum of a frame is sent to the other end.
     pub fn send_checksum_report(
         mut self,
         frame: u32,
@@ -28,7 +28,7 @@ impl Endpoint {
                 answer: Answer::BadClock,
             };
         }
-        let queued = outbox::plain(
+        let queued = outbox::body_only(
             out,
             self.queued,
             self.setup.magic,

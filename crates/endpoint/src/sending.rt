@@ -1,7 +1,7 @@
 // Inputs sent: each pends until it is acknowledged, and all that pend go out as one Input.
 ghost use mathlib.Core.Path.{_≡_};
 ghost use lib.ListN.{length};
-ghost use Rattle.status.specs.Statuses.{held};
+ghost use Rattle.status.specs.Statuses.{heldStatuses};
 ghost use Rattle.endpoint_rules.specs.Call.{Call};
 ghost use Rattle.endpoint_rules.specs.Step.{step};
 ghost use Rattle.endpoint.specs.Endpoint.{seen, DidAs};
@@ -11,6 +11,7 @@ use crate::Endpoint;
 use crate::room;
 use answer::Answer;
 use ceilings::MOST_PENDING;
+use ceilings::MOST_WIDTH;
 use endpoint_rules::Phase;
 use events::DISCONNECTED;
 use frame::BIAS32;
@@ -37,7 +38,7 @@ impl Endpoint {
         now: u64,
         out: &mut [u8],
     ) -> Ended
-        ensures { λ r. ⌜ DidAs self (step (Call.sendInput frame (bytes .entry .now) (statuses .count) (held statuses) now (length (out .entry .now))) (seen self)) (out .entry .now) r (out .exit .now) ⌝ }
+        ensures { λ r. ⌜ DidAs self (step (Call.sendInput frame (bytes .entry .now) (statuses .count) (heldStatuses statuses) now (length (out .entry .now))) (seen self)) (out .entry .now) r (out .exit .now) ⌝ }
     {
         if timers::is_bad(now) {
             return Ended {
@@ -62,7 +63,7 @@ impl Endpoint {
         };
         let acked = self.acked;
         // XOR zeros is the input itself, with zeros after it.
-        let padded = packing::frame_at(bytes, 0, width, [0u8; 64]);
+        let padded = packing::frame_at(bytes, 0, width, [0u8; MOST_WIDTH]);
         let pushed = self.pending.push(
             InputBytes {
                 frame,
@@ -83,8 +84,8 @@ impl Endpoint {
             };
         }
         let pending = pushed.pending;
-        let tells = MOST_PENDING <= pending.count();
-        if room::events_full(tells, self.events.count()) {
+        let announces = MOST_PENDING <= pending.count();
+        if room::events_full(announces, self.events.count()) {
             return Ended {
                 endpoint: self,
                 answer: Answer::Full,
@@ -97,9 +98,9 @@ impl Endpoint {
                 answer: Answer::Full,
             };
         }
-        if tells {
-            let told = self.events.push(DISCONNECTED);
-            let events = told.events;
+        if announces {
+            let pushed = self.events.push(DISCONNECTED);
+            let events = pushed.events;
             self.events = events;
         }
         self.pending = pending;

@@ -15,8 +15,7 @@ use Rattle.history.specs.History.{numbered}
 use Rattle.events.specs.declared.Entry.{Entry}
 use Rattle.events.specs.declared.Event.{Event}
 use Rattle.events.specs.declared.Event.the-variants as Event
-use Rattle.events.specs.Events.{announced, inputEntry, inputOf}
-use Rattle.endpoint_rules.specs.Receiving.{announcedEach}
+use Rattle.events.specs.Events.{announced, inputEntry, inputOf, announcedEach}
 use Rattle.endpoint_invariant.specs.Each.{Each}
 use Rattle.endpoint_delivery.specs.Frames.{Given, Announced, joined, read, announcedIn, shares, allBytes, announcedTo}
 use Rattle.endpoint_delivery.proofs.Tape.{framed}

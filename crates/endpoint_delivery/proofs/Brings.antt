@@ -17,10 +17,11 @@ use Rattle.codec.specs.declared.StatusReport.{StatusReport}
 use Rattle.codec.specs.declared.MessageBody.the-variants.{Input}
 use Rattle.events.specs.declared.Entry.{Entry}
 use Rattle.timers.specs.Timers.{badClocks}
+use Rattle.events.specs.Events.{announcedEach}
 use Rattle.endpoint_rules.specs.Seen.{Seen}
 use Rattle.endpoint_rules.specs.Did.{Did, decided, silentIf, done}
 use Rattle.endpoint_rules.specs.Handshake.{Reaction}
-use Rattle.endpoint_rules.specs.Receiving.{inputMessage, receive, announcedEach, discarded, inputTaken, inputUnless, onInput}
+use Rattle.endpoint_rules.specs.Receiving.{inputMessage, receive, discarded, inputTaken, inputUnless, onInput}
 use Rattle.endpoint_rules.specs.Call.{Call}
 use Rattle.endpoint_rules.specs.Step.{ignored, heard, onBody, reactionRefusals, step, messageStep, datagramStep, reacted}
 use Rattle.endpoint_rules.proofs.Decided.{decided-done}

@@ -14,7 +14,7 @@ use Rattle.packing.specs.Pad.{padded}
 use Rattle.packing.specs.declared.input_bytes.InputBytes.{InputBytes}
 use Rattle.status.specs.declared.ConnectionStatus.{ConnectionStatus}
 use Rattle.codec.specs.Message.{Wire}
-use Rattle.codec.specs.Read.{plain, datagram, numberIn, wireIn}
+use Rattle.codec.specs.Read.{bodyOnly, datagram, numberIn, wireIn}
 use Rattle.codec.specs.declared.StatusReport.{StatusReport}
 use Rattle.codec.specs.declared.MessageBody.{MessageBody}
 use Rattle.codec.specs.declared.MessageBody.the-variants.{SyncRequest, SyncReply, Input, InputAck, QualityReport, QualityReply, ChecksumReport, KeepAlive}
@@ -23,6 +23,7 @@ use Rattle.outbox.specs.Outbox.{pendingInput}
 use Rattle.setup.specs.Setup.{receivingWidth, sendingWidth}
 use Rattle.setup.proofs.Laws.{receiving-within}
 use Rattle.timers.specs.Timers.{badClock}
+use Rattle.events.specs.Events.{announcedEach}
 use Rattle.endpoint_rules.specs.Seen.{Seen, isRunning, withCarried, isShutdown}
 use Rattle.endpoint_rules.specs.Did.{Did, Effect, refused, decided, silent, silentIf, begin, done}
 use Rattle.endpoint_rules.specs.Room.{isFull}
@@ -30,7 +31,7 @@ use Rattle.endpoint_rules.specs.Handshake.{synchronized}
 use Rattle.endpoint_rules.specs.Sending.{droppedTo, badFrame, badStatuses, badBytes, pendingFull, pendingIn, inputSent}
 use Rattle.endpoint_rules.specs.Act.{acted}
 use Rattle.endpoint_rules.specs.Checksum.{checksumSent}
-use Rattle.endpoint_rules.specs.Receiving.{inputMessage, Reception, receive, announcedEach, discarded, inputTaken, inputUnless, onInput, onInputAck}
+use Rattle.endpoint_rules.specs.Receiving.{inputMessage, Reception, receive, discarded, inputTaken, inputUnless, onInput, onInputAck}
 use Rattle.endpoint_rules.specs.Advantage.{bothKnown, localAdvantage, advantageUpdated}
 use Rattle.endpoint_rules.specs.Call.{Call}
 use Rattle.endpoint_rules.specs.Step.{changed, heard, onBody, step, synchronizeStep, messageStep, datagramStep, actStep, sendStep, disconnectStep, checksumStep, advantageStep, statsStep, statusStep, takeStep, reacted, ignored}
@@ -84,7 +85,7 @@ abbrev Sent : {w v : ℕ} → (t : Tape w) → (n : ℕ) → (u : Tape v) → (m
 Sent t n u m x = OnInput (Packet t n (x .payload)) (x .body) × OnAck (Ack u m) (x .body)
 
 module _ {w v : ℕ} (t : Tape w) (n : ℕ) (u : Tape v) (m : ℕ) where
-  quiet-sent : (magic : ℕ) (b : MessageBody) → carries b ≡ false → Sent t n u m (plain magic b)
+  quiet-sent : (magic : ℕ) (b : MessageBody) → carries b ≡ false → Sent t n u m (bodyOnly magic b)
   quiet-sent magic b q = (quiet-input (Packet t n []) b q, quiet-ack (Ack u m) b q)
 
   packets-of : (l : List Wire) → Each (Sent t n u m) l → Packets t n l
@@ -100,7 +101,7 @@ module _ (a b : Side) (both : Both a b) (meet : Meet (a .state) (b .state)) (sou
   abbrev Ok : Wire → Type 0
   Ok = Sent (both .goes .tape) (both .goes .reached) (both .comes .tape) (both .comes .reached)
 
-  abbrev quiet : (magic : ℕ) (m : MessageBody) → carries m ≡ false → Ok (plain magic m)
+  abbrev quiet : (magic : ℕ) (m : MessageBody) → carries m ≡ false → Ok (bodyOnly magic m)
   quiet = quiet-sent (both .goes .tape) (both .goes .reached) (both .comes .tape) (both .comes .reached)
 
   -- nothing carried changes
@@ -162,7 +163,7 @@ module _ (a b : Side) (both : Both a b) (meet : Meet (a .state) (b .state)) (sou
     input-done now d reports =
         takes-in (done (inputTaken now (inputMessage d start ack reports payload) (heard now s))) (λ n q.
         let h = taking (Then n) (quiet-sent (both .goes .tape) (both .goes .reached) (both .comes .tape) n) s start payload now ack d reports
-        (each-also (Ack (both .comes .tape) n) (λ x. (magic : ℕ) → Then n (plain magic (InputAck x))) (λ x k magic. (tt, k)) (got .acks) q) in
+        (each-also (Ack (both .comes .tape) n) (λ x. (magic : ℕ) → Then n (bodyOnly magic (InputAck x))) (λ x k magic. (tt, k)) (got .acks) q) in
         record { setup = h .setup; carried = h .carried; out = h .out; events = h .events })
 
   ack-done : (ack : ℕ) → Ack (both .goes .tape) (both .goes .reached) ack → (now : ℕ) → Kept a b (done (onInputAck ack (heard now s) .effect)) []

@@ -5,14 +5,14 @@ use mathlib.Core.Path.{_≡_, refl, ap, _∙_}
 use Prim.Native.Nat.{ℕ}
 use native.Mathlib.Omega.{arith}
 use lib.Dec.{ltb, leb}
-use lib.ListN.{length, drop, replicate}
+use lib.ListN.{length, drop}
 use Rattle.base.specs.Keyed.{kept}
 use Rattle.base.proofs.Kept.{kept-append}
 use Rattle.packing.specs.Pad.{padded}
 use Rattle.packing.specs.declared.input_bytes.InputBytes.{InputBytes}
 use Rattle.status.specs.declared.ConnectionStatus.{ConnectionStatus}
 use Rattle.codec.specs.Message.{Wire}
-use Rattle.codec.specs.Read.{plain}
+use Rattle.codec.specs.Read.{bodyOnly}
 use Rattle.codec.specs.declared.Wide.{Wide}
 use Rattle.codec.specs.declared.StatusReport.{StatusReport}
 use Rattle.codec.specs.declared.MessageBody.{MessageBody}
@@ -20,14 +20,14 @@ use Rattle.codec.specs.declared.MessageBody.the-variants.{SyncRequest, SyncRepl
 use Rattle.events.specs.declared.Entry.{Entry}
 use Rattle.events.specs.declared.Event.{Event}
 use Rattle.events.specs.declared.Event.the-variants as Event
-use Rattle.events.specs.Events.{announced, inputEntry}
+use Rattle.events.specs.Events.{withoutInput, announced, inputEntry, announcedEach}
 use Rattle.endpoint_rules.specs.declared.Phase.{Phase}
 use Rattle.endpoint_rules.specs.declared.Phase.the-variants.{Initializing, Synchronizing, Running, Disconnected, Shutdown}
 use Rattle.endpoint_rules.specs.Seen.{Seen, Carried, withCarried}
 use Rattle.endpoint_rules.specs.Did.{Effect, begin, change, queueWire, queue, announceEvent}
 use Rattle.endpoint_rules.specs.Handshake.{request, nonceIssued, started, synchronized, counted, running, replied, onSyncRequest, onSyncReply}
 use Rattle.endpoint_rules.specs.Sending.{droppedTo, acknowledged, accepted, tooMany, pendingIn, pendingQueued, queuePending, inputSent}
-use Rattle.endpoint_rules.specs.Receiving.{inputMessage, Reception, receive, announcedEach, announces, noted, acksQueued, statusesMerged, informed, inputsReceived, inputTaken, onInputAck}
+use Rattle.endpoint_rules.specs.Receiving.{inputMessage, Reception, receive, announces, noted, acksQueued, statusesMerged, informed, inputsReceived, inputTaken, onInputAck}
 use Rattle.endpoint_rules.specs.Act.{requestDue, resendDue, reportDue, keepAliveDue, interruptionDue, disconnectDue, resent, reportSent, keptAlive, interrupted, timedOut, acted}
 use Rattle.endpoint_rules.specs.Reports.{reportQueued, remoteAdvantage, roundTripNoted, onQualityReport, onQualityReply}
 use Rattle.endpoint_rules.specs.Checksum.{onChecksumReport, checksumSent}
@@ -56,7 +56,7 @@ unfolding announcedEach kept
 each-inputs size hs [] = refl
 each-inputs size hs (x ∷ l) = kept-append isInput (announced (x .frame) size (x .bytes) hs) (announcedEach size hs l) ∙ rw (announced-inputs (x .frame) size (x .bytes) hs, each-inputs size hs l)
 
-module _ (P : Wire → Type 0) (quiet : (magic : ℕ) (b : MessageBody) → carries b ≡ false → P (plain magic b)) (s : Seen) where
+module _ (P : Wire → Type 0) (quiet : (magic : ℕ) (b : MessageBody) → carries b ≡ false → P (bodyOnly magic b)) (s : Seen) where
   abbrev pub Doing : Carried → List Entry → Effect → Type 0
   Doing c news e = Does s c news P (e .state) (e .out) (e .events)
 
@@ -74,10 +74,10 @@ module _ (P : Wire → Type 0) (quiet : (magic : ℕ) (b : MessageBody) → carr
     queued now w p e h = record { setup = h .setup; carried = h .carried; out = each-append P (e .out) (w ∷ []) (h .out) (p, tt); events = h .events }
 
     said : (now : ℕ) (b : MessageBody) → carries b ≡ false → (e : Effect) → Doing c news e → Doing c news (queue now b e)
-    said now b q e h = queued now (plain (e .state .setup .magic) b) (quiet (e .state .setup .magic) b q) e h
+    said now b q e h = queued now (bodyOnly (e .state .setup .magic) b) (quiet (e .state .setup .magic) b q) e h
 
     -- another event, and such a state
-    announcing : (event : Event) → isInput (record { event = event; input = replicate 16 0 }) ≡ false → (t : Seen) (e : Effect) → t .setup ≡ e .state .setup
+    announcing : (event : Event) → isInput (withoutInput event) ≡ false → (t : Seen) (e : Effect) → t .setup ≡ e .state .setup
         → t .carried ≡ e .state .carried → Doing c news e → Doing c news (announceEvent event (change (λ _. t) e))
     unfolding kept
     announcing event q t e p r h =
@@ -187,7 +187,7 @@ module _ (P : Wire → Type 0) (quiet : (magic : ℕ) (b : MessageBody) → carr
   informs c true reports e h = by-pick (Doing c []) (announces (e .state)) _ e (λ _. announcing c [] Event.Disconnected refl _ e refl refl h) (λ _. h)
   informs c false reports e h = moved c [] _ e refl refl h
 
-  acksOut : (c : Carried) (news : List Entry) (now : ℕ) (acks : List ℕ) → Each (λ a. (magic : ℕ) → P (plain magic (InputAck a))) acks → (e : Effect) → Doing c news e
+  acksOut : (c : Carried) (news : List Entry) (now : ℕ) (acks : List ℕ) → Each (λ a. (magic : ℕ) → P (bodyOnly magic (InputAck a))) acks → (e : Effect) → Doing c news e
       → Doing c news (acksQueued now acks e)
   unfolding Each
   acksOut c news now [] p e h = h
@@ -209,7 +209,7 @@ module _ (P : Wire → Type 0) (quiet : (magic : ℕ) (b : MessageBody) → carr
     holds now true t = refl
     holds now false t = refl
 
-    got-does : (now ack : ℕ) (e : Effect) → Each (λ a. (magic : ℕ) → P (plain magic (InputAck a))) (gotIn .acks) → Doing (droppedIn ack) [] e
+    got-does : (now ack : ℕ) (e : Effect) → Each (λ a. (magic : ℕ) → P (bodyOnly magic (InputAck a))) (gotIn .acks) → Doing (droppedIn ack) [] e
         → Doing (takenIn ack) (announcedEach (s .setup .inputSize) (s .setup .handles) (gotIn .newFrames)) (inputsReceived now gotIn e)
     unfolding inputsReceived
     got-does now ack e p h =
@@ -220,7 +220,7 @@ module _ (P : Wire → Type 0) (quiet : (magic : ℕ) (b : MessageBody) → carr
           events = rw (h .setup) (kept-append isInput (e .events) _ ∙ rw (h .events, each-inputs (s .setup .inputSize) (s .setup .handles) (gotIn .newFrames)));
         })
 
-    pub taking : (now ack : ℕ) (d : Bool) (reports : List StatusReport) → Each (λ a. (magic : ℕ) → P (plain magic (InputAck a))) (gotIn .acks)
+    pub taking : (now ack : ℕ) (d : Bool) (reports : List StatusReport) → Each (λ a. (magic : ℕ) → P (bodyOnly magic (InputAck a))) (gotIn .acks)
         → Doing (takenIn ack) (announcedEach (s .setup .inputSize) (s .setup .handles) (gotIn .newFrames)) (inputTaken now (inputMessage d start ack reports payload) (heard now s))
     unfolding inputTaken
     taking now ack d reports p =

@@ -6,7 +6,7 @@ use mathlib.Core.Logic.{inl, inr}
 use mathlib.Core.Path.{_≡_, refl, sym, ap, _∙_}
 use Prim.Native.Nat.{ℕ, zero, suc, _+_, _^_, _≤_, _<_}
 use native.Mathlib.Omega.{arith}
-use lib.ListN.{length, replicate}
+use lib.ListN.{length}
 use Rattle.base.specs.Little.{Bytes}
 use Rattle.base.specs.Keyed.{kept, has, without}
 use Rattle.frame.specs.Bias.{nullFrame}
@@ -14,33 +14,33 @@ use Rattle.packing.specs.Packing.{xors, framesOf, unpack, pack, decodableLength
 use Rattle.packing.specs.Pad.{zeros, padded}
 use Rattle.packing.specs.declared.input_bytes.InputBytes.{InputBytes}
 use Rattle.pending.specs.Pending.{dropTo, lastTo, room, firstFrame, lastFrame, payload}
-use Rattle.history.specs.History.{blank, highest, newestOf, foundIn, referenceFrame, atLine, above, numbered, packetOf, takenIn}
+use Rattle.history.specs.History.{blankFrame, highest, newestOf, foundIn, referenceFrame, atLine, above, numbered, packetOf, takenIn}
 use Rattle.nonces.specs.Nonces.{issued, fits}
 use Rattle.status.specs.Status.{defaultStatus, reported, merged}
-use Rattle.status.specs.Statuses.{mergedAll, fresh as freshStatuses}
+use Rattle.status.specs.Statuses.{mergedAll, defaultStatuses}
 use Rattle.codec.specs.Message.{Wire, Fits, FitsBody, FitsReports}
 use Rattle.codec.specs.Bytes.{bytes}
-use Rattle.codec.specs.Read.{plain}
+use Rattle.codec.specs.Read.{bodyOnly}
 use Rattle.codec.specs.declared.MessageBody.{MessageBody}
 use Rattle.codec.specs.declared.MessageBody.the-variants.{SyncRequest, SyncReply, Input, InputAck}
 use Rattle.codec.proofs.Laws.{read-bytes}
 use Rattle.codec.proofs.Octets.{bytes-bytes}
 use Rattle.codec.proofs.Meant.{input-is}
-use Rattle.events.specs.Events.{hasRoom, inputOf, inputEntry, announced}
+use Rattle.events.specs.Events.{hasRoom, inputOf, withoutInput, inputEntry, announced, announcedEach}
 use Rattle.events.specs.declared.Entry.{Entry}
 use Rattle.events.specs.declared.Event.{Event}
 use Rattle.events.specs.declared.Event.the-variants as Event
 use Rattle.quality.specs.Quality.{startedAt, freshQuality}
 use Rattle.setup.specs.declared.Setup.{Setup}
 use Rattle.setup.specs.Setup.{badSetup, anyAbove, anyTwice, inserted, sorted, termsWith}
-use Rattle.outbox.specs.Outbox.{sizes, reportOf, pendingInput}
+use Rattle.outbox.specs.Outbox.{queueSize, reportOf, pendingInput}
 use Rattle.endpoint_rules.specs.declared.Phase.the-variants.{Synchronizing, Running}
 use Rattle.endpoint_rules.specs.Seen.{Seen, Sender, made, withCarried, withPhase, withSync, withQuality, withEvents, withQueued, sentAt, heardAt, inputAt}
 use Rattle.endpoint_rules.specs.Did.{refused, decided, queueWire, done}
 use Rattle.endpoint_rules.specs.Room.{bufferFull, isFull}
 use Rattle.endpoint_rules.specs.Handshake.{nonceIssued, request, started, synchronized, counted, running, replied, onSyncReply}
 use Rattle.endpoint_rules.specs.Sending.{droppedTo, acknowledged, badFrame, pendingQueued, accepted, tooMany, inputSent}
-use Rattle.endpoint_rules.specs.Receiving.{taken, receivedIf, receive, announcedEach, discarded, packetOverflows, statusesMerged, informed, inputsReceived, inputTaken, inputUnless, onInput, onInputAck}
+use Rattle.endpoint_rules.specs.Receiving.{taken, receivedIf, receive, discarded, packetOverflows, statusesMerged, informed, inputsReceived, inputTaken, inputUnless, onInput, onInputAck}
 use Rattle.endpoint_rules.specs.Call.{Call}
 use Rattle.endpoint_rules.specs.Step.{fresh, synchronizeStep, ignored, resumed, heard, onBody, reacted, messageStep, sendStep, step}
 use Rattle.endpoint_rules.proofs.Datagrams.{bytes-message}
@@ -74,7 +74,7 @@ b0 = starts (fresh narrow 1000 .1)
 -- ---- the calls
 
 abbrev reply : (magic nonce : ℕ) → Call
-reply magic nonce = hand (plain magic (SyncReply nonce)) 1000 (nonce + 1)
+reply magic nonce = hand (bodyOnly magic (SyncReply nonce)) 1000 (nonce + 1)
 
 -- the handshake with the end of a magic
 abbrev greeting : (magic : ℕ) → List Call
@@ -110,7 +110,7 @@ abbrev J2 : Wire
 J2 = input 9 2 (fr 3) (2 ∷ 5 ∷ [])
 
 abbrev ack : (magic frame : ℕ) → Wire
-ack magic frame = plain magic (InputAck (fr frame))
+ack magic frame = bodyOnly magic (InputAck (fr frame))
 
 -- ---- the ends after calls, one after the other
 
@@ -121,14 +121,11 @@ nexts (c ∷ cs) x = nexts cs (next c x)
 -- after its handshake
 abbrev requests : (magic : ℕ) → List Wire → List Wire
 requests magic l =
-    plain magic (SyncRequest 1) ∷ plain magic (SyncRequest 2) ∷ plain magic (SyncRequest 3) ∷ plain magic (SyncRequest 4) ∷ plain magic (SyncRequest 5) ∷ l
-
-abbrev happened : Event → Entry
-happened e = record { event = e; input = replicate 16 0 }
+    bodyOnly magic (SyncRequest 1) ∷ bodyOnly magic (SyncRequest 2) ∷ bodyOnly magic (SyncRequest 3) ∷ bodyOnly magic (SyncRequest 4) ∷ bodyOnly magic (SyncRequest 5) ∷ l
 
 abbrev synchronizing : List Entry
 synchronizing =
-    happened (Event.Synchronizing 5 1) ∷ happened (Event.Synchronizing 5 2) ∷ happened (Event.Synchronizing 5 3) ∷ happened (Event.Synchronizing 5 4) ∷ happened Event.Synchronized ∷ []
+    withoutInput (Event.Synchronizing 5 1) ∷ withoutInput (Event.Synchronizing 5 2) ∷ withoutInput (Event.Synchronizing 5 3) ∷ withoutInput (Event.Synchronizing 5 4) ∷ withoutInput Event.Synchronized ∷ []
 
 abbrev entry : (frame x y : ℕ) → InputBytes
 entry frame x y = record { frame = fr frame; bytes = padded (x ∷ y ∷ []) }
@@ -145,7 +142,7 @@ playing g other sender history inputTime heardTime sendTime events bytes =
 abbrev ready : Setup → (magic other : ℕ) → End
 ready g magic other =
     record {
-      state = playing g other (record { pending = []; acked = blank }) (blank ∷ []) 1000 1000 1000 synchronizing 50;
+      state = playing g other (record { pending = []; acked = blankFrame }) (blankFrame ∷ []) 1000 1000 1000 synchronizing 50;
       queued = requests magic [];
       taken = [];
       accepted = [];
@@ -165,29 +162,29 @@ halfway g magic =
           withPhase Synchronizing
           (withSync (record { remaining = 3; nonces = 3 ∷ []; remoteMagic = 0 })
           (withQuality (startedAt 71000 freshQuality)
-          (withEvents (happened (Event.Synchronizing 5 1) ∷ happened (Event.Synchronizing 5 2) ∷ []) (withQueued 30 (fresh g 1000 .1)))));
-      queued = plain magic (SyncRequest 1) ∷ plain magic (SyncRequest 2) ∷ plain magic (SyncRequest 3) ∷ [];
+          (withEvents (withoutInput (Event.Synchronizing 5 1) ∷ withoutInput (Event.Synchronizing 5 2) ∷ []) (withQueued 30 (fresh g 1000 .1)))));
+      queued = bodyOnly magic (SyncRequest 1) ∷ bodyOnly magic (SyncRequest 2) ∷ bodyOnly magic (SyncRequest 3) ∷ [];
       taken = [];
       accepted = [];
     }
 
 a-half : nexts (first-half 9) a0 ≡ halfway wide 7
-unfolding kept has without xors framesOf unpack pack decodableLength decodable zeros padded dropTo lastTo room firstFrame lastFrame payload blank highest newestOf foundIn atLine above numbered packetOf takenIn issued fits defaultStatus reported merged mergedAll freshStatuses hasRoom inputOf inputEntry announced badSetup anyAbove anyTwice inserted sorted termsWith made refused decided queueWire sizes reportOf pendingInput done bufferFull isFull nonceIssued request started synchronized counted running replied onSyncReply droppedTo acknowledged badFrame pendingQueued accepted tooMany inputSent referenceFrame taken receivedIf receive announcedEach discarded packetOverflows statusesMerged informed inputsReceived inputTaken inputUnless onInput onInputAck fresh synchronizeStep ignored resumed heard onBody reacted messageStep sendStep step joined announcedIn
+unfolding kept has without xors framesOf unpack pack decodableLength decodable zeros padded dropTo lastTo room firstFrame lastFrame payload blankFrame highest newestOf foundIn atLine above numbered packetOf takenIn issued fits defaultStatus reported merged mergedAll defaultStatuses hasRoom inputOf inputEntry announced badSetup anyAbove anyTwice inserted sorted termsWith made refused decided queueWire queueSize reportOf pendingInput done bufferFull isFull nonceIssued request started synchronized counted running replied onSyncReply droppedTo acknowledged badFrame pendingQueued accepted tooMany inputSent referenceFrame taken receivedIf receive announcedEach discarded packetOverflows statusesMerged informed inputsReceived inputTaken inputUnless onInput onInputAck fresh synchronizeStep ignored resumed heard onBody reacted messageStep sendStep step joined announcedIn
 a-half = refl
 
 a-rest : nexts (second-half 9) (halfway wide 7) ≡ ready wide 7 9
-unfolding kept has without xors framesOf unpack pack decodableLength decodable zeros padded dropTo lastTo room firstFrame lastFrame payload blank highest newestOf foundIn atLine above numbered packetOf takenIn issued fits defaultStatus reported merged mergedAll freshStatuses hasRoom inputOf inputEntry announced badSetup anyAbove anyTwice inserted sorted termsWith made refused decided queueWire sizes reportOf pendingInput done bufferFull isFull nonceIssued request started synchronized counted running replied onSyncReply droppedTo acknowledged badFrame pendingQueued accepted tooMany inputSent referenceFrame taken receivedIf receive announcedEach discarded packetOverflows statusesMerged informed inputsReceived inputTaken inputUnless onInput onInputAck fresh synchronizeStep ignored resumed heard onBody reacted messageStep sendStep step joined announcedIn
+unfolding kept has without xors framesOf unpack pack decodableLength decodable zeros padded dropTo lastTo room firstFrame lastFrame payload blankFrame highest newestOf foundIn atLine above numbered packetOf takenIn issued fits defaultStatus reported merged mergedAll defaultStatuses hasRoom inputOf inputEntry announced badSetup anyAbove anyTwice inserted sorted termsWith made refused decided queueWire queueSize reportOf pendingInput done bufferFull isFull nonceIssued request started synchronized counted running replied onSyncReply droppedTo acknowledged badFrame pendingQueued accepted tooMany inputSent referenceFrame taken receivedIf receive announcedEach discarded packetOverflows statusesMerged informed inputsReceived inputTaken inputUnless onInput onInputAck fresh synchronizeStep ignored resumed heard onBody reacted messageStep sendStep step joined announcedIn
 a-rest = refl
 
 a-ready : nexts (greeting 9) a0 ≡ ready wide 7 9
 a-ready = ap (nexts (second-half 9)) a-half ∙ a-rest
 
 b-half : nexts (first-half 7) b0 ≡ halfway narrow 9
-unfolding kept has without xors framesOf unpack pack decodableLength decodable zeros padded dropTo lastTo room firstFrame lastFrame payload blank highest newestOf foundIn atLine above numbered packetOf takenIn issued fits defaultStatus reported merged mergedAll freshStatuses hasRoom inputOf inputEntry announced badSetup anyAbove anyTwice inserted sorted termsWith made refused decided queueWire sizes reportOf pendingInput done bufferFull isFull nonceIssued request started synchronized counted running replied onSyncReply droppedTo acknowledged badFrame pendingQueued accepted tooMany inputSent referenceFrame taken receivedIf receive announcedEach discarded packetOverflows statusesMerged informed inputsReceived inputTaken inputUnless onInput onInputAck fresh synchronizeStep ignored resumed heard onBody reacted messageStep sendStep step joined announcedIn
+unfolding kept has without xors framesOf unpack pack decodableLength decodable zeros padded dropTo lastTo room firstFrame lastFrame payload blankFrame highest newestOf foundIn atLine above numbered packetOf takenIn issued fits defaultStatus reported merged mergedAll defaultStatuses hasRoom inputOf inputEntry announced badSetup anyAbove anyTwice inserted sorted termsWith made refused decided queueWire queueSize reportOf pendingInput done bufferFull isFull nonceIssued request started synchronized counted running replied onSyncReply droppedTo acknowledged badFrame pendingQueued accepted tooMany inputSent referenceFrame taken receivedIf receive announcedEach discarded packetOverflows statusesMerged informed inputsReceived inputTaken inputUnless onInput onInputAck fresh synchronizeStep ignored resumed heard onBody reacted messageStep sendStep step joined announcedIn
 b-half = refl
 
 b-rest : nexts (second-half 7) (halfway narrow 9) ≡ ready narrow 9 7
-unfolding kept has without xors framesOf unpack pack decodableLength decodable zeros padded dropTo lastTo room firstFrame lastFrame payload blank highest newestOf foundIn atLine above numbered packetOf takenIn issued fits defaultStatus reported merged mergedAll freshStatuses hasRoom inputOf inputEntry announced badSetup anyAbove anyTwice inserted sorted termsWith made refused decided queueWire sizes reportOf pendingInput done bufferFull isFull nonceIssued request started synchronized counted running replied onSyncReply droppedTo acknowledged badFrame pendingQueued accepted tooMany inputSent referenceFrame taken receivedIf receive announcedEach discarded packetOverflows statusesMerged informed inputsReceived inputTaken inputUnless onInput onInputAck fresh synchronizeStep ignored resumed heard onBody reacted messageStep sendStep step joined announcedIn
+unfolding kept has without xors framesOf unpack pack decodableLength decodable zeros padded dropTo lastTo room firstFrame lastFrame payload blankFrame highest newestOf foundIn atLine above numbered packetOf takenIn issued fits defaultStatus reported merged mergedAll defaultStatuses hasRoom inputOf inputEntry announced badSetup anyAbove anyTwice inserted sorted termsWith made refused decided queueWire queueSize reportOf pendingInput done bufferFull isFull nonceIssued request started synchronized counted running replied onSyncReply droppedTo acknowledged badFrame pendingQueued accepted tooMany inputSent referenceFrame taken receivedIf receive announcedEach discarded packetOverflows statusesMerged informed inputsReceived inputTaken inputUnless onInput onInputAck fresh synchronizeStep ignored resumed heard onBody reacted messageStep sendStep step joined announcedIn
 b-rest = refl
 
 b-ready : nexts (greeting 7) b0 ≡ ready narrow 9 7
@@ -216,7 +213,7 @@ abbrev b2 : End
 b2 =
     record {
       state =
-          playing narrow 7 (record { pending = entry 0 1 2 ∷ entry 1 3 4 ∷ []; acked = blank }) (blank ∷ entry 0 5 7 ∷ entry 1 6 8 ∷ []) 2002 2002 2000
+          playing narrow 7 (record { pending = entry 0 1 2 ∷ entry 1 3 4 ∷ []; acked = blankFrame }) (blankFrame ∷ entry 0 5 7 ∷ entry 1 6 8 ∷ []) 2002 2002 2000
           (synchronizing ++ inputEntry (fr 0) 0 (5 ∷ []) ∷ inputEntry (fr 0) 1 (7 ∷ []) ∷ inputEntry (fr 1) 0 (6 ∷ []) ∷ inputEntry (fr 1) 1 (8 ∷ []) ∷ []) 168;
       queued = requests 9 (ack 9 1 ∷ ack 9 1 ∷ ack 9 1 ∷ J0 ∷ J1 ∷ []);
       taken = [];
@@ -228,7 +225,7 @@ abbrev b1-as : End
 b1-as =
     record {
       state =
-          playing narrow 7 (record { pending = []; acked = blank }) (blank ∷ entry 0 5 7 ∷ entry 1 6 8 ∷ []) 2002 2002 2002
+          playing narrow 7 (record { pending = []; acked = blankFrame }) (blankFrame ∷ entry 0 5 7 ∷ entry 1 6 8 ∷ []) 2002 2002 2002
           (synchronizing ++ inputEntry (fr 0) 0 (5 ∷ []) ∷ inputEntry (fr 0) 1 (7 ∷ []) ∷ inputEntry (fr 1) 0 (6 ∷ []) ∷ inputEntry (fr 1) 1 (8 ∷ []) ∷ []) 80;
       queued = requests 9 (ack 9 1 ∷ ack 9 1 ∷ ack 9 1 ∷ []);
       taken = [];
@@ -236,11 +233,11 @@ b1-as =
     }
 
 b1-is : b1 ≡ b1-as
-unfolding kept has without xors framesOf unpack pack decodableLength decodable zeros padded dropTo lastTo room firstFrame lastFrame payload blank highest newestOf foundIn atLine above numbered packetOf takenIn issued fits defaultStatus reported merged mergedAll freshStatuses hasRoom inputOf inputEntry announced badSetup anyAbove anyTwice inserted sorted termsWith made refused decided queueWire sizes reportOf pendingInput done bufferFull isFull nonceIssued request started synchronized counted running replied onSyncReply droppedTo acknowledged badFrame pendingQueued accepted tooMany inputSent referenceFrame taken receivedIf receive announcedEach discarded packetOverflows statusesMerged informed inputsReceived inputTaken inputUnless onInput onInputAck fresh synchronizeStep ignored resumed heard onBody reacted messageStep sendStep step joined announcedIn
+unfolding kept has without xors framesOf unpack pack decodableLength decodable zeros padded dropTo lastTo room firstFrame lastFrame payload blankFrame highest newestOf foundIn atLine above numbered packetOf takenIn issued fits defaultStatus reported merged mergedAll defaultStatuses hasRoom inputOf inputEntry announced badSetup anyAbove anyTwice inserted sorted termsWith made refused decided queueWire queueSize reportOf pendingInput done bufferFull isFull nonceIssued request started synchronized counted running replied onSyncReply droppedTo acknowledged badFrame pendingQueued accepted tooMany inputSent referenceFrame taken receivedIf receive announcedEach discarded packetOverflows statusesMerged informed inputsReceived inputTaken inputUnless onInput onInputAck fresh synchronizeStep ignored resumed heard onBody reacted messageStep sendStep step joined announcedIn
 b1-is = refl
 
 b2-from : nexts (send 0 1 2 ∷ send 1 3 4 ∷ []) b1-as ≡ b2
-unfolding kept has without xors framesOf unpack pack decodableLength decodable zeros padded dropTo lastTo room firstFrame lastFrame payload blank highest newestOf foundIn atLine above numbered packetOf takenIn issued fits defaultStatus reported merged mergedAll freshStatuses hasRoom inputOf inputEntry announced badSetup anyAbove anyTwice inserted sorted termsWith made refused decided queueWire sizes reportOf pendingInput done bufferFull isFull nonceIssued request started synchronized counted running replied onSyncReply droppedTo acknowledged badFrame pendingQueued accepted tooMany inputSent referenceFrame taken receivedIf receive announcedEach discarded packetOverflows statusesMerged informed inputsReceived inputTaken inputUnless onInput onInputAck fresh synchronizeStep ignored resumed heard onBody reacted messageStep sendStep step joined announcedIn
+unfolding kept has without xors framesOf unpack pack decodableLength decodable zeros padded dropTo lastTo room firstFrame lastFrame payload blankFrame highest newestOf foundIn atLine above numbered packetOf takenIn issued fits defaultStatus reported merged mergedAll defaultStatuses hasRoom inputOf inputEntry announced badSetup anyAbove anyTwice inserted sorted termsWith made refused decided queueWire queueSize reportOf pendingInput done bufferFull isFull nonceIssued request started synchronized counted running replied onSyncReply droppedTo acknowledged badFrame pendingQueued accepted tooMany inputSent referenceFrame taken receivedIf receive announcedEach discarded packetOverflows statusesMerged informed inputsReceived inputTaken inputUnless onInput onInputAck fresh synchronizeStep ignored resumed heard onBody reacted messageStep sendStep step joined announcedIn
 b2-from = refl
 
 b2-is : nexts (send 0 1 2 ∷ send 1 3 4 ∷ []) b1 ≡ b2
@@ -254,7 +251,7 @@ abbrev a3 : End
 a3 =
     record {
       state =
-          playing wide 9 (record { pending = entry 2 9 9 ∷ entry 3 9 10 ∷ []; acked = entry 1 6 8 }) (blank ∷ entry 0 1 2 ∷ entry 1 3 4 ∷ []) 2003 2003 2000
+          playing wide 9 (record { pending = entry 2 9 9 ∷ entry 3 9 10 ∷ []; acked = entry 1 6 8 }) (blankFrame ∷ entry 0 1 2 ∷ entry 1 3 4 ∷ []) 2003 2003 2000
           (synchronizing ++ inputEntry (fr 0) 1 (1 ∷ 2 ∷ []) ∷ inputEntry (fr 1) 1 (3 ∷ 4 ∷ []) ∷ []) 236;
       queued = requests 7 (I0 ∷ I1 ∷ ack 7 1 ∷ I2 ∷ I3 ∷ []);
       taken = [];
@@ -262,7 +259,7 @@ a3 =
     }
 
 a3-is : nexts (send 2 9 9 ∷ send 3 9 10 ∷ []) a2 ≡ a3
-unfolding kept has without xors framesOf unpack pack decodableLength decodable zeros padded dropTo lastTo room firstFrame lastFrame payload blank highest newestOf foundIn atLine above numbered packetOf takenIn issued fits defaultStatus reported merged mergedAll freshStatuses hasRoom inputOf inputEntry announced badSetup anyAbove anyTwice inserted sorted termsWith made refused decided queueWire sizes reportOf pendingInput done bufferFull isFull nonceIssued request started synchronized counted running replied onSyncReply droppedTo acknowledged badFrame pendingQueued accepted tooMany inputSent referenceFrame taken receivedIf receive announcedEach discarded packetOverflows statusesMerged informed inputsReceived inputTaken inputUnless onInput onInputAck fresh synchronizeStep ignored resumed heard onBody reacted messageStep sendStep step joined announcedIn
+unfolding kept has without xors framesOf unpack pack decodableLength decodable zeros padded dropTo lastTo room firstFrame lastFrame payload blankFrame highest newestOf foundIn atLine above numbered packetOf takenIn issued fits defaultStatus reported merged mergedAll defaultStatuses hasRoom inputOf inputEntry announced badSetup anyAbove anyTwice inserted sorted termsWith made refused decided queueWire queueSize reportOf pendingInput done bufferFull isFull nonceIssued request started synchronized counted running replied onSyncReply droppedTo acknowledged badFrame pendingQueued accepted tooMany inputSent referenceFrame taken receivedIf receive announcedEach discarded packetOverflows statusesMerged informed inputsReceived inputTaken inputUnless onInput onInputAck fresh synchronizeStep ignored resumed heard onBody reacted messageStep sendStep step joined announcedIn
 a3-is = refl
 
 abbrev b3 : End
@@ -279,11 +276,11 @@ a4 = nexts (hand (ack 9 3) 2005 0 ∷ hand J2 2006 0 ∷ []) a3
 
 -- the messages queued, so that those handed over are among them
 first-queue : a1 .queued ≡ requests 7 (I0 ∷ I1 ∷ [])
-unfolding kept has without xors framesOf unpack pack decodableLength decodable zeros padded dropTo lastTo room firstFrame lastFrame payload blank highest newestOf foundIn atLine above numbered packetOf takenIn issued fits defaultStatus reported merged mergedAll freshStatuses hasRoom inputOf inputEntry announced badSetup anyAbove anyTwice inserted sorted termsWith made refused decided queueWire sizes reportOf pendingInput done bufferFull isFull nonceIssued request started synchronized counted running replied onSyncReply droppedTo acknowledged badFrame pendingQueued accepted tooMany inputSent referenceFrame taken receivedIf receive announcedEach discarded packetOverflows statusesMerged informed inputsReceived inputTaken inputUnless onInput onInputAck fresh synchronizeStep ignored resumed heard onBody reacted messageStep sendStep step joined announcedIn
+unfolding kept has without xors framesOf unpack pack decodableLength decodable zeros padded dropTo lastTo room firstFrame lastFrame payload blankFrame highest newestOf foundIn atLine above numbered packetOf takenIn issued fits defaultStatus reported merged mergedAll defaultStatuses hasRoom inputOf inputEntry announced badSetup anyAbove anyTwice inserted sorted termsWith made refused decided queueWire queueSize reportOf pendingInput done bufferFull isFull nonceIssued request started synchronized counted running replied onSyncReply droppedTo acknowledged badFrame pendingQueued accepted tooMany inputSent referenceFrame taken receivedIf receive announcedEach discarded packetOverflows statusesMerged informed inputsReceived inputTaken inputUnless onInput onInputAck fresh synchronizeStep ignored resumed heard onBody reacted messageStep sendStep step joined announcedIn
 first-queue = refl
 
 last-queue : b4 .queued ≡ requests 9 (ack 9 1 ∷ ack 9 1 ∷ ack 9 1 ∷ J0 ∷ J1 ∷ ack 9 3 ∷ J2 ∷ [])
-unfolding kept has without xors framesOf unpack pack decodableLength decodable zeros padded dropTo lastTo room firstFrame lastFrame payload blank highest newestOf foundIn atLine above numbered packetOf takenIn issued fits defaultStatus reported merged mergedAll freshStatuses hasRoom inputOf inputEntry announced badSetup anyAbove anyTwice inserted sorted termsWith made refused decided queueWire sizes reportOf pendingInput done bufferFull isFull nonceIssued request started synchronized counted running replied onSyncReply droppedTo acknowledged badFrame pendingQueued accepted tooMany inputSent referenceFrame taken receivedIf receive announcedEach discarded packetOverflows statusesMerged informed inputsReceived inputTaken inputUnless onInput onInputAck fresh synchronizeStep ignored resumed heard onBody reacted messageStep sendStep step joined announcedIn
+unfolding kept has without xors framesOf unpack pack decodableLength decodable zeros padded dropTo lastTo room firstFrame lastFrame payload blankFrame highest newestOf foundIn atLine above numbered packetOf takenIn issued fits defaultStatus reported merged mergedAll defaultStatuses hasRoom inputOf inputEntry announced badSetup anyAbove anyTwice inserted sorted termsWith made refused decided queueWire queueSize reportOf pendingInput done bufferFull isFull nonceIssued request started synchronized counted running replied onSyncReply droppedTo acknowledged badFrame pendingQueued accepted tooMany inputSent referenceFrame taken receivedIf receive announcedEach discarded packetOverflows statusesMerged informed inputsReceived inputTaken inputUnless onInput onInputAck fresh synchronizeStep ignored resumed heard onBody reacted messageStep sendStep step joined announcedIn
 last-queue = refl
 
 -- what each accepted, and what the other announced of it: each frame once, for each player with its bytes
@@ -299,7 +296,7 @@ pub sample-facts : (a4 .accepted ≡ frame 0 5 7 ∷ frame 1 6 8 ∷ frame 2 9 9
     -- everything that the first end sent is acknowledged; of the second end's frames one is still pending
     × (a4 .state .carried .sender .pending ≡ [])
     × (length (b4 .state .carried .sender .pending) ≡ 1)
-unfolding kept has without xors framesOf unpack pack decodableLength decodable zeros padded dropTo lastTo room firstFrame lastFrame payload blank highest newestOf foundIn atLine above numbered packetOf takenIn issued fits defaultStatus reported merged mergedAll freshStatuses hasRoom inputOf inputEntry announced badSetup anyAbove anyTwice inserted sorted termsWith made refused decided queueWire sizes reportOf pendingInput done bufferFull isFull nonceIssued request started synchronized counted running replied onSyncReply droppedTo acknowledged badFrame pendingQueued accepted tooMany inputSent referenceFrame taken receivedIf receive announcedEach discarded packetOverflows statusesMerged informed inputsReceived inputTaken inputUnless onInput onInputAck fresh synchronizeStep ignored resumed heard onBody reacted messageStep sendStep step joined announcedIn
+unfolding kept has without xors framesOf unpack pack decodableLength decodable zeros padded dropTo lastTo room firstFrame lastFrame payload blankFrame highest newestOf foundIn atLine above numbered packetOf takenIn issued fits defaultStatus reported merged mergedAll defaultStatuses hasRoom inputOf inputEntry announced badSetup anyAbove anyTwice inserted sorted termsWith made refused decided queueWire queueSize reportOf pendingInput done bufferFull isFull nonceIssued request started synchronized counted running replied onSyncReply droppedTo acknowledged badFrame pendingQueued accepted tooMany inputSent referenceFrame taken receivedIf receive announcedEach discarded packetOverflows statusesMerged informed inputsReceived inputTaken inputUnless onInput onInputAck fresh synchronizeStep ignored resumed heard onBody reacted messageStep sendStep step joined announcedIn
 sample-facts = (refl, refl, refl, refl, refl, refl)
 
 -- ---- so they are the ends of a run
@@ -356,8 +353,8 @@ input-typed : (magic start at : ℕ) (payload : List ℕ) (now : ℕ) → magic 
 input-typed magic start at payload now m s k h n =
     (omega arith, omega arith, record { magic = omega arith; body = (omega arith, omega arith); frames = none-typed; bytes = bytes-typed payload h }, (omega arith, omega arith, omega arith, omega arith))
 
-plain-typed : (magic : ℕ) (b : MessageBody) (now nonce : ℕ) → magic < 100 → FitsBody b → now < 10000 → nonce < 100 → Typed (hand (plain magic b) now nonce)
-plain-typed magic b now nonce m f n k =
+body-only-typed : (magic : ℕ) (b : MessageBody) (now nonce : ℕ) → magic < 100 → FitsBody b → now < 10000 → nonce < 100 → Typed (hand (bodyOnly magic b) now nonce)
+body-only-typed magic b now nonce m f n k =
     (omega arith, omega arith, record { magic = omega arith; body = f; frames = λ i d h. absurd (omega arith); bytes = λ i. omega arith }, (omega arith, omega arith, omega arith, omega arith))
 
 greeting-typed : (magic : ℕ) → magic < 100 → Each Typed (greeting magic)
@@ -366,7 +363,7 @@ greeting-typed magic m =
     ((omega arith, omega arith, omega arith, omega arith), (of 1 (omega arith), (of 2 (omega arith), (of 3 (omega arith), (of 4 (omega arith), (of 5 (omega arith), tt))))))
   where
     of : (nonce : ℕ) → nonce < 10 → Typed (reply magic nonce)
-    of nonce h = plain-typed magic (SyncReply nonce) 1000 (nonce + 1) m (omega arith) (omega arith) (omega arith)
+    of nonce h = body-only-typed magic (SyncReply nonce) 1000 (nonce + 1) m (omega arith) (omega arith) (omega arith)
 
 -- and a handshake carries no inputs
 greeting-free : (magic : ℕ) (l : List Wire) → Each (λ c. Allowed c l) (greeting magic)
@@ -455,7 +452,7 @@ pub sample : Run a4 b4
 unfolding Each
 sample =
     atA-all fourth (hand (ack 9 3) 2005 0 ∷ hand J2 2006 0 ∷ []) (
-      plain-typed 9 (InputAck (fr 3)) 2005 0 (omega arith) (omega arith) (omega arith) (omega arith),
+      body-only-typed 9 (InputAck (fr 3)) 2005 0 (omega arith) (omega arith) (omega arith) (omega arith),
       (input-typed 9 2 (fr 3) (2 ∷ 5 ∷ []) 2006 (omega arith) (omega arith) (omega arith) (omega arith, (omega arith, tt)) (omega arith), tt),
     ) (
       λ _. rw last-queue (after-requests 9 (there (there (there (there (there (here refl))))))),
@@ -476,7 +473,7 @@ abbrev lastHistory : List InputBytes
 lastHistory = record { frame = fr 1; bytes = padded (6 ∷ 8 ∷ []) } ∷ record { frame = fr 2; bytes = padded (9 ∷ 9 ∷ []) } ∷ record { frame = fr 3; bytes = padded (9 ∷ 10 ∷ []) } ∷ []
 
 passing : Passes I1 0 2000 (ready narrow 9 7) × Passes I3 2 2004 b2 × Passes I1 0 2007 b4 × (b4 .state .carried .receiver .history ≡ lastHistory)
-unfolding kept has without xors framesOf unpack pack decodableLength decodable zeros padded dropTo lastTo room firstFrame lastFrame payload blank highest newestOf foundIn atLine above numbered packetOf takenIn issued fits defaultStatus reported merged mergedAll freshStatuses hasRoom inputOf inputEntry announced badSetup anyAbove anyTwice inserted sorted termsWith made refused decided queueWire sizes reportOf pendingInput done bufferFull isFull nonceIssued request started synchronized counted running replied onSyncReply droppedTo acknowledged badFrame pendingQueued accepted tooMany inputSent referenceFrame taken receivedIf receive announcedEach discarded packetOverflows statusesMerged informed inputsReceived inputTaken inputUnless onInput onInputAck fresh synchronizeStep ignored resumed heard onBody reacted messageStep sendStep step joined announcedIn
+unfolding kept has without xors framesOf unpack pack decodableLength decodable zeros padded dropTo lastTo room firstFrame lastFrame payload blankFrame highest newestOf foundIn atLine above numbered packetOf takenIn issued fits defaultStatus reported merged mergedAll defaultStatuses hasRoom inputOf inputEntry announced badSetup anyAbove anyTwice inserted sorted termsWith made refused decided queueWire queueSize reportOf pendingInput done bufferFull isFull nonceIssued request started synchronized counted running replied onSyncReply droppedTo acknowledged badFrame pendingQueued accepted tooMany inputSent referenceFrame taken receivedIf receive announcedEach discarded packetOverflows statusesMerged informed inputsReceived inputTaken inputUnless onInput onInputAck fresh synchronizeStep ignored resumed heard onBody reacted messageStep sendStep step joined announcedIn
 passing = (
   (refl, record { alive = refl; known = refl; passes = inr refl }, record { from = omega arith; complete = inr refl }),
   (refl, record { alive = refl; known = refl; passes = inr refl }, record { from = omega arith; complete = inr refl }),
@@ -486,14 +483,14 @@ passing = (
 
 -- frames 0 and 1 are brought to an end that has no frame yet
 pub sample-brought : fr 0 + 2 ≤ suc (lastAnnounced nullFrame (announcedBy (next (hand I1 2000 0) (ready narrow 9 7))))
-unfolding kept has without xors framesOf unpack pack decodableLength decodable zeros padded dropTo lastTo room firstFrame lastFrame payload blank highest newestOf foundIn atLine above numbered packetOf takenIn issued fits defaultStatus reported merged mergedAll freshStatuses hasRoom inputOf inputEntry announced badSetup anyAbove anyTwice inserted sorted termsWith made refused decided queueWire sizes reportOf pendingInput done bufferFull isFull nonceIssued request started synchronized counted running replied onSyncReply droppedTo acknowledged badFrame pendingQueued accepted tooMany inputSent referenceFrame taken receivedIf receive announcedEach discarded packetOverflows statusesMerged informed inputsReceived inputTaken inputUnless onInput onInputAck fresh synchronizeStep ignored resumed heard onBody reacted messageStep sendStep step joined announcedIn
+unfolding kept has without xors framesOf unpack pack decodableLength decodable zeros padded dropTo lastTo room firstFrame lastFrame payload blankFrame highest newestOf foundIn atLine above numbered packetOf takenIn issued fits defaultStatus reported merged mergedAll defaultStatuses hasRoom inputOf inputEntry announced badSetup anyAbove anyTwice inserted sorted termsWith made refused decided queueWire queueSize reportOf pendingInput done bufferFull isFull nonceIssued request started synchronized counted running replied onSyncReply droppedTo acknowledged badFrame pendingQueued accepted tooMany inputSent referenceFrame taken receivedIf receive announcedEach discarded packetOverflows statusesMerged informed inputsReceived inputTaken inputUnless onInput onInputAck fresh synchronizeStep ignored resumed heard onBody reacted messageStep sendStep step joined announcedIn
 sample-brought =
     let p = passing .0 in
     brings first .1 .message 3 2 I1 2000 (epochAt 2000) 0 65536 I1-queued false (fr 0) nullFrame refl (p .0) (p .1) (p .2) .reaches (inl refl)
 
 -- frames 2 and 3 to an end that holds frame 1
 pub sample-held : fr 2 + 2 ≤ suc (lastAnnounced nullFrame (announcedBy b3))
-unfolding kept has without xors framesOf unpack pack decodableLength decodable zeros padded dropTo lastTo room firstFrame lastFrame payload blank highest newestOf foundIn atLine above numbered packetOf takenIn issued fits defaultStatus reported merged mergedAll freshStatuses hasRoom inputOf inputEntry announced badSetup anyAbove anyTwice inserted sorted termsWith made refused decided queueWire sizes reportOf pendingInput done bufferFull isFull nonceIssued request started synchronized counted running replied onSyncReply droppedTo acknowledged badFrame pendingQueued accepted tooMany inputSent referenceFrame taken receivedIf receive announcedEach discarded packetOverflows statusesMerged informed inputsReceived inputTaken inputUnless onInput onInputAck fresh synchronizeStep ignored resumed heard onBody reacted messageStep sendStep step joined announcedIn
+unfolding kept has without xors framesOf unpack pack decodableLength decodable zeros padded dropTo lastTo room firstFrame lastFrame payload blankFrame highest newestOf foundIn atLine above numbered packetOf takenIn issued fits defaultStatus reported merged mergedAll defaultStatuses hasRoom inputOf inputEntry announced badSetup anyAbove anyTwice inserted sorted termsWith made refused decided queueWire queueSize reportOf pendingInput done bufferFull isFull nonceIssued request started synchronized counted running replied onSyncReply droppedTo acknowledged badFrame pendingQueued accepted tooMany inputSent referenceFrame taken receivedIf receive announcedEach discarded packetOverflows statusesMerged informed inputsReceived inputTaken inputUnless onInput onInputAck fresh synchronizeStep ignored resumed heard onBody reacted messageStep sendStep step joined announcedIn
 sample-held =
     let p = passing .1 in
     brings third .1 .message 3 2 I3 2004 (epochAt 2004) 0 65536 I3-queued false (fr 2) (fr 1) refl (p .0) (p .1) (p .2) .reaches

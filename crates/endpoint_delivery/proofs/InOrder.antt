@@ -8,7 +8,7 @@ use lib.ListN.{length, take}
 use lib.Seq.{length-take-le}
 use Rattle.frame.specs.Bias.{nullFrame}
 use Rattle.packing.specs.Packing.{Wide}
-use Rattle.history.specs.History.{blank, newestOf}
+use Rattle.history.specs.History.{blankFrame, newestOf}
 use Rattle.events.specs.declared.Entry.{Entry}
 use Rattle.setup.specs.declared.Setup.{Setup}
 use Rattle.setup.specs.Setup.{SoundSetup}
@@ -108,7 +108,7 @@ last-framed size hs none f b (c ∷ l) = rw (last-framed size hs f (suc f) c l) 
 
 -- the reference after all frames of a tape's beginning is the last of them
 last-ref : {w : ℕ} (t : Tape w) (size : ℕ) (hs : List ℕ) (n : ℕ) → n ≤ length (t .bs) → lastAnnounced nullFrame (map (announcedTo size hs) (framed (t .f) (take n (t .bs)))) ≡ ref t n .frame
-unfolding lastAnnounced blank
+unfolding lastAnnounced blankFrame
 last-ref t size hs n m = go n (take n (t .bs)) (length-take-le n (t .bs) m)
   where
     go : (n : ℕ) (l : List (List ℕ)) → length l ≡ n → lastAnnounced nullFrame (map (announcedTo size hs) (framed (t .f) l)) ≡ ref t n .frame
@@ -148,7 +148,7 @@ module _ (a b : End) (d : Way (side a) (side b)) (h : SoundSetup (b .state .setu
 
   -- while its newest frame is none it announced none
   pub none-yet : newestOf (b .state .carried .receiver .history) ≡ nullFrame → announcedBy b ≡ []
-  unfolding blank
+  unfolding blankFrame
   none-yet e =
       let z : d .reached ≡ 0 = ref-inj (d .tape) (d .reached) 0 (sym (top-is (d .tape) (d .reached) (b .state .carried .receiver .history) (d .link .holding)) ∙ e) in
       rw z at announced-is

@@ -17,7 +17,7 @@ use Rattle.frame.specs.Bias.{nullFrame}
 use Rattle.packing.specs.Packing.{Wide}
 use Rattle.packing.specs.Pad.{padded}
 use Rattle.packing.specs.declared.input_bytes.InputBytes.{InputBytes}
-use Rattle.pending.specs.Pending.{dropTo, lastTo, lastFrame, frameBytes}
+use Rattle.pending.specs.Pending.{dropTo, lastTo, lastFrame, sentBytes}
 use Rattle.history.specs.History.{highest, newestOf, Found, foundIn, above, numbered}
 
 abbrev pub entry : ℕ → List ℕ → InputBytes
@@ -112,7 +112,7 @@ pub take-padded : (w : ℕ) (b : List ℕ) → w ≤ 64 → length b ≡ w → t
 unfolding padded
 take-padded w b few e = rw (take-all 64 b (omega arith)) (take-at b (replicate (64 - length b) 0) w e)
 
-pub bytes-numbered : (w f : ℕ) (l : List (List ℕ)) → w ≤ 64 → Wide w l → map (frameBytes w) (numbered f l) ≡ l
+pub bytes-numbered : (w f : ℕ) (l : List (List ℕ)) → w ≤ 64 → Wide w l → map (sentBytes w) (numbered f l) ≡ l
 unfolding numbered Wide
 bytes-numbered w f [] few h = refl
 bytes-numbered w f (b ∷ bs) few h = rw (take-padded w b few (h .0), bytes-numbered w (suc f) bs few (h .1))

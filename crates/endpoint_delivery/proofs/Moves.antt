@@ -19,7 +19,7 @@ use Rattle.packing.specs.Packing.{frameCount, decodable, Wide}
 use Rattle.packing.specs.declared.input_bytes.InputBytes.{InputBytes}
 use Rattle.packing.proofs.Laws.{pack-length}
 use Rattle.pending.specs.Pending.{firstFrame, payload}
-use Rattle.history.specs.History.{blank, newestOf, foundIn, referenceFrame, numbered, packetOf}
+use Rattle.history.specs.History.{blankFrame, newestOf, foundIn, referenceFrame, numbered, packetOf}
 use Rattle.history.proofs.Laws.{found-frame}
 use Rattle.codec.specs.Message.{Wire}
 use Rattle.events.specs.declared.Entry.{Entry}
@@ -27,9 +27,10 @@ use Rattle.events.specs.declared.Event.{Event}
 use Rattle.events.specs.declared.Event.the-variants as Event
 use Rattle.setup.specs.Setup.{Terms, SoundSetup, receivingWidth}
 use Rattle.setup.proofs.Laws.{receiving-within}
+use Rattle.events.specs.Events.{announcedEach}
 use Rattle.endpoint_rules.specs.Seen.{Sender, Receiver}
 use Rattle.endpoint_rules.specs.Sending.{droppedTo, lastAccepted, badFrame}
-use Rattle.endpoint_rules.specs.Receiving.{Reception, receivedIf, receive, announcedEach}
+use Rattle.endpoint_rules.specs.Receiving.{Reception, receivedIf, receive}
 use Rattle.endpoint_invariant.specs.Each.{Each}
 use Rattle.endpoint_invariant.specs.Sound.{SoundReceiver}
 use Rattle.endpoint_invariant.proofs.Choices.{and-none}
@@ -189,7 +190,7 @@ module _ {w : ℕ} (t : Tape w) (f : ℕ) (l : nullFrame < f) (m : f < 2 ^ 32) w
 
 -- ---- the moves
 
-pub begins : (w size : ℕ) (hs : List ℕ) → Dir w size hs (record { pending = []; acked = blank }) (record { history = blank ∷ [] }) [] [] [] []
+pub begins : (w size : ℕ) (hs : List ℕ) → Dir w size hs (record { pending = []; acked = blankFrame }) (record { history = blankFrame ∷ [] }) [] [] [] []
 unfolding Wide Each numbered kept announcedEach
 begins w size hs = record {
   tape = record { f = bias32; bs = []; first = omega arith; last = omega arith; wide = tt };
@@ -250,7 +251,7 @@ module _ {w size : ℕ} {hs : List ℕ} {s : Sender} {r : Receiver} {ls lr : Lis
   -- the sender accepts an input
   pub sends : (frame : ℕ) (b : List ℕ) → frame < 2 ^ 32 → length b ≡ w → badFrame frame s ≡ false
       → Dir w size hs (record { pending = s .pending ++ entry frame b ∷ []; acked = s .acked }) r ls lr (acc ++ record { number = frame; bytes = b } ∷ []) events
-  unfolding badFrame blank
+  unfolding badFrame blankFrame
   sends frame b small e h = go (length (d .tape .bs)) refl
     where
       from : bias32 ≤ frame
@@ -314,10 +315,10 @@ module _ (g : Terms) (sg : SoundSetup g) {size : ℕ} {hs : List ℕ} {s : Sende
       record { tape = d .tape; dropped = d .dropped; reached = t .count; link = record { behind = b; sending = sn; holding = hd; packets = pk; acks = ak; accepted = ac; announced = an } }
 
   ready-found : Awaits start r → foundIn (referenceFrame start (r .history)) (r .history) .held ≡ true
-  unfolding referenceFrame blank
+  unfolding referenceFrame blankFrame
   ready-found y = go (eqb (newestOf (r .history)) nullFrame) refl y
     where
-      blank-held : newestOf (r .history) ≡ nullFrame → Mem blank (r .history)
+      blank-held : newestOf (r .history) ≡ nullFrame → Mem blankFrame (r .history)
       blank-held e =
           let z : d .reached ≡ 0 = ref-inj (d .tape) (d .reached) 0 (sym (top-is (d .tape) (d .reached) (r .history) (d .link .holding)) ∙ e) in
           rw z at (d .link .holding .has)

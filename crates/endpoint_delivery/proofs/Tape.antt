@@ -17,8 +17,8 @@ use Rattle.packing.specs.Packing.{pack, unpack, decodable, Wide}
 use Rattle.packing.specs.declared.input_bytes.InputBytes.{InputBytes}
 use Rattle.packing.proofs.Laws.{unpack-pack, pack-decodable}
 use Rattle.packing.proofs.Pads.{zeros-length, padded-length}
-use Rattle.pending.specs.Pending.{dropTo, lastTo, firstFrame, lastFrame, payload, frameBytes}
-use Rattle.history.specs.History.{blank, newestOf, Found, foundIn, referenceFrame, stays, atLine, above, numbered, packetOf, takenIn}
+use Rattle.pending.specs.Pending.{dropTo, lastTo, firstFrame, lastFrame, payload, sentBytes}
+use Rattle.history.specs.History.{blankFrame, newestOf, Found, foundIn, referenceFrame, stays, atLine, above, numbered, packetOf, takenIn}
 use Rattle.history.proofs.Laws.{found-frame}
 use Rattle.codec.specs.Message.{Wire}
 use Rattle.setup.specs.Setup.{Terms, SoundSetup, receivingWidth}
@@ -44,7 +44,7 @@ pub record Tape (w : ℕ) : Type 0 where
 
 -- the reference after j frames: the blank one, then the j-th
 abbrev pub ref : {w : ℕ} → Tape w → ℕ → InputBytes
-ref {w} t zero = blank
+ref {w} t zero = blankFrame
 ref {w} t (suc j) = entry (t .f + j) (getD (t .bs) j [])
 
 abbrev pub part : {w : ℕ} → Tape w → ℕ → ℕ → List (List ℕ)
@@ -91,14 +91,14 @@ module _ {w : ℕ} (t : Tape w) where
 
 module _ {w : ℕ} (t : Tape w) where
   ref-le : (i j : ℕ) → i ≤ j → ref t i .frame ≤ ref t j .frame
-  unfolding blank
+  unfolding blankFrame
   ref-le zero zero h = omega arith
   ref-le zero (suc j) h = omega arith
   ref-le (suc i) zero h = absurd (omega arith)
   ref-le (suc i) (suc j) h = omega arith
 
   pub ref-inj : (i j : ℕ) → ref t i .frame ≡ ref t j .frame → i ≡ j
-  unfolding blank
+  unfolding blankFrame
   ref-inj zero zero h = refl
   ref-inj zero (suc j) h = absurd (omega arith)
   ref-inj (suc i) zero h = absurd (omega arith)
@@ -109,12 +109,12 @@ module _ {w : ℕ} (t : Tape w) where
   ref-suc (suc n) l = omega arith
 
   pub ref-long : (i : ℕ) → length (ref t i .bytes) ≡ 64
-  unfolding blank
+  unfolding blankFrame
   ref-long zero = zeros-length
   ref-long (suc i) = padded-length (getD (t .bs) i [])
 
   null-ref : (n : ℕ) → nullFrame ≤ ref t n .frame
-  unfolding blank
+  unfolding blankFrame
   null-ref n = ref-le 0 n (omega arith)
 
   pub size-part : (a b : ℕ) → b ≤ length (t .bs) → length (part t a b) ≡ b - a
@@ -150,7 +150,7 @@ module _ {w : ℕ} (t : Tape w) where
       record { most = m; pend = e; ackd = g }
 
   pub pop-inv : (k j : ℕ) (s : Sender) → Sending t k s → j ≤ length (t .bs) → (k′ : ℕ) × (k′ ≤ max k j) × Sending t k′ (droppedTo (ref t j .frame) s)
-  unfolding blank
+  unfolding blankFrame
   pop-inv k zero s h l = (k, omega arith, keep-inv k nullFrame s h (omega arith))
   pop-inv k (suc i) s h l = elim (below-or-not i k) [
     | inl a ↦ (k, omega arith, keep-inv k (t .f + i) s h (omega arith))
@@ -176,7 +176,7 @@ module _ {w : ℕ} (t : Tape w) where
   sent k n s x xs few h a p = rw (h .pend, h .ackd) (go (drop k (t .bs)) refl (sym (h .pend) ∙ p))
     where
       go : (l : List (List ℕ)) → drop k (t .bs) ≡ l → numbered (t .f + k) l ≡ x ∷ xs
-          → Packet t n (pack (ref t k .bytes) (map (frameBytes w) (numbered (t .f + k) l))) (firstFrame nullFrame (numbered (t .f + k) l))
+          → Packet t n (pack (ref t k .bytes) (map (sentBytes w) (numbered (t .f + k) l))) (firstFrame nullFrame (numbered (t .f + k) l))
       go [] q m = absurd (omega (arith, ap length m))
       go (b ∷ u) q m =
           let wd : Wide w (b ∷ u) = rw q at (wide-drop w k (t .bs) (t .wide)) in
@@ -231,7 +231,7 @@ module _ {w : ℕ} (t : Tape w) where
   -- of the frames from `from` on, those above the newest are those from n on
   above-is : (from n x : ℕ) (l : List (List ℕ)) → from ≤ n → x ≡ ref t n .frame
       → above x (numbered (t .f + from) (drop from l)) ≡ numbered (t .f + n) (drop n l)
-  unfolding blank
+  unfolding blankFrame
   above-is from zero x l h e = let q : from ≡ 0 = omega arith in rw q (above-all x (t .f + 0) l (omega arith))
   above-is from (suc n) x l h e =
       let d : ℕ = suc n - from in
@@ -246,7 +246,7 @@ module _ {w : ℕ} (t : Tape w) where
   -- the reference found is the one that the packet was made with
   ref-found : (n start : ℕ) (p : List ℕ) (h : List InputBytes) → Holding t n h → (k : Packet t n p start)
       → foundIn (referenceFrame start h) h .held ≡ true → foundIn (referenceFrame start h) h .input ≡ ref t (k .from)
-  unfolding referenceFrame blank
+  unfolding referenceFrame blankFrame
   ref-found n start p h i k q = go (eqb (newestOf h) nullFrame) refl (found-mem (referenceFrame start h) h q) (found-frame (referenceFrame start h) h q)
     where
       at : (from j : ℕ) → start ≡ t .f + from → ref t j .frame ≡ start - 1 → j ≡ from

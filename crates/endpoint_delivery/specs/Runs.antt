@@ -12,7 +12,7 @@ use Rattle.packing.specs.declared.input_bytes.InputBytes.{InputBytes}
 use Rattle.history.specs.History.{newestOf}
 use Rattle.codec.specs.Message.{Wire}
 use Rattle.codec.specs.Read.{datagram, numberIn, wireIn}
-use Rattle.codec.specs.Read.Got.{got}
+use Rattle.codec.specs.Read.Reading.{got}
 use Rattle.codec.specs.declared.MessageBody.{MessageBody}
 use Rattle.codec.specs.declared.MessageBody.the-variants.{SyncRequest, SyncReply, Input, InputAck, QualityReport, QualityReply, ChecksumReport, KeepAlive}
 use Rattle.events.specs.declared.Entry.{Entry}

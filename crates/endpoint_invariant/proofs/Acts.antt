@@ -31,7 +31,7 @@ use Rattle.endpoint_invariant.proofs.Parts.{sender-part, phase-part, cl
 use Rattle.endpoint_invariant.proofs.Fields.{quality-clock, input-clock}
 use Rattle.endpoint_invariant.proofs.Syncs.{closed-sync}
 use Rattle.endpoint_invariant.proofs.Senders.{accepted-sender}
-use Rattle.endpoint_invariant.proofs.Effects.{Good, begun, changed-good, event-good, plain-good}
+use Rattle.endpoint_invariant.proofs.Effects.{Good, begun, changed-good, event-good, body-only-good}
 use Rattle.endpoint_invariant.proofs.Outputs.{pending-good}
 use Rattle.endpoint_invariant.proofs.Requests.{request-good}
 
@@ -66,7 +66,7 @@ module _ (now : ℕ) (statuses : List ConnectionStatus) (small : now < 2 ^ 62) (
   reported-runs epoch late e h =
       by-pick Runs (reportDue now (e .state)) (reportQueued now epoch e) e
       (λ _. (
-        plain-good _ (changed-good e (h .0) _ (clocks-part (e .state) (h .0 .state) _ (quality-clock (e .state .clocks) (h .0 .state .clocks) now small))) now small
+        body-only-good _ (changed-good e (h .0) _ (clocks-part (e .state) (h .0 .state) _ (quality-clock (e .state .clocks) (h .0 .state .clocks) now small))) now small
             (QualityReport (clamped (e .state .quality .«local_frame_advantage»)) (pingOf epoch)) (clamped-below (e .state .quality .«local_frame_advantage»), (omega arith, omega arith)),
         h .1,
       ))
@@ -74,7 +74,7 @@ module _ (now : ℕ) (statuses : List ConnectionStatus) (small : now < 2 ^ 62) (
 
   alive-runs : (e : Effect) → Runs e → Runs (keptAlive now e)
   unfolding keptAlive queueWire
-  alive-runs e h = by-pick Runs (keepAliveDue now (e .state)) _ e (λ _. (plain-good e (h .0) now small KeepAlive tt, h .1)) (λ _. h)
+  alive-runs e h = by-pick Runs (keepAliveDue now (e .state)) _ e (λ _. (body-only-good e (h .0) now small KeepAlive tt, h .1)) (λ _. h)
 
   -- an interruption is announced in Running alone
   interrupted-runs : (e : Effect) → Runs e → Runs (interrupted now e)

@@ -8,7 +8,7 @@ use native.Mathlib.Omega.{arith}
 use lib.ListN.{length, length-append}
 use Rattle.base.proofs.Bools.{neither}
 use Rattle.codec.specs.Message.{Wire, Fits, FitAll, FitsBody}
-use Rattle.codec.specs.Read.{plain}
+use Rattle.codec.specs.Read.{bodyOnly}
 use Rattle.codec.specs.declared.MessageBody.{MessageBody}
 use Rattle.events.specs.declared.Entry.{Entry}
 use Rattle.events.specs.declared.Event.{Event}
@@ -37,8 +37,8 @@ fit-end [] w h k = (k, tt)
 fit-end (x ∷ l) w h k = (h .0, fit-end l w (h .1) k)
 
 -- a message without statuses and payload
-plain-fits : (t : Terms) → SoundSetup t → (body : MessageBody) → FitsBody body → Fits (plain (t .magic) body)
-plain-fits t s body b =
+body-only-fits : (t : Terms) → SoundSetup t → (body : MessageBody) → FitsBody body → Fits (bodyOnly (t .magic) body)
+body-only-fits t s body b =
     record {
       magic = omega (arith, s .magic .1);
       body = b;
@@ -70,8 +70,8 @@ module _ (e : Effect) (g : Good e) where
     queued-good w h =
         record { state = clocks-part (e .state) (g .state) _ (sent-clock (e .state .clocks) (g .state .clocks) now small); out = fit-end (e .out) w (g .out) h }
 
-    pub plain-good : (body : MessageBody) → FitsBody body → Good (queue now body e)
-    plain-good body b = queued-good (plain (e .state .setup .magic) body) (plain-fits (e .state .setup) (g .state .setup) body b)
+    pub body-only-good : (body : MessageBody) → FitsBody body → Good (queue now body e)
+    body-only-good body b = queued-good (bodyOnly (e .state .setup .magic) body) (body-only-fits (e .state .setup) (g .state .setup) body b)
 
 -- ---- the end of a call
 

@@ -6,7 +6,7 @@ use lib.Dec.{leb, eqb}
 use lib.ListN.{length}
 use Rattle.status.specs.declared.ConnectionStatus.{ConnectionStatus}
 use Rattle.status.specs.Status.{defaultStatus, merged, reported}
-use Rattle.status.specs.Statuses.{mergedAll, fresh}
+use Rattle.status.specs.Statuses.{mergedAll, defaultStatuses}
 use Rattle.codec.specs.Message.{FitsReports}
 use Rattle.codec.specs.declared.StatusReport.{StatusReport}
 use Rattle.checksums.specs.declared.Checksum.{Checksum}
@@ -69,8 +69,8 @@ module _ (q : Quality) (h : SoundQuality q) where
 
 -- ---- statuses
 
-pub made-statuses : (players : ℕ) → Each SoundStatus (fresh players)
-unfolding fresh defaultStatus
+pub made-statuses : (players : ℕ) → Each SoundStatus (defaultStatuses players)
+unfolding defaultStatuses defaultStatus
 made-statuses players = each-replicate SoundStatus (min players 4) defaultStatus (omega arith)
 
 pub merged-statuses : (l : List ConnectionStatus) (reports : List StatusReport) → Each SoundStatus l → FitsReports reports
@@ -83,10 +83,10 @@ merged-statuses (x ∷ l) (r ∷ reports) h k =
 
 -- ---- checksums
 
-pub reported-checksums : (c : Checksum) (interval : ℕ) (l : List Checksum) → SoundChecksum c → Each SoundChecksum l → Each SoundChecksum (Checksums.reported c interval l)
-unfolding Checksums.reported Checksums.cleaned
+pub reported-checksums : (c : Checksum) (interval : ℕ) (l : List Checksum) → SoundChecksum c → Each SoundChecksum l → Each SoundChecksum (Checksums.withReport c interval l)
+unfolding Checksums.withReport Checksums.cleaned
 reported-checksums c interval l p h =
     by-pick (Each SoundChecksum) (Checksums.overflows (c .frame) interval l) l _ (λ _. h) (λ _.
     by-pick (Each SoundChecksum) (Checksums.fullAfter (c .frame) interval l) l _ (λ _. h) (λ _.
-    each-put SoundChecksum Checksums.frameOf c _ p
+    each-put SoundChecksum Checksums.checksumFrame c _ p
     (by-pick (Each SoundChecksum) (leb 32 (length l)) (Checksums.keptFrom (c .frame - 31 * interval) l) l (λ _. each-kept SoundChecksum _ l h) (λ _. h))))

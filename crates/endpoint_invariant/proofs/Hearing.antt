@@ -9,7 +9,7 @@ use Rattle.base.specs.Little.{Bytes}
 use Rattle.base.proofs.Bools.{neither}
 use Rattle.frame.specs.Bias.{bias32}
 use Rattle.status.proofs.MergeAll.{all-length}
-use Rattle.checksums.proofs.Laws.{reported-distinct, reported-bound}
+use Rattle.checksums.proofs.Laws.{report-distinct, report-bound}
 use Rattle.codec.specs.Message.{Wire, FitsBody, FitsReports, FitsWide}
 use Rattle.codec.specs.declared.Wide.{Wide}
 use Rattle.codec.specs.declared.StatusReport.{StatusReport}
@@ -32,7 +32,7 @@ use Rattle.endpoint_invariant.proofs.Parts.{sender-part, receiver-part,
 use Rattle.endpoint_invariant.proofs.Fields.{heard-clock, input-clock, remote-quality, trip-quality, merged-statuses, reported-checksums}
 use Rattle.endpoint_invariant.proofs.Senders.{dropped-sender}
 use Rattle.endpoint_invariant.proofs.Receivers.{SoundGot, received-sound}
-use Rattle.endpoint_invariant.proofs.Effects.{Good, begun, changed-good, announced-good, event-good, plain-good}
+use Rattle.endpoint_invariant.proofs.Effects.{Good, begun, changed-good, announced-good, event-good, body-only-good}
 use Rattle.endpoint_invariant.proofs.Requests.{reply-good, asked-good}
 
 -- the receive time, and the end of an interruption
@@ -54,7 +54,7 @@ module _ (now : ℕ) (small : now < 2 ^ 62) where
   acks-good : (acks : List ℕ) → Each (λ n. n < 2 ^ 32) acks → (e : Effect) → Good e → Good (acksQueued now acks e)
   unfolding Each
   acks-good [] h e g = g
-  acks-good (ack ∷ acks) h e g = acks-good acks (h .1) _ (plain-good e g now small (InputAck ack) (h .0))
+  acks-good (ack ∷ acks) h e g = acks-good acks (h .1) _ (body-only-good e g now small (InputAck ack) (h .0))
 
   noted-sound : (held : Bool) (x : Receiver) (s : Seen) → Sound s → SoundReceiver (receivingWidth (s .setup)) (s .setup .maxPrediction) x
       → Sound (withReceiver x (noted now held s))
@@ -108,7 +108,7 @@ module _ (now : ℕ) (small : now < 2 ^ 62) (e : Effect) (g : Good e) where
   report-good : (advantage : ℕ) (ping : Wide) → advantage < 2 ^ 16 → FitsWide ping → Good (onQualityReport now advantage ping e .effect)
   unfolding onQualityReport remoteAdvantage
   report-good advantage ping a p =
-      plain-good _ (changed-good e g _ (quality-part (e .state) (g .state) _ (remote-quality (e .state .quality) (g .state .quality) advantage a))) now small (QualityReply ping) p
+      body-only-good _ (changed-good e g _ (quality-part (e .state) (g .state) _ (remote-quality (e .state .quality) (g .state .quality) advantage a))) now small (QualityReply ping) p
 
   trip-good : (epoch : ℕ) (pong : Wide) → epoch < 2 ^ 62 → Good (onQualityReply epoch pong e .effect)
   unfolding onQualityReply roundTripNoted
@@ -121,7 +121,7 @@ module _ (now : ℕ) (small : now < 2 ^ 62) (e : Effect) (g : Good e) where
       let x = checksumOf frame checksum in
       let l = e .state .checksums in
       changed-good e g _
-      (checksums-part (e .state) (g .state) _ (reported-distinct x (intervalIn (e .state)) l (g .state .frames)) (reported-bound x (intervalIn (e .state)) l (g .state .checksums .0))
+      (checksums-part (e .state) (g .state) _ (report-distinct x (intervalIn (e .state)) l (g .state .frames)) (report-bound x (intervalIn (e .state)) l (g .state .checksums .0))
       (reported-checksums x (intervalIn (e .state)) l (f, c .0, c .1) (g .state .checksums .1)))
 
   pub body-good : (epoch nonce : ℕ) → epoch < 2 ^ 62 → nonce < 2 ^ 32 → (count : ℕ) (w : Wire) → TypedWire w → (b : MessageBody) → FitsBody b

@@ -16,8 +16,8 @@ use Rattle.packing.specs.Pad.{zeros, padded}
 use Rattle.packing.specs.declared.input_bytes.InputBytes.{InputBytes}
 use Rattle.packing.proofs.Pads.{zeros-length, padded-length}
 use Rattle.packing.proofs.Inputs.{Full}
-use Rattle.history.specs.History.{blank}
-use Rattle.pending.specs.Pending.{frameBytes, payload}
+use Rattle.history.specs.History.{blankFrame}
+use Rattle.pending.specs.Pending.{sentBytes, payload}
 use Rattle.endpoint_invariant.specs.Each.{Each}
 use Rattle.endpoint_invariant.specs.Sound.{Kept}
 
@@ -35,8 +35,8 @@ bytes-xors (x ∷ l) (y ∷ m) h k = bytes-cons (bitXor x y) (xors l m) (xor-lt 
 
 -- ---- one input
 
-pub kept-blank : (width : ℕ) → Kept width blank
-unfolding blank zeros
+pub kept-blank : (width : ℕ) → Kept width blankFrame
+unfolding blankFrame zeros
 kept-blank width = record { bytes = all; size = zeros-length; past = past; blank = λ _. refl }
   where
     all : Bytes zeros
@@ -66,6 +66,6 @@ pub bytes-payload : (width : ℕ) (reference : InputBytes) (l : List InputBytes)
 unfolding Each payload pack
 bytes-payload width reference [] r h = bytes-none
 bytes-payload width reference (x ∷ l) r h =
-    bytes-append (xors (take width (x .bytes)) (reference .bytes)) (pack (reference .bytes) (map (frameBytes width) l))
+    bytes-append (xors (take width (x .bytes)) (reference .bytes)) (pack (reference .bytes) (map (sentBytes width) l))
     (bytes-xors (take width (x .bytes)) (reference .bytes) (bytes-take width (x .bytes) (h .0 .bytes)) (r .bytes))
     (bytes-payload width reference l r (h .1))

@@ -19,7 +19,7 @@ use Rattle.endpoint_rules.specs.declared.Phase.the-variants.{Disconnected}
 use Rattle.codec.specs.Message.{Wire, FitAll}
 use Rattle.codec.specs.Bytes.{bytes, queueOf}
 use Rattle.events.specs.declared.Entry.{Entry}
-use Rattle.outbox.specs.Outbox.{sizes}
+use Rattle.outbox.specs.Outbox.{queueSize}
 use Rattle.outbox.proofs.Laws.{queue-size}
 use Rattle.endpoint_rules.specs.Seen.{Seen, isRunning, isShutdown, withPhase, withEvents, withQueued, shutdownAt}
 use Rattle.endpoint_rules.specs.Did.{Did, Effect, refused, decided, begin, queueWire, done}
@@ -43,23 +43,23 @@ updated f s = by-cases (bothKnown f s) (advantageUpdated f s .queued ≡ s .queu
 
 -- what a call queues fits a buffer of its length, or is nothing, and is counted
 pub record Queues (n : ℕ) (s : Seen) (d : Did) : Type 0 where
-  pub counted : d .after .queued ≡ s .queued + sizes (d .out)
-  pub room : (sizes (d .out) ≡ 0) ⊎ (s .queued + sizes (d .out) ≤ n)
+  pub counted : d .after .queued ≡ s .queued + queueSize (d .out)
+  pub room : (queueSize (d .out) ≡ 0) ⊎ (s .queued + queueSize (d .out) ≤ n)
 
 refused-queues : (n : ℕ) (s : Seen) (k : ℕ) → Queues n s (refused k s)
-unfolding refused sizes
+unfolding refused queueSize
 refused-queues n s k = record { counted = sym (add-zero (s .queued)); room = inl refl }
 
 done-queues : (n : ℕ) (s : Seen) (e : Effect) → booked (e .state) ≡ booked s → isFull n e ≡ false → Queues n s (done e)
 unfolding done isFull bufferFull
 done-queues n s e h f =
     let q : e .state .queued ≡ s .queued = ap (λ (p : List Entry × ℕ). p .1) h in
-    let b : pick (ltb 0 (sizes (e .out))) (ltb n (e .state .queued + sizes (e .out))) false ≡ false = neither (eventsFull (e .state .events) (e .events)) _ f .1 in
+    let b : pick (ltb 0 (queueSize (e .out))) (ltb n (e .state .queued + queueSize (e .out))) false ≡ false = neither (eventsFull (e .state .events) (e .events)) _ f .1 in
     record {
       counted = rw q;
-      room = by-cases (ltb 0 (sizes (e .out))) ((sizes (e .out) ≡ 0) ⊎ (s .queued + sizes (e .out) ≤ n))
-          (λ t. inr (rw q at (ltb-false n (e .state .queued + sizes (e .out)) (rw t at b))))
-          (λ t. inl (omega (arith, ltb-false 0 (sizes (e .out)) t)));
+      room = by-cases (ltb 0 (queueSize (e .out))) ((queueSize (e .out) ≡ 0) ⊎ (s .queued + queueSize (e .out) ≤ n))
+          (λ t. inr (rw q at (ltb-false n (e .state .queued + queueSize (e .out)) (rw t at b))))
+          (λ t. inl (omega (arith, ltb-false 0 (queueSize (e .out)) t)));
     }
 
 message-queues : (from count : ℕ) (w : Wire) (now epoch nonce n : ℕ) (s : Seen) → Queues n s (messageStep from count w now epoch nonce n s)
@@ -74,7 +74,7 @@ message-queues from count w now epoch nonce n s =
     (neither (r .storeFull) _ (passes _ 4 0 (passes (r .overflows) 5 _ (l .1) .1) .0) .1))))
 
 quiet : (n : ℕ) (s t : Seen) → t .queued ≡ s .queued → Queues n s (changed t)
-unfolding sizes
+unfolding queueSize
 quiet n s t h = record { counted = h ∙ sym (add-zero (s .queued)); room = inl refl }
 
 -- one call: the buffer keeps its length, the queue stands within it, and its bytes are as they should be. g: the bytes that leave the queue
@@ -85,8 +85,8 @@ pub record Laid (g : List ℕ) (d : Did) (b : List ℕ) (s : Seen) : Type 0 wher
 
 queued-laid : (d : Did) (b : List ℕ) (s : Seen) → FitAll (d .out) → s .queued ≤ length b → Queues (length b) s d → Laid [] d b s
 queued-laid d b s fit w q =
-    let n : length (queueOf (d .out)) ≡ sizes (d .out) = queue-size (d .out) fit in
-    let room : s .queued + sizes (d .out) ≤ length b = go (q .room) in
+    let n : length (queueOf (d .out)) ≡ queueSize (d .out) = queue-size (d .out) fit in
+    let room : s .queued + queueSize (d .out) ≤ length b = go (q .room) in
     let fits : s .queued + length (queueOf (d .out)) ≤ length b = omega arith in
     record {
       kept = laid-length b (s .queued) (queueOf (d .out)) fits;
@@ -94,7 +94,7 @@ queued-laid d b s fit w q =
       bytes = rw (q .counted, ← n) (laid-front b (s .queued) (queueOf (d .out)) fits);
     }
   where
-    go : (sizes (d .out) ≡ 0) ⊎ (s .queued + sizes (d .out) ≤ length b) → s .queued + sizes (d .out) ≤ length b
+    go : (queueSize (d .out) ≡ 0) ⊎ (s .queued + queueSize (d .out) ≤ length b) → s .queued + queueSize (d .out) ≤ length b
     go (inl z) = omega arith
     go (inr r) = r
 

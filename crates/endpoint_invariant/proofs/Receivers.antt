@@ -16,7 +16,7 @@ use Rattle.frame.specs.Bias.{bias32, nullFrame}
 use Rattle.packing.specs.Packing.{frameCount, framesOf, unpack, decodable}
 use Rattle.packing.specs.declared.input_bytes.InputBytes.{InputBytes}
 use Rattle.packing.proofs.Laws.{xors-length, unpack-take}
-use Rattle.history.specs.History.{blank, highest, newestOf, Found, foundIn, stays, atLine, above, numbered, packetOf, takenIn, newestAfter, Ascending}
+use Rattle.history.specs.History.{blankFrame, highest, newestOf, Found, foundIn, stays, atLine, above, numbered, packetOf, takenIn, newestAfter, Ascending}
 use Rattle.history.proofs.TakenIn.{newest-kept, newest-taken, ascending-numbered, taken-ascending, taken-few, taken-fits}
 use Rattle.setup.specs.Setup.{Terms, SoundSetup, receivingWidth}
 use Rattle.setup.proofs.Laws.{receiving-within}
@@ -32,8 +32,8 @@ holds l = record { history = l }
 
 -- ---- made
 
-pub made-receiver : (width maxPrediction : ℕ) → SoundReceiver width maxPrediction (holds (blank ∷ []))
-unfolding Ascending newestOf highest blank Each
+pub made-receiver : (width maxPrediction : ℕ) → SoundReceiver width maxPrediction (holds (blankFrame ∷ []))
+unfolding Ascending newestOf highest blankFrame Each
 made-receiver width maxPrediction =
     record {
       ascending = (omega arith, tt);
@@ -116,11 +116,11 @@ after-null newest start [] h e = (e, refl)
 after-null newest start (f ∷ fs) h e = absurd (omega arith)
 
 -- nothing received, and no frame comes
-none-taken : (maxPrediction : ℕ) → takenIn maxPrediction (blank ∷ []) [] ≡ blank ∷ []
-unfolding takenIn atLine above kept newestOf highest blank
+none-taken : (maxPrediction : ℕ) → takenIn maxPrediction (blankFrame ∷ []) [] ≡ blankFrame ∷ []
+unfolding takenIn atLine above kept newestOf highest blankFrame
 none-taken maxPrediction = rw (le-leb nullFrame (nullFrame + 2 * maxPrediction) (omega arith))
 
-some-in : (l : List InputBytes) → (newestOf l ≡ nullFrame → l ≡ blank ∷ []) → 1 ≤ length l
+some-in : (l : List InputBytes) → (newestOf l ≡ nullFrame → l ≡ blankFrame ∷ []) → 1 ≤ length l
 unfolding newestOf
 some-in [] f = absurd (omega (arith, ap length (f refl)))
 some-in (x ∷ l) f = omega arith
@@ -150,7 +150,7 @@ module _ (width maxPrediction start : ℕ) (fs : List (List ℕ)) (l : List Inpu
       let m : List InputBytes = l ++ above (newestOf l) (numbered start fs) in
       stay-as (newestOf m) maxPrediction (atLine maxPrediction m) (newest-kept maxPrediction m) (each-passes (λ (x : InputBytes). stays (newestOf m) maxPrediction (x .frame)) m)
 
-  after-none : newestOf after ≡ nullFrame → after ≡ blank ∷ []
+  after-none : newestOf after ≡ nullFrame → after ≡ blankFrame ∷ []
   unfolding numbered
   after-none e =
       let t = after-null (newestOf l) start fs from (sym (newest-taken maxPrediction l start fs) ∙ e) in

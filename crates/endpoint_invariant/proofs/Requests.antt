@@ -18,14 +18,14 @@ use Rattle.endpoint_invariant.proofs.Choices.{never}
 use Rattle.endpoint_invariant.proofs.Parts.{sync-part, phase-part, clocks-part, quality-part}
 use Rattle.endpoint_invariant.proofs.Fields.{request-clock, started-quality}
 use Rattle.endpoint_invariant.proofs.Syncs.{synchronizing-only, started-sync, issued-sync, spent-sync, last-sync}
-use Rattle.endpoint_invariant.proofs.Effects.{Good, begun, changed-good, event-good, plain-good}
+use Rattle.endpoint_invariant.proofs.Effects.{Good, begun, changed-good, event-good, body-only-good}
 
 module _ (now nonce : ℕ) (small : now < 2 ^ 62) (named : nonce < 2 ^ 32) where
   pub request-good : (e : Effect) → Good e → isInitializing (e .state .phase) ≡ false → noncesFull nonce (e .state) ≡ false → Good (request now nonce e)
   unfolding request nonceIssued
   request-good e g i f =
       let s = e .state in
-      plain-good _
+      body-only-good _
       (changed-good e g _
       (sync-part (requestAt now s) (clocks-part s (g .state) _ (request-clock (s .clocks) (g .state .clocks) now small)) _
       (issued-sync (s .phase) (s .sync) (g .state .sync) nonce i (not-false _ f) named)))
@@ -63,7 +63,7 @@ module _ (now nonce : ℕ) (small : now < 2 ^ 62) (named : nonce < 2 ^ 32) where
 
   pub asked-good : (asked : ℕ) → asked < 2 ^ 32 → (e : Effect) → Good e → Good (onSyncRequest now asked e .effect)
   unfolding onSyncRequest
-  asked-good asked fits e g = plain-good e g now small (SyncReply asked) fits
+  asked-good asked fits e g = body-only-good e g now small (SyncReply asked) fits
 
 -- a counted reply never gives 5 for its nonce: one was spent
 pub reply-room : (nonce reply : ℕ) (s : Seen) → Sound s → counts reply s ≡ true → noncesFull nonce (counted reply s) ≡ false

@@ -17,7 +17,7 @@ use Rattle.packing.specs.Pad.{padded}
 use Rattle.packing.specs.declared.input_bytes.InputBytes.{InputBytes}
 use Rattle.pending.specs.Pending.{room, dropTo, lastTo, firstFrame, lastFrame}
 use Rattle.pending.proofs.Laws.{last-pushed}
-use Rattle.history.specs.History.{blank}
+use Rattle.history.specs.History.{blankFrame}
 use Rattle.endpoint_rules.specs.Seen.{Sender}
 use Rattle.endpoint_rules.specs.Sending.{droppedTo, badFrame}
 use Rattle.endpoint_invariant.specs.Each.{Each}
@@ -46,8 +46,8 @@ consecutive-last first last (y ∷ l) q h = consecutive-last (suc first) (y .fra
 
 -- ---- made
 
-pub made-sender : (width : ℕ) → SoundSender width (sends [] blank)
-unfolding Consecutive firstFrame lastFrame Each blank
+pub made-sender : (width : ℕ) → SoundSender width (sends [] blankFrame)
+unfolding Consecutive firstFrame lastFrame Each blankFrame
 made-sender width =
     record {
       count = omega arith;

@@ -12,11 +12,11 @@ use Rattle.base.proofs.Bools.{neither}
 use Rattle.history.specs.History.{takenIn, packetOf}
 use Rattle.status.specs.declared.ConnectionStatus.{ConnectionStatus}
 use Rattle.status.specs.Status.{defaultStatus}
-use Rattle.status.specs.Statuses.{fresh as freshStatuses}
+use Rattle.status.specs.Statuses.{defaultStatuses}
 use Rattle.quality.proofs.Laws.{advantage-below}
 use Rattle.codec.specs.Message.{Wire, FitAll, FitsWide}
-use Rattle.codec.specs.Read.{Got, datagram, numberIn, wireIn}
-use Rattle.codec.specs.Read.Got.{got, fault}
+use Rattle.codec.specs.Read.{Reading, datagram, numberIn, wireIn}
+use Rattle.codec.specs.Read.Reading.{got, fault}
 use Rattle.codec.specs.declared.Wide.{Wide}
 use Rattle.codec.specs.declared.MessageBody.the-variants.{ChecksumReport}
 use Rattle.codec.proofs.Laws.{bytes-read, datagram-fault-range}
@@ -44,15 +44,15 @@ use Rattle.endpoint_invariant.proofs.Fields.{made-clocks, made-quality,
 use Rattle.endpoint_invariant.proofs.Syncs.{made-sync}
 use Rattle.endpoint_invariant.proofs.Senders.{made-sender}
 use Rattle.endpoint_invariant.proofs.Receivers.{made-receiver, never-full}
-use Rattle.endpoint_invariant.proofs.Effects.{Keeps, begun, plain-good, decided-keeps, done-keeps, silent-keeps}
+use Rattle.endpoint_invariant.proofs.Effects.{Keeps, begun, body-only-good, decided-keeps, done-keeps, silent-keeps}
 use Rattle.endpoint_invariant.proofs.Requests.{synchronized-good}
 use Rattle.endpoint_invariant.proofs.Hearing.{heard-good, body-good}
 use Rattle.endpoint_invariant.proofs.Acts.{closed-phase, acted-good, sent-good}
 
 -- ---- new
 
-statuses-made : (players : ℕ) → players ≤ 4 → length (freshStatuses players) ≡ players
-unfolding freshStatuses
+statuses-made : (players : ℕ) → players ≤ 4 → length (defaultStatuses players) ≡ players
+unfolding defaultStatuses
 statuses-made players h = length-replicate (min players 4) defaultStatus ∙ omega arith
 
 pub fresh-sound : (g : Setup) (now : ℕ) → TypedSetup g → fresh g now .0 ≡ 0 → Sound (fresh g now .1)
@@ -112,7 +112,7 @@ module _ (s : Seen) (h : Sound s) where
   datagram-typed : (bytes : List ℕ) → Bytes bytes → numberIn (datagram bytes) ≡ 0 → TypedWire (wireIn (datagram bytes))
   datagram-typed bytes are z = go (datagram bytes) refl z
     where
-      go : (g : Got Wire) → datagram bytes ≡ g → numberIn g ≡ 0 → TypedWire (wireIn g)
+      go : (g : Reading Wire) → datagram bytes ≡ g → numberIn g ≡ 0 → TypedWire (wireIn g)
       go (got w left) m z =
           let f = bytes-read bytes w left are m .1 in
           record { magic = f .magic; body = f .body; frames = f .frames; bytes = f .bytes }
@@ -149,7 +149,7 @@ module _ (s : Seen) (h : Sound s) where
   unfolding checksumStep checksumSent
   checksum-keeps frame checksum now buffer number wide = decided-keeps _ s _ h (λ z.
       let c = passes (badClock now) 7 _ z in
-      done-keeps buffer _ (passes _ 4 0 (c .1) .0) (plain-good (begin s) (begun s h) now (leb-false (2 ^ 62) now (c .0)) (ChecksumReport checksum frame) (wide, number)))
+      done-keeps buffer _ (passes _ 4 0 (c .1) .0) (body-only-good (begin s) (begun s h) now (leb-false (2 ^ 62) now (c .0)) (ChecksumReport checksum frame) (wide, number)))
 
   advantage-keeps : (localFrame : ℕ) → Keeps (advantageStep localFrame s)
   unfolding advantageStep advantageUpdated localAdvantage

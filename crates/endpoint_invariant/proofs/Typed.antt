@@ -1,5 +1,5 @@
 -- Values of the code's types are typed: a message with the payload beside it, a list of statuses, a setup. `Is` says that a value is what a machine value of its type means;
--- every function is told so of its parameters.
+-- every function may take this of its parameters as given.
 use mathlib.Core.List.{List, [], _∷_, map}
 use mathlib.Core.Path.{_≡_, _∙_}
 use Prim.Native.Nat.{ℕ, zero, suc}
@@ -15,7 +15,7 @@ use mir.Syntax.{w32}
 use mir.Val.{Val}
 use Rattle.base.specs.Little.{Bytes}
 use Rattle.base.proofs.Arrays.{unmap}
-use Rattle.status.specs.Statuses.{held}
+use Rattle.status.specs.Statuses.{heldStatuses}
 use Rattle.status.specs.declared.ConnectionStatus.{ConnectionStatus}
 use Rattle.status.specs.declared.list.Statuses.{Statuses}
 use Rattle.status.proofs.ConnectionStatus as ConnectionStatus
@@ -54,8 +54,8 @@ first-typed zero l h = tt
 first-typed (suc n) [] h = tt
 first-typed (suc n) (x ∷ l) h = (h .0, first-typed n l (h .1))
 
-pub statuses-typed : (x : Statuses) (vs : List Val) → Is (Struct.row Statuses.the-type) x vs → TypedStatuses (x .count) (held x)
-unfolding held
+pub statuses-typed : (x : Statuses) (vs : List Val) → Is (Struct.row Statuses.the-type) x vs → TypedStatuses (x .count) (heldStatuses x)
+unfolding heldStatuses
 statuses-typed x vs h =
     let four : length (x .list) ≡ 4 = search (unmap, needs) in
     record { few = length-take (x .count) (x .list) ∙ rw four; frames = first-typed (x .count) (x .list) (frames-typed (x .list) _ (h .1 .1 .0 .1 .1)) }

@@ -5,14 +5,14 @@ use mathlib.Core.Path.{_≡_}
 use mathlib.Core.Logic.{_⊎_}
 use Prim.Native.Nat.{ℕ, suc, _+_, _-_, _*_, _^_, _≤_, _<_}
 use lib.ListN.{length, drop, replicate}
-use Rattle.ceilings.specs.Ceilings.{mostPending, mostNonces, mostEvents}
+use Rattle.ceilings.specs.Ceilings.{mostWidth, mostPending, mostNonces, mostChecksums, mostEvents}
 use Rattle.base.specs.Keyed.{Distinct}
 use Rattle.base.specs.Little.{Bytes}
 use Rattle.frame.specs.Bias.{bias32, bias16, nullFrame}
 use Rattle.packing.specs.Pad.{zeros}
 use Rattle.packing.specs.declared.input_bytes.InputBytes.{InputBytes}
 use Rattle.pending.specs.Pending.{firstFrame}
-use Rattle.history.specs.History.{newestOf, stays, Ascending, blank}
+use Rattle.history.specs.History.{newestOf, stays, Ascending, blankFrame}
 use Rattle.status.specs.declared.ConnectionStatus.{ConnectionStatus}
 use Rattle.checksums.specs.declared.Checksum.{Checksum}
 use Rattle.timers.specs.declared.Clocks.{Clocks}
@@ -28,8 +28,8 @@ use Rattle.endpoint_invariant.specs.Each.{Each}
 -- an input of a width: 64 bytes, zeros past the width; the blank frame is all zeros
 pub record Kept (width : ℕ) (x : InputBytes) : Type 0 where
   pub bytes : Bytes (x .bytes)
-  pub size : length (x .bytes) ≡ 64
-  pub past : drop width (x .bytes) ≡ replicate (64 - width) 0
+  pub size : length (x .bytes) ≡ mostWidth
+  pub past : drop width (x .bytes) ≡ replicate (mostWidth - width) 0
   pub blank : x .frame ≡ nullFrame → x .bytes ≡ zeros
 
 -- frames one after the other
@@ -61,7 +61,7 @@ pub record SoundReceiver (width maxPrediction : ℕ) (r : Receiver) : Type 0 whe
   pub stay : Each (λ (x : InputBytes). stays (newestOf (r .history)) maxPrediction (x .frame) ≡ true) (r .history)
   pub newest : newestOf (r .history) < 2 ^ 32
   -- while nothing is received, the blank frame is held
-  pub none : newestOf (r .history) ≡ nullFrame → r .history ≡ blank ∷ []
+  pub none : newestOf (r .history) ≡ nullFrame → r .history ≡ blankFrame ∷ []
   pub inputs : Each (Kept width) (r .history)
 
 -- ---- the handshake
@@ -113,5 +113,5 @@ pub record Sound (s : Seen) : Type 0 where
   pub players : length (s .statuses) ≡ s .setup .players
   pub statuses : Each SoundStatus (s .statuses)
   pub frames : Distinct (λ (x : Checksum). x .frame) (s .checksums)
-  pub checksums : (length (s .checksums) ≤ 64) × Each SoundChecksum (s .checksums)
+  pub checksums : (length (s .checksums) ≤ mostChecksums) × Each SoundChecksum (s .checksums)
   pub events : length (s .events) ≤ mostEvents

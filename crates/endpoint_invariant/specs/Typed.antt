@@ -4,6 +4,7 @@ use mathlib.Core.Path.{_≡_}
 use Prim.Native.Nat.{ℕ, _^_, _<_, min}
 use lib.ListN.{length}
 use Rattle.base.specs.Little.{Bytes}
+use Rattle.ceilings.specs.Ceilings.{mostPlayers}
 use Rattle.status.specs.declared.ConnectionStatus.{ConnectionStatus}
 use Rattle.codec.specs.Message.{Wire, FitsWide, FitsBody, FitsReports}
 use Rattle.setup.specs.declared.Setup.{Setup}
@@ -23,7 +24,7 @@ IsU64 n = n < 2 ^ 64
 
 -- of a list of statuses, four are given at most
 pub record TypedStatuses (count : ℕ) (statuses : List ConnectionStatus) : Type 0 where
-  pub few : length statuses ≡ min count 4
+  pub few : length statuses ≡ min count mostPlayers
   pub frames : Each (λ (x : ConnectionStatus). IsU32 (x .«last_frame»)) statuses
 
 pub record TypedWire (w : Wire) : Type 0 where
@@ -66,7 +67,7 @@ TypedDesync (On interval) = IsU32 interval
 
 pub record TypedSetup (g : Setup) : Type 0 where
   pub players : IsU32 (g .«num_players»)
-  pub handles : length (g .handles .list) ≡ 4
+  pub handles : length (g .handles .list) ≡ mostPlayers
   pub handle : Each IsU32 (g .handles .list)
   pub count : IsU64 (g .handles .count)
   pub localPlayers : IsU32 (g .«local_players»)

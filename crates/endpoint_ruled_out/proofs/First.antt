@@ -9,7 +9,7 @@ use lib.Dec.{eqb}
 use Rattle.base.specs.Pick.{pick}
 use Rattle.answer.specs.declared.Answer.the-variants.{Done}
 use Rattle.frame.specs.Bias.{nullFrame}
-use Rattle.history.specs.History.{blank, highest, newestOf}
+use Rattle.history.specs.History.{blankFrame, highest, newestOf}
 use Rattle.endpoint_rules.specs.Seen.{made}
 use Rattle.endpoint_rules.specs.Sending.{newest}
 use Rattle.endpoint_rules.specs.Step.{fresh}
@@ -17,7 +17,7 @@ use Rattle.endpoint_rules.proofs.Bouts.{setupWith, setup-taken, new, fr}
 use Rattle.endpoint.specs.declared.Endpoint.{Endpoint}
 use Rattle.endpoint.specs.declared.Ended.{Ended}
 use Rattle.endpoint.specs.Endpoint.{seen}
-use Rattle.endpoint_ruled_out.specs.Unusable.{Version, Asked, Reached, Received, FirstOnly, after}
+use Rattle.endpoint_ruled_out.specs.Unusable.{Version, Asked, Reached, Received, FirstOnly, endpointAfter}
 use Rattle.endpoint_ruled_out.proofs.Right.{right, right-meets}
 use Rattle.endpoint_ruled_out.proofs.Unusable.{own, own-seen, input, buffer, first-received}
 
@@ -39,6 +39,7 @@ once =
       «take_events» = right .«take_events»;
       «take_messages» = right .«take_messages»;
       messages = right .messages;
+      «take_messages_into» = right .«take_messages_into»;
       «network_stats» = right .«network_stats»;
       «peer_connect_status» = right .«peer_connect_status»;
       handles = right .handles;
@@ -66,7 +67,7 @@ once-datagrams = FirstOnly.datagrams (λ e r h from d are now epoch nonce out. k
 -- ---- it does receive: P3's packet comes to the endpoint that it makes
 
 none-yet : newest new ≡ nullFrame
-unfolding blank highest newestOf fresh made
+unfolding blankFrame highest newestOf fresh made
 none-yet = refl
 
 abbrev p3 : Asked
@@ -77,4 +78,4 @@ own-heeds = rw (own-seen right right-meets, none-yet)
 
 once-receives : (e : Endpoint) × Reached once e × Received e
 once-receives =
-    (after once (own right right-meets) p3, Reached.called (own right right-meets) (Reached.made (setupWith 1) 1000 setup-taken) p3, rw (own-heeds, after) (first-received right right-meets))
+    (endpointAfter once (own right right-meets) p3, Reached.called (own right right-meets) (Reached.made (setupWith 1) 1000 setup-taken) p3, rw (own-heeds, endpointAfter) (first-received right right-meets))

@@ -18,7 +18,7 @@ use Rattle.endpoint.specs.declared.Endpoint.{Endpoint}
 use Rattle.endpoint.specs.declared.getters.StatusResult.the-variants as StatusResult
 use Rattle.endpoint.specs.declared.getters.StatsResult.the-variants as StatsResult
 use Rattle.endpoint.specs.Endpoint.{seen}
-use Rattle.endpoint_ruled_out.specs.Unusable.{Version, Asked, functionOf, number, after, RefusesAll, Constant, Untouched, FirstOnly, InventsCounts, InventsLengths}
+use Rattle.endpoint_ruled_out.specs.Unusable.{Version, Asked, functionOf, numberFrom, endpointAfter, RefusesAll, Constant, Untouched, FirstOnly, InventsCounts, InventsLengths}
 use Rattle.endpoint_ruled_out.proofs.Right.{unseen}
 
 abbrev lazy : Answer → Version
@@ -36,6 +36,7 @@ lazy a =
       «take_events» = λ e. record { endpoint = e; events = e .events };
       «take_messages» = λ e out. record { endpoint = e; answer = a };
       messages = λ e out. [];
+      «take_messages_into» = λ e out into. (record { endpoint = e; answer = a; count = 0 }, into);
       «network_stats» = λ e epoch. StatsResult.Refused a;
       «peer_connect_status» = λ e handle. StatusResult.BadHandle;
       handles = λ e. e .setup .handles;
@@ -51,7 +52,7 @@ lazy a =
 abbrev numbers : Answer → ℕ → ℕ
 numbers a function = pick (eqb function 10) 7 (numberOf a)
 
-does : (a : Answer) (e : Endpoint) (c : Asked) → (number (lazy a) e c ≡ numbers a (functionOf c)) × (after (lazy a) e c ≡ e)
+does : (a : Answer) (e : Endpoint) (c : Asked) → (numberFrom (lazy a) e c ≡ numbers a (functionOf c)) × (endpointAfter (lazy a) e c ≡ e)
 does a e (Asked.synchronize now epoch nonce out) = (refl, refl)
 does a e (Asked.message from m payload now epoch nonce out) = (refl, refl)
 does a e (Asked.datagram from d are now epoch nonce out) = (refl, refl)
@@ -63,6 +64,7 @@ does a e (Asked.updateLocalFrameAdvantage local) = (refl, refl)
 does a e (Asked.takeMessages out) = (refl, refl)
 does a e (Asked.networkStats epoch) = (refl, refl)
 does a e (Asked.peerConnectStatus handle) = (refl, refl)
+does a e (Asked.takeMessagesInto out into) = (refl, refl)
 
 refuses-all : RefusesAll (lazy BadSetup)
 refuses-all e r c h = go (eqb (functionOf c) 10) (sym (does BadSetup e c .0) ∙ h)

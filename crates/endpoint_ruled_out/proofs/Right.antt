@@ -15,21 +15,20 @@ use Rattle.base.specs.Lay.{laidAt}
 use Rattle.base.specs.Little.{Bytes}
 use Rattle.answer.specs.Number.{answerOf, number-back}
 use Rattle.status.specs.Status.{defaultStatus}
-use Rattle.status.specs.Statuses.{held as heldStatuses}
+use Rattle.status.specs.Statuses.{heldStatuses}
 use Rattle.status.specs.declared.ConnectionStatus.{ConnectionStatus}
 use Rattle.codec.specs.Message.{Wire, meant}
 use Rattle.codec.specs.Bytes.{queueOf}
-use Rattle.codec.specs.Read.{datagram, numberIn}
-use Rattle.codec.specs.Read.Got.{got, fault}
-use Rattle.codec.specs.Read.{Got}
+use Rattle.codec.specs.Read.{datagram, numberIn, Reading}
+use Rattle.codec.specs.Read.Reading.{got, fault}
 use Rattle.codec.specs.declared.Wide.{Wide}
 use Rattle.codec.proofs.Laws.{datagram-fault-range}
 use Rattle.pending.specs.Pending.{waiting}
 use Rattle.history.specs.History.{received}
 use Rattle.nonces.specs.Nonces.{outstanding}
 use Rattle.checksums.specs.Checksums.{stored}
-use Rattle.events.specs.Events.{held as heldEvents}
-use Rattle.setup.specs.Setup.{listed, badSetup, termsWith}
+use Rattle.events.specs.Events.{heldEvents}
+use Rattle.setup.specs.Setup.{handleList, badSetup, termsWith}
 use Rattle.timers.specs.Timers.{badClock, badClocks}
 use Rattle.setup.specs.declared.Setup.{Setup}
 use Rattle.endpoint_rules.specs.Seen.{Seen, isRunning, isShutdown}
@@ -52,6 +51,7 @@ use Rattle.endpoint.specs.declared.getters.StatusResult.the-variants as StatusR
 use Rattle.endpoint.specs.declared.getters.StatsResult.{StatsResult}
 use Rattle.endpoint.specs.declared.getters.StatsResult.the-variants as StatsResult
 use Rattle.endpoint.specs.Endpoint.{seen, DidAs, DoneAs}
+use Rattle.endpoint.specs.Taken.{shorter}
 use Rattle.endpoint.specs.Made.{MadeAs}
 use Rattle.endpoint.specs.Shown.{shown, shownStatus, shownStats}
 use Rattle.endpoint.proofs.Laws.Getters.{shows-handles}
@@ -152,7 +152,7 @@ module _ (s : Seen) where
   unfolding step datagramStep
   datagram-proper from d are now epoch nonce buffer = proper-decided _ s _ (go (datagram d) refl) (message-goes from _ _ now epoch nonce buffer)
     where
-      go : (g : Got Wire) → datagram d ≡ g → numberIn g ≤ 17
+      go : (g : Reading Wire) → datagram d ≡ g → numberIn g ≤ 17
       go (got w rest) e = omega arith
       go (fault n) e = let range = datagram-fault-range d n are e in omega arith
 
@@ -232,10 +232,14 @@ right =
       «take_events» = λ e. record { endpoint = unseen (step Call.takeEvents (seen e) .after); events = e .events };
       «take_messages» = λ e out. ended e (step (Call.takeMessages (length out)) (seen e));
       messages = λ e out. take (handedBack (length out) (seen e)) out;
+      «take_messages_into» = λ e out into.
+          let t : Ended = ended e (step (Call.takeMessages (shorter out into)) (seen e)) in
+          let n : ℕ = handedBack (shorter out into) (seen e) in
+          (record { endpoint = t .endpoint; answer = t .answer; count = n }, laidAt into 0 (take n out));
       «network_stats» = λ e epoch.
           pick (eqb (step (Call.networkStats epoch) (seen e) .answer) 0) (StatsResult.Stats (statsOf (seen e))) (StatsResult.Refused (answerOf (step (Call.networkStats epoch) (seen e) .answer)));
       «peer_connect_status» = λ e handle. pick (badHandle handle (seen e)) StatusResult.BadHandle (StatusResult.Status (getD (seen e .statuses) handle defaultStatus));
-      handles = λ e. record { list = e .setup .handles .list; count = length (listed (e .setup .handles)) };
+      handles = λ e. record { list = e .setup .handles .list; count = length (handleList (e .setup .handles)) };
       «is_synchronized» = λ e. synchronizedIn (e .sync .phase);
       «is_running» = λ e. isRunning (e .sync .phase);
       «is_handling_message» = λ e from. eqb from (e .setup .«peer_addr»);
@@ -289,9 +293,10 @@ right-meets =
       «take_events» = λ e. record { events = refl; after = seen-unseen (step Call.takeEvents (seen e) .after) };
       «take_messages» = λ e out. ended-done e _ (take-proper (seen e) (length out));
       messages = λ e out. refl;
+      «take_messages_into» = λ e out into. record { taken = ended-done e _ (take-proper (seen e) (shorter out into)); count = refl; lent = refl };
       «network_stats» = stats-shown;
       «peer_connect_status» = status-shown;
-      handles = λ e. shows-handles e (length (listed (e .setup .handles))) refl;
+      handles = λ e. shows-handles e (length (handleList (e .setup .handles))) refl;
       «is_synchronized» = λ e. refl;
       «is_running» = λ e. refl;
       «is_handling_message» = λ e from. refl;

@@ -10,12 +10,12 @@ use lib.ListN.{length}
 use Rattle.base.specs.Pick.{pick}
 use Rattle.base.specs.First.{firstOf}
 use Rattle.nonces.specs.Nonces.{isOutstanding}
-use Rattle.status.specs.Statuses.{held}
+use Rattle.status.specs.Statuses.{heldStatuses}
 use Rattle.codec.specs.Message.{Wire}
 use Rattle.codec.specs.declared.Wide.{Wide}
 use Rattle.codec.specs.declared.MessageBody.the-variants.{SyncReply}
 use Rattle.timers.specs.Timers.{badClock, badClocks}
-use Rattle.outbox.specs.Outbox.{sizes}
+use Rattle.outbox.specs.Outbox.{queueSize}
 use Rattle.endpoint_rules.specs.Seen.{Seen, isSynchronizing, withQueued, isShutdown, isRunning}
 use Rattle.endpoint_rules.specs.Did.{Did, Effect, refused, decided, silentIf, begin, queueWire, done}
 use Rattle.endpoint_rules.specs.Room.{isFull}
@@ -53,8 +53,8 @@ unfolding step actStep sendStep checksumStep checksumSent queueWire disconnectSt
 idle-calm (Asked.synchronize now epoch nonce out) s h = absurd (omega arith)
 idle-calm (Asked.message from m payload now epoch nonce out) s h = absurd (omega arith)
 idle-calm (Asked.datagram from d are now epoch nonce out) s h = absurd (omega arith)
-idle-calm (Asked.act statuses now epoch nonce out) s h = calmly _ s _ (counts (acted-leaves now (s .phase) epoch nonce (held statuses) (begin s)))
-idle-calm (Asked.sendInput frame bytes statuses now out) s h = calm-too _ _ (not (isRunning (s .phase))) s _ (counts (sent-leaves now frame bytes (held statuses) (begin s)))
+idle-calm (Asked.act statuses now epoch nonce out) s h = calmly _ s _ (counts (acted-leaves now (s .phase) epoch nonce (heldStatuses statuses) (begin s)))
+idle-calm (Asked.sendInput frame bytes statuses now out) s h = calm-too _ _ (not (isRunning (s .phase))) s _ (counts (sent-leaves now frame bytes (heldStatuses statuses) (begin s)))
 idle-calm (Asked.disconnect now) s h = calmly _ s _ (silent-both (isShutdown (s .phase)) s _ (Calm s) refl (λ _. refl))
 idle-calm (Asked.sendChecksumReport frame checksum now out) s h = calmly _ s _ refl
 idle-calm (Asked.updateLocalFrameAdvantage local) s h = calmly _ s _ (go (bothKnown local s))
@@ -65,6 +65,7 @@ idle-calm (Asked.updateLocalFrameAdvantage local) s h = calmly _ s _ (go (bothKn
 idle-calm (Asked.takeMessages out) s h = calmly _ s _ refl
 idle-calm (Asked.networkStats epoch) s h = calmly _ s _ refl
 idle-calm (Asked.peerConnectStatus handle) s h = calmly _ s _ refl
+idle-calm (Asked.takeMessagesInto out into) s h = calmly _ s _ refl
 
 -- ---- a message, by what its body does
 module _ (now nonce magic reply : ℕ) (e : Effect) where
@@ -146,7 +147,7 @@ module _ (s : Seen) where
   -- a handshake begins: five replies are to come, and the ten bytes of a request are queued
   pub begins : (now epoch nonce buffer : ℕ) → step (Call.synchronize now epoch nonce buffer) s .answer ≡ 0
       → (step (Call.synchronize now epoch nonce buffer) s .after .sync .remaining ≡ 5) × (step (Call.synchronize now epoch nonce buffer) s .after .queued ≡ s .queued + 10)
-  unfolding step synchronizeStep synchronized started request nonceIssued queueWire done sizes
+  unfolding step synchronizeStep synchronized started request nonceIssued queueWire done queueSize
   begins now epoch nonce buffer h =
       let d : Did = done (synchronized now epoch nonce (begin s)) in
       let choked : Bool = noncesFull nonce s || isFull buffer (synchronized now epoch nonce (begin s)) in
@@ -157,7 +158,7 @@ module _ (s : Seen) where
   -- a checksum report queues its 26 bytes
   pub reports : (frame : ℕ) (checksum : Wide) (now buffer : ℕ) → step (Call.sendChecksumReport frame checksum now buffer) s .answer ≡ 0
       → step (Call.sendChecksumReport frame checksum now buffer) s .after .queued ≡ s .queued + 26
-  unfolding step checksumStep checksumSent queueWire done sizes
+  unfolding step checksumStep checksumSent queueWire done queueSize
   reports frame checksum now buffer h =
       let f : Effect = checksumSent now frame checksum (begin s) in
       let l : List (Bool × ℕ) = (badClock now, 8) ∷ (isFull buffer f, 5) ∷ [] in
@@ -187,3 +188,4 @@ one-counts (Asked.updateLocalFrameAdvantage local) s h = inl (idle-calm (Asked.u
 one-counts (Asked.takeMessages out) s h = inl (idle-calm (Asked.takeMessages out) s (omega arith))
 one-counts (Asked.networkStats epoch) s h = inl (idle-calm (Asked.networkStats epoch) s (omega arith))
 one-counts (Asked.peerConnectStatus handle) s h = inl (idle-calm (Asked.peerConnectStatus handle) s (omega arith))
+one-counts (Asked.takeMessagesInto out into) s h = inl (idle-calm (Asked.takeMessagesInto out into) s (omega arith))

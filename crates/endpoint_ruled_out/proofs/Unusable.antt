@@ -12,13 +12,13 @@ use Rattle.frame.specs.Bias.{nullFrame}
 use Rattle.packing.specs.Packing.{xors, framesOf, unpack, pack, decodableLength, decodable}
 use Rattle.packing.specs.Pad.{zeros, padded}
 use Rattle.pending.specs.Pending.{dropTo, lastTo, room}
-use Rattle.history.specs.History.{blank, highest, newestOf, foundIn, referenceFrame, atLine, above, numbered, packetOf, takenIn}
+use Rattle.history.specs.History.{blankFrame, highest, newestOf, foundIn, referenceFrame, atLine, above, numbered, packetOf, takenIn}
 use Rattle.nonces.specs.Nonces.{issued, fits}
 use Rattle.status.specs.Status.{defaultStatus, reported, merged}
-use Rattle.status.specs.Statuses.{mergedAll, fresh as freshStatuses}
-use Rattle.events.specs.Events.{hasRoom, inputOf, inputEntry, announced}
+use Rattle.status.specs.Statuses.{mergedAll, defaultStatuses}
+use Rattle.events.specs.Events.{hasRoom, inputOf, inputEntry, announced, announcedEach}
 use Rattle.setup.specs.Setup.{badSetup, anyAbove, anyTwice, inserted, sorted, termsWith}
-use Rattle.outbox.specs.Outbox.{sizes}
+use Rattle.outbox.specs.Outbox.{queueSize}
 use Rattle.codec.specs.Message.{Wire, Fits, FitsReports, meant}
 use Rattle.codec.specs.Bytes.{bytes}
 use Rattle.codec.specs.declared.Message.{Message}
@@ -29,7 +29,7 @@ use Rattle.endpoint_rules.specs.Seen.{Seen, made}
 use Rattle.endpoint_rules.specs.Did.{refused, decided, queueWire, done}
 use Rattle.endpoint_rules.specs.Room.{bufferFull, isFull}
 use Rattle.endpoint_rules.specs.Sending.{newest, droppedTo, acknowledged}
-use Rattle.endpoint_rules.specs.Receiving.{taken, receivedIf, receive, announcedEach, discarded, packetOverflows, statusesMerged, informed, inputsReceived, inputTaken, inputUnless, onInput}
+use Rattle.endpoint_rules.specs.Receiving.{taken, receivedIf, receive, discarded, packetOverflows, statusesMerged, informed, inputsReceived, inputTaken, inputUnless, onInput}
 use Rattle.endpoint_rules.specs.Call.{Call}
 use Rattle.endpoint_rules.specs.Step.{fresh, ignored, resumed, heard, onBody, reacted, messageStep, disconnectStep, statsStep, statusStep, step}
 use Rattle.endpoint_rules.proofs.Bouts.{setupWith, setup-taken, new, fr, wire, none, P3, P5}
@@ -38,7 +38,8 @@ use Rattle.endpoint_rules.proofs.Decided.{decided-both}
 use Rattle.endpoint_invariant.proofs.Queue.{step-queues}
 use Rattle.endpoint.specs.declared.Endpoint.{Endpoint}
 use Rattle.endpoint.specs.Endpoint.{seen}
-use Rattle.endpoint_ruled_out.specs.Unusable.{Version, Meets, Asked, Reached, RefusesAll, Constant, Untouched, Received, FirstOnly, functionOf, callOf, number, after, toCome, InventsCounts, InventsLengths}
+use Rattle.endpoint.specs.Taken.{shorter}
+use Rattle.endpoint_ruled_out.specs.Unusable.{Version, Meets, Asked, Reached, RefusesAll, Constant, Untouched, Received, FirstOnly, functionOf, callOf, numberFrom, endpointAfter, toCome, InventsCounts, InventsLengths}
 use Rattle.endpoint_ruled_out.proofs.Steps.{idle-calm, one-counts, other-message, unasked-reply, asked-reply, begins, reports, takes-all}
 
 -- a disconnect of a new endpoint is done at clock 0 and sets the shutdown time; it is refused at a clock above the ceiling
@@ -92,11 +93,11 @@ abbrev received : Seen
 received = step P3 new .after
 
 newest-one : newest received ≡ fr 1
-unfolding kept has without xors framesOf unpack pack decodableLength decodable zeros padded dropTo lastTo room blank highest newestOf foundIn atLine above numbered packetOf takenIn issued fits defaultStatus reported merged mergedAll freshStatuses hasRoom inputOf inputEntry announced badSetup anyAbove anyTwice inserted sorted termsWith made refused decided queueWire sizes done bufferFull isFull droppedTo acknowledged referenceFrame taken receivedIf receive announcedEach discarded packetOverflows statusesMerged informed inputsReceived inputTaken inputUnless onInput fresh ignored resumed heard onBody reacted messageStep step
+unfolding kept has without xors framesOf unpack pack decodableLength decodable zeros padded dropTo lastTo room blankFrame highest newestOf foundIn atLine above numbered packetOf takenIn issued fits defaultStatus reported merged mergedAll defaultStatuses hasRoom inputOf inputEntry announced badSetup anyAbove anyTwice inserted sorted termsWith made refused decided queueWire queueSize done bufferFull isFull droppedTo acknowledged referenceFrame taken receivedIf receive announcedEach discarded packetOverflows statusesMerged informed inputsReceived inputTaken inputUnless onInput fresh ignored resumed heard onBody reacted messageStep step
 newest-one = refl
 
 newest-two : newest (step P5 received .after) ≡ fr 2
-unfolding kept has without xors framesOf unpack pack decodableLength decodable zeros padded dropTo lastTo room blank highest newestOf foundIn atLine above numbered packetOf takenIn issued fits defaultStatus reported merged mergedAll freshStatuses hasRoom inputOf inputEntry announced badSetup anyAbove anyTwice inserted sorted termsWith made refused decided queueWire sizes done bufferFull isFull droppedTo acknowledged referenceFrame taken receivedIf receive announcedEach discarded packetOverflows statusesMerged informed inputsReceived inputTaken inputUnless onInput fresh ignored resumed heard onBody reacted messageStep step
+unfolding kept has without xors framesOf unpack pack decodableLength decodable zeros padded dropTo lastTo room blankFrame highest newestOf foundIn atLine above numbered packetOf takenIn issued fits defaultStatus reported merged mergedAll defaultStatuses hasRoom inputOf inputEntry announced badSetup anyAbove anyTwice inserted sorted termsWith made refused decided queueWire queueSize done bufferFull isFull droppedTo acknowledged referenceFrame taken receivedIf receive announcedEach discarded packetOverflows statusesMerged informed inputsReceived inputTaken inputUnless onInput fresh ignored resumed heard onBody reacted messageStep step
 newest-two = refl
 
 -- the packets as values, their reports in an array of four
@@ -182,22 +183,9 @@ counted s = s .sync .remaining
 abbrev queue : Seen → ℕ
 queue s = s .queued
 
-takes-8 : (c : Asked) (buffer : ℕ) → callOf c ≡ Call.takeMessages buffer → functionOf c ≡ 8
-takes-8 (Asked.synchronize now epoch nonce out) buffer h = cc
-takes-8 (Asked.message from m payload now epoch nonce out) buffer h = cc
-takes-8 (Asked.datagram from d are now epoch nonce out) buffer h = cc
-takes-8 (Asked.act statuses now epoch nonce out) buffer h = cc
-takes-8 (Asked.sendInput frame bytes statuses now out) buffer h = cc
-takes-8 (Asked.disconnect now) buffer h = cc
-takes-8 (Asked.sendChecksumReport frame checksum now out) buffer h = cc
-takes-8 (Asked.updateLocalFrameAdvantage local) buffer h = cc
-takes-8 (Asked.takeMessages out) buffer h = refl
-takes-8 (Asked.networkStats epoch) buffer h = cc
-takes-8 (Asked.peerConnectStatus handle) buffer h = cc
-
 module _ (v : Version) (m : Meets v) where
   -- a refusal gives the very endpoint back
-  refused-same : (e : Endpoint) (c : Asked) → (number v e c ≡ 0 → ⊥) → after v e c ≡ e
+  refused-same : (e : Endpoint) (c : Asked) → (numberFrom v e c ≡ 0 → ⊥) → endpointAfter v e c ≡ e
   refused-same e (Asked.synchronize now epoch nonce out) h = let k = m .synchronize e now epoch nonce out in k .same (λ z. h (k .answer ∙ z))
   refused-same e (Asked.message from x payload now epoch nonce out) h = let k = m .message e from x payload now epoch nonce out in k .same (λ z. h (k .answer ∙ z))
   refused-same e (Asked.datagram from d are now epoch nonce out) h = let k = m .datagram e from d are now epoch nonce out in k .same (λ z. h (k .answer ∙ z))
@@ -209,9 +197,10 @@ module _ (v : Version) (m : Meets v) where
   refused-same e (Asked.takeMessages out) h = let k = m .«take_messages» e out in k .same (λ z. h (k .answer ∙ z))
   refused-same e (Asked.networkStats epoch) h = refl
   refused-same e (Asked.peerConnectStatus handle) h = refl
+  refused-same e (Asked.takeMessagesInto out into) h = let k = m .«take_messages_into» e out into .taken in k .same (λ z. h (k .answer ∙ z))
 
   -- what is seen after a call is what `step` leaves
-  after-seen : (e : Endpoint) (c : Asked) → seen (after v e c) ≡ step (callOf c) (seen e) .after
+  after-seen : (e : Endpoint) (c : Asked) → seen (endpointAfter v e c) ≡ step (callOf c) (seen e) .after
   unfolding step statsStep statusStep refused
   after-seen e (Asked.synchronize now epoch nonce out) = m .synchronize e now epoch nonce out .after
   after-seen e (Asked.message from x payload now epoch nonce out) = m .message e from x payload now epoch nonce out .after
@@ -224,18 +213,20 @@ module _ (v : Version) (m : Meets v) where
   after-seen e (Asked.takeMessages out) = m .«take_messages» e out .after
   after-seen e (Asked.networkStats epoch) = decided-both _ (seen e) _ (λ d. seen e ≡ d .after) (λ _. refl) (λ _. refl)
   after-seen e (Asked.peerConnectStatus handle) = decided-both _ (seen e) _ (λ d. seen e ≡ d .after) (λ _. refl) (λ _. refl)
+  after-seen e (Asked.takeMessagesInto out into) = m .«take_messages_into» e out into .taken .after
 
-  idle-count : (e : Endpoint) (c : Asked) → 2 < functionOf c → toCome (after v e c) ≡ toCome e
+  idle-count : (e : Endpoint) (c : Asked) → 2 < functionOf c → toCome (endpointAfter v e c) ≡ toCome e
   unfolding seen
   idle-count e c h = ap counted (after-seen e c) ∙ idle-calm c (seen e) h
 
-  one-count : (e : Endpoint) (c : Asked) → 0 < functionOf c → (toCome (after v e c) ≡ toCome e) ⊎ (toCome (after v e c) ≡ toCome e - 1)
+  one-count : (e : Endpoint) (c : Asked) → 0 < functionOf c → (toCome (endpointAfter v e c) ≡ toCome e) ⊎ (toCome (endpointAfter v e c) ≡ toCome e - 1)
   unfolding seen
   one-count e c h = simp (sym (ap counted (after-seen e c))) at (one-counts c (seen e) h)
 
-  sized : (e : Endpoint) (c : Asked) → (functionOf c ≡ 8 → ⊥) → after v e c .queued ≡ e .queued + sizes (step (callOf c) (seen e) .out)
+  sized : (e : Endpoint) (c : Asked) → ((buffer : ℕ) → callOf c ≡ Call.takeMessages buffer → ⊥)
+      → endpointAfter v e c .queued ≡ e .queued + queueSize (step (callOf c) (seen e) .out)
   unfolding seen
-  sized e c h = ap queue (after-seen e c) ∙ elim (step-queues (callOf c) 0 (seen e)) [ inl t ↦ absurd (h (takes-8 c (t .0) (t .1))) | inr q ↦ q .1 .counted ]
+  sized e c h = ap queue (after-seen e c) ∙ elim (step-queues (callOf c) 0 (seen e)) [ inl t ↦ absurd (h (t .0) (t .1)) | inr q ↦ q .1 .counted ]
 
 pub not-invents-counts : (v : Version) → InventsCounts v → Meets v → ⊥
 unfolding seen step
@@ -269,6 +260,9 @@ not-invents-lengths v (InventsLengths.reported e frame checksum now out d h) m =
 not-invents-lengths v (InventsLengths.left e out d h) m =
     let k = m .«take_messages» e out in
     h (ap queue (k .after) ∙ takes-all (seen e) (length out) (sym (k .answer) ∙ d))
+not-invents-lengths v (InventsLengths.leftInto e out into d h) m =
+    let k = m .«take_messages_into» e out into .taken in
+    h (ap queue (k .after) ∙ takes-all (seen e) (shorter out into) (sym (k .answer) ∙ d))
 not-invents-lengths v (InventsLengths.unsized e c s h) m = h (sized v m e c s)
 not-invents-lengths v (InventsLengths.taken e h) m = h (ap queue (m .«take_events» e .after))
 not-invents-lengths v (InventsLengths.refused e c r h) m = h (ap (λ (x : Endpoint). x .queued) (refused-same v m e c r))

@@ -9,29 +9,29 @@ use Rattle.frame.specs.Bias.{bias32, bias16, nullFrame}
 use Rattle.packing.specs.Packing.{xors, framesOf, unpack, pack, decodableLength, decodable}
 use Rattle.packing.specs.Pad.{zeros, padded}
 use Rattle.pending.specs.Pending.{dropTo, lastTo, room}
-use Rattle.history.specs.History.{blank, highest, newestOf, foundIn, referenceFrame, atLine, above, numbered, packetOf, takenIn}
+use Rattle.history.specs.History.{blankFrame, highest, newestOf, foundIn, referenceFrame, atLine, above, numbered, packetOf, takenIn}
 use Rattle.nonces.specs.Nonces.{issued, fits}
 use Rattle.status.specs.Status.{defaultStatus, reported, merged}
-use Rattle.status.specs.Statuses.{mergedAll, fresh as freshStatuses}
+use Rattle.status.specs.Statuses.{mergedAll, defaultStatuses}
 use Rattle.codec.specs.Message.{Wire}
 use Rattle.codec.specs.declared.StatusReport.{StatusReport}
 use Rattle.codec.specs.declared.MessageBody.{MessageBody}
 use Rattle.codec.specs.declared.MessageBody.the-variants.{SyncRequest, SyncReply, Input, InputAck, QualityReport, QualityReply}
 use Rattle.events.specs.declared.Entry.{Entry}
 use Rattle.events.specs.declared.Event.the-variants as Event
-use Rattle.events.specs.Events.{hasRoom, inputOf, inputEntry, announced}
+use Rattle.events.specs.Events.{hasRoom, inputOf, inputEntry, announced, announcedEach}
 use Rattle.timers.specs.declared.Clocks.{Clocks}
 use Rattle.setup.specs.declared.Setup.{Setup}
 use Rattle.endpoint_rules.specs.declared.Phase.the-variants.{Disconnected, Shutdown}
 use Rattle.setup.specs.declared.DesyncDetection.the-variants.{Off}
 use Rattle.setup.specs.Setup.{badSetup, anyAbove, anyTwice, inserted, sorted, termsWith}
 use Rattle.endpoint_rules.specs.Seen.{Seen, withClocks, made}
-use Rattle.outbox.specs.Outbox.{sizes}
+use Rattle.outbox.specs.Outbox.{queueSize}
 use Rattle.endpoint_rules.specs.Did.{Did, refused, decided, queueWire, done}
 use Rattle.endpoint_rules.specs.Room.{bufferFull, isFull}
 use Rattle.endpoint_rules.specs.Handshake.{nonceIssued, request, started, synchronized, counted, running, replied, onSyncReply}
 use Rattle.endpoint_rules.specs.Sending.{droppedTo, acknowledged, pendingQueued}
-use Rattle.endpoint_rules.specs.Receiving.{taken, receivedIf, receive, announcedEach, discarded, packetOverflows, statusesMerged, informed, inputsReceived, inputTaken, inputUnless, onInput}
+use Rattle.endpoint_rules.specs.Receiving.{taken, receivedIf, receive, discarded, packetOverflows, statusesMerged, informed, inputsReceived, inputTaken, inputUnless, onInput}
 use Rattle.endpoint_rules.specs.Act.{resent, reportSent, keptAlive, interrupted, timedOut, acted}
 use Rattle.quality.specs.Quality.{clamped, roundTrip}
 use Rattle.quality.specs.Advantage.{advantageOf, advantageOverflows}
@@ -214,5 +214,5 @@ pub bouts :
     × (reportAfter (fr 0) (fr 40000) ≡ QualityReport (bias16 - 32768) (record { low = 72000; high = 0 }) ∷ [])
     -- P14: rtt 100, fps 60, newest 10, local 12: advantage 1
     × (after (pong ∷ advanced (fr 10) (fr 12)) new .quality .«local_frame_advantage» ≡ bias32 + 1)
-unfolding kept has without xors framesOf unpack pack decodableLength decodable zeros padded dropTo lastTo room blank highest newestOf foundIn atLine above numbered packetOf takenIn issued fits defaultStatus reported merged mergedAll freshStatuses hasRoom inputOf inputEntry announced badSetup anyAbove anyTwice inserted sorted termsWith made refused decided queueWire sizes done bufferFull isFull nonceIssued request started synchronized counted running replied onSyncReply droppedTo acknowledged pendingQueued referenceFrame taken receivedIf receive announcedEach discarded packetOverflows statusesMerged informed inputsReceived inputTaken inputUnless onInput resent reportSent keptAlive interrupted timedOut acted clamped reportQueued roundTrip roundTripNoted onQualityReply advantageOf advantageOverflows localAdvantage advantageUpdated fresh synchronizeStep ignored resumed heard onBody reacted messageStep actStep disconnectStep advantageStep step
+unfolding kept has without xors framesOf unpack pack decodableLength decodable zeros padded dropTo lastTo room blankFrame highest newestOf foundIn atLine above numbered packetOf takenIn issued fits defaultStatus reported merged mergedAll defaultStatuses hasRoom inputOf inputEntry announced badSetup anyAbove anyTwice inserted sorted termsWith made refused decided queueWire queueSize done bufferFull isFull nonceIssued request started synchronized counted running replied onSyncReply droppedTo acknowledged pendingQueued referenceFrame taken receivedIf receive announcedEach discarded packetOverflows statusesMerged informed inputsReceived inputTaken inputUnless onInput resent reportSent keptAlive interrupted timedOut acted clamped reportQueued roundTrip roundTripNoted onQualityReply advantageOf advantageOverflows localAdvantage advantageUpdated fresh synchronizeStep ignored resumed heard onBody reacted messageStep actStep disconnectStep advantageStep step
 bouts = (refl, refl, refl, refl, refl, refl, refl, refl, refl, refl, refl, refl, refl, refl, refl, refl, refl, refl, refl, refl, refl, refl, refl, refl, refl, refl, refl, refl)

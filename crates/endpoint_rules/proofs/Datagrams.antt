@@ -9,7 +9,7 @@ use Rattle.base.specs.Little.{Bytes}
 use Rattle.codec.specs.Message.{Wire, Fits}
 use Rattle.codec.specs.Bytes.{bytes}
 use Rattle.codec.specs.Read.{datagram}
-use Rattle.codec.specs.Read.Got.{got, fault}
+use Rattle.codec.specs.Read.Reading.{got, fault}
 use Rattle.codec.proofs.Laws.{read-bytes, datagram-fault-range}
 use Rattle.endpoint_rules.specs.Seen.{Seen}
 use Rattle.endpoint_rules.specs.Did.{refused, decided}

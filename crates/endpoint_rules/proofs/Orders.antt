@@ -9,24 +9,24 @@ use Rattle.frame.specs.Bias.{nullFrame}
 use Rattle.packing.specs.Packing.{xors, framesOf, unpack, pack, decodableLength, decodable}
 use Rattle.packing.specs.Pad.{zeros, padded}
 use Rattle.pending.specs.Pending.{dropTo, lastTo, firstFrame, lastFrame, room, payload}
-use Rattle.history.specs.History.{blank, highest, newestOf, foundIn, referenceFrame, atLine, above, numbered, packetOf, takenIn}
+use Rattle.history.specs.History.{blankFrame, highest, newestOf, foundIn, referenceFrame, atLine, above, numbered, packetOf, takenIn}
 use Rattle.nonces.specs.Nonces.{issued, fits}
 use Rattle.status.specs.Status.{defaultStatus, reported, merged}
-use Rattle.status.specs.Statuses.{mergedAll, fresh as freshStatuses}
+use Rattle.status.specs.Statuses.{mergedAll, defaultStatuses}
 use Rattle.codec.specs.declared.MessageBody.the-variants.{SyncReply, Input, KeepAlive}
 use Rattle.events.specs.declared.Entry.{Entry}
 use Rattle.events.specs.declared.Event.{Event}
 use Rattle.events.specs.declared.Event.the-variants as Event
-use Rattle.events.specs.Events.{hasRoom, inputOf, inputEntry, announced}
+use Rattle.events.specs.Events.{hasRoom, inputOf, inputEntry, announced, announcedEach}
 use Rattle.endpoint_rules.specs.declared.Phase.the-variants.{Running, Shutdown}
 use Rattle.setup.specs.Setup.{badSetup, anyAbove, anyTwice, inserted, sorted, termsWith}
 use Rattle.endpoint_rules.specs.Seen.{Seen, made, withPhase}
-use Rattle.outbox.specs.Outbox.{sizes, reportOf, pendingInput}
+use Rattle.outbox.specs.Outbox.{queueSize, reportOf, pendingInput}
 use Rattle.endpoint_rules.specs.Did.{refused, decided, queueWire, done}
 use Rattle.endpoint_rules.specs.Room.{bufferFull, isFull}
 use Rattle.endpoint_rules.specs.Handshake.{nonceIssued, request, started, synchronized, counted, running, replied, onSyncReply}
 use Rattle.endpoint_rules.specs.Sending.{droppedTo, acknowledged, badFrame, pendingQueued, accepted, tooMany, inputSent}
-use Rattle.endpoint_rules.specs.Receiving.{taken, receivedIf, receive, announcedEach, discarded, packetOverflows, statusesMerged, informed, inputsReceived, inputTaken, inputUnless, onInput}
+use Rattle.endpoint_rules.specs.Receiving.{taken, receivedIf, receive, discarded, packetOverflows, statusesMerged, informed, inputsReceived, inputTaken, inputUnless, onInput}
 use Rattle.endpoint_rules.specs.Checksum.{checksumSent}
 use Rattle.endpoint_rules.specs.Call.{Call}
 use Rattle.endpoint_rules.specs.Step.{statsStep, statusStep, takeStep, checksumStep, fresh, synchronizeStep, ignored, resumed, heard, onBody, reacted, messageStep, sendStep, disconnectStep, step}
@@ -96,7 +96,7 @@ orders :
     × (step (hand (wire (Input true (fr 0) nullFrame) [] []) 2000 0) (after (hand (wire (Input true (fr 0) nullFrame) [] []) 2000 0 ∷ []) new) .events ≡ [])
     -- from then on another magic is not heard
     × (step (Call.message 3 0 (record { magic = 8; body = KeepAlive; reports = []; payload = [] }) 2000 2000 0 0) (after handshake new) .after .clocks .«last_recv_time» ≡ 1000)
-unfolding kept has without xors framesOf unpack pack decodableLength decodable zeros padded dropTo lastTo firstFrame lastFrame room payload blank highest newestOf foundIn atLine above numbered packetOf takenIn issued fits defaultStatus reported merged mergedAll freshStatuses hasRoom inputOf inputEntry announced badSetup anyAbove anyTwice inserted sorted termsWith made refused decided queueWire sizes done bufferFull isFull nonceIssued request started synchronized counted running replied onSyncReply droppedTo acknowledged badFrame reportOf pendingInput pendingQueued accepted tooMany inputSent referenceFrame taken receivedIf receive announcedEach discarded packetOverflows statusesMerged informed inputsReceived inputTaken inputUnless onInput fresh synchronizeStep ignored resumed heard onBody reacted messageStep sendStep disconnectStep step statsStep statusStep takeStep checksumStep checksumSent
+unfolding kept has without xors framesOf unpack pack decodableLength decodable zeros padded dropTo lastTo firstFrame lastFrame room payload blankFrame highest newestOf foundIn atLine above numbered packetOf takenIn issued fits defaultStatus reported merged mergedAll defaultStatuses hasRoom inputOf inputEntry announced badSetup anyAbove anyTwice inserted sorted termsWith made refused decided queueWire queueSize done bufferFull isFull nonceIssued request started synchronized counted running replied onSyncReply droppedTo acknowledged badFrame reportOf pendingInput pendingQueued accepted tooMany inputSent referenceFrame taken receivedIf receive announcedEach discarded packetOverflows statusesMerged informed inputsReceived inputTaken inputUnless onInput fresh synchronizeStep ignored resumed heard onBody reacted messageStep sendStep disconnectStep step statsStep statusStep takeStep checksumStep checksumSent
 orders = (refl, refl, refl, refl, refl, refl, refl, refl, refl, refl, refl, refl, refl, refl, refl, refl, refl, refl, refl, refl, refl, refl, refl, refl, refl, refl, refl, refl, refl, refl, refl, refl, refl)
 
 -- ---- the 129th pending input
@@ -124,12 +124,12 @@ crowded :
     × (step (send (fr 127) (5 ∷ []) 2000 65536) with127 .answer ≡ 0)
     × (step (send (fr 127) (5 ∷ []) 2000 65536) with127 .events ≡ [])
     × (pendingOf with128 ≡ 128)
-    -- the 129th is kept and announces Disconnected, without marking it announced
+    -- the 129th pends too, and announces Disconnected; the flag stays as it was (E-59)
     × (step (send (fr 128) (5 ∷ []) 2000 65536) with128 .answer ≡ 0)
     × (kinds (step (send (fr 128) (5 ∷ []) 2000 65536) with128 .events) ≡ Event.Disconnected ∷ [])
     × (pendingOf with129 ≡ 129)
     × (with129 .flags .«disconnect_event_sent» ≡ false)
     -- one more does not fit
     × (step (send (fr 129) (5 ∷ []) 2000 65536) with129 .answer ≡ 5)
-unfolding kept has without xors framesOf unpack pack decodableLength decodable zeros padded dropTo lastTo firstFrame lastFrame room payload blank highest newestOf foundIn atLine above numbered packetOf takenIn issued fits defaultStatus reported merged mergedAll freshStatuses hasRoom inputOf inputEntry announced badSetup anyAbove anyTwice inserted sorted termsWith made refused decided queueWire sizes done bufferFull isFull nonceIssued request started synchronized counted running replied onSyncReply droppedTo acknowledged badFrame reportOf pendingInput pendingQueued accepted tooMany inputSent fresh synchronizeStep ignored resumed heard onBody reacted messageStep sendStep step
+unfolding kept has without xors framesOf unpack pack decodableLength decodable zeros padded dropTo lastTo firstFrame lastFrame room payload blankFrame highest newestOf foundIn atLine above numbered packetOf takenIn issued fits defaultStatus reported merged mergedAll defaultStatuses hasRoom inputOf inputEntry announced badSetup anyAbove anyTwice inserted sorted termsWith made refused decided queueWire queueSize done bufferFull isFull nonceIssued request started synchronized counted running replied onSyncReply droppedTo acknowledged badFrame reportOf pendingInput pendingQueued accepted tooMany inputSent fresh synchronizeStep ignored resumed heard onBody reacted messageStep sendStep step
 crowded = (refl, refl, refl, refl, refl, refl, refl, refl, refl)

@@ -4,10 +4,10 @@ use mathlib.Core.Path.{_≡_, refl}
 use Prim.Native.Nat.{ℕ}
 use Rattle.base.specs.Keyed.{kept, has, without}
 use Rattle.frame.specs.Bias.{bias16}
-use Rattle.history.specs.History.{blank, highest, newestOf}
+use Rattle.history.specs.History.{blankFrame, highest, newestOf}
 use Rattle.nonces.specs.Nonces.{issued, fits}
 use Rattle.status.specs.Status.{defaultStatus}
-use Rattle.status.specs.Statuses.{fresh as freshStatuses}
+use Rattle.status.specs.Statuses.{defaultStatuses}
 use Rattle.codec.specs.declared.MessageBody.the-variants.{QualityReport, KeepAlive}
 use Rattle.events.specs.declared.Entry.{Entry}
 use Rattle.events.specs.declared.Event.{Event}
@@ -15,7 +15,7 @@ use Rattle.events.specs.declared.Event.the-variants as Event
 use Rattle.events.specs.Events.{hasRoom}
 use Rattle.setup.specs.Setup.{badSetup, anyAbove, anyTwice, inserted, sorted, termsWith}
 use Rattle.quality.specs.Quality.{clamped}
-use Rattle.outbox.specs.Outbox.{sizes}
+use Rattle.outbox.specs.Outbox.{queueSize}
 use Rattle.endpoint_rules.specs.Seen.{Seen, made}
 use Rattle.endpoint_rules.specs.Did.{refused, decided, queueWire, done}
 use Rattle.endpoint_rules.specs.Room.{bufferFull, isFull}
@@ -63,5 +63,5 @@ timings :
     × (step (actWith 73) ready .answer ≡ 5)
     × (step (actWith 73) ready .events ≡ [])
     × (step (actWith 74) ready .answer ≡ 0)
-unfolding kept has without blank highest newestOf issued fits defaultStatus freshStatuses hasRoom badSetup anyAbove anyTwice inserted sorted termsWith made refused decided queueWire sizes done bufferFull isFull nonceIssued request started synchronized counted running replied onSyncReply pendingQueued clamped reportQueued checksumSent resent reportSent keptAlive interrupted timedOut acted fresh synchronizeStep ignored resumed heard onBody reacted messageStep actStep checksumStep step
+unfolding kept has without blankFrame highest newestOf issued fits defaultStatus defaultStatuses hasRoom badSetup anyAbove anyTwice inserted sorted termsWith made refused decided queueWire queueSize done bufferFull isFull nonceIssued request started synchronized counted running replied onSyncReply pendingQueued clamped reportQueued checksumSent resent reportSent keptAlive interrupted timedOut acted fresh synchronizeStep ignored resumed heard onBody reacted messageStep actStep checksumStep step
 timings = (refl, refl, refl, refl, refl, refl, refl, refl, refl, refl, refl, refl, refl, refl)

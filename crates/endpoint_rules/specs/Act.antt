@@ -17,20 +17,20 @@ use Rattle.endpoint_rules.specs.Sending.{queuePending}
 use Rattle.endpoint_rules.specs.Reports.{reportQueued}
 
 -- ms after which a request, the pending inputs and a quality report go out again, and after which a silence is broken
-abbrev pub interval : ℕ
-interval = 200
+abbrev pub actInterval : ℕ
+actInterval = 200
 
 abbrev pub requestDue : (now : ℕ) → Seen → Bool
-requestDue now s = passed (s .clocks .«last_sync_request_time») interval now
+requestDue now s = passed (s .clocks .«last_sync_request_time») actInterval now
 
 abbrev pub resendDue : (now : ℕ) → Seen → Bool
-resendDue now s = passed (s .clocks .«running_last_input_recv») interval now
+resendDue now s = passed (s .clocks .«running_last_input_recv») actInterval now
 
 abbrev pub reportDue : (now : ℕ) → Seen → Bool
-reportDue now s = passed (s .clocks .«running_last_quality_report») interval now
+reportDue now s = passed (s .clocks .«running_last_quality_report») actInterval now
 
 abbrev pub keepAliveDue : (now : ℕ) → Seen → Bool
-keepAliveDue now s = passed (s .clocks .«last_send_time») interval now
+keepAliveDue now s = passed (s .clocks .«last_send_time») actInterval now
 
 abbrev pub interruptionDue : (now : ℕ) → Seen → Bool
 interruptionDue now s = not (s .flags .«disconnect_notify_sent») && passed (s .clocks .«last_recv_time») (s .setup .notifyStart) now

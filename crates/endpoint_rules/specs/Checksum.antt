@@ -1,7 +1,7 @@
 -- Checksum reports, sent and received.
 use Prim.Native.Nat.{ℕ}
 use Rattle.checksums.specs.declared.Checksum.{Checksum}
-use Rattle.checksums.specs.Checksums.{overflows, fullAfter, reported}
+use Rattle.checksums.specs.Checksums.{overflows, fullAfter, withReport}
 use Rattle.codec.specs.declared.Wide.{Wide}
 use Rattle.codec.specs.declared.MessageBody.the-variants.{ChecksumReport}
 use Rattle.setup.specs.Setup.{intervalOf}
@@ -23,7 +23,7 @@ onChecksumReport frame checksum e =
       tooLong = mathlib.Core.Bool.false;
       overflows = overflows frame (intervalIn (e .state)) (e .state .checksums);
       storeFull = fullAfter frame (intervalIn (e .state)) (e .state .checksums);
-      effect = change (λ s. withChecksums (reported (checksumOf frame checksum) (intervalIn s) (s .checksums)) s) e;
+      effect = change (λ s. withChecksums (withReport (checksumOf frame checksum) (intervalIn s) (s .checksums)) s) e;
     }
 
 unfoldable pub checksumSent : (now frame : ℕ) → (checksum : Wide) → Effect → Effect

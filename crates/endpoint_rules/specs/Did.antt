@@ -5,9 +5,9 @@ use Prim.Native.Nat.{ℕ, _+_}
 use lib.Dec.{eqb}
 use Rattle.base.specs.Pick.{pick}
 use Rattle.codec.specs.Message.{Wire}
-use Rattle.codec.specs.Read.{plain}
+use Rattle.codec.specs.Read.{bodyOnly}
 use Rattle.codec.specs.declared.MessageBody.{MessageBody}
-use Rattle.outbox.specs.Outbox.{sizes}
+use Rattle.outbox.specs.Outbox.{queueSize}
 use Rattle.events.specs.declared.Entry.{Entry}
 use Rattle.events.specs.declared.Event.{Event}
 use Rattle.events.specs.Events.{withoutInput}
@@ -53,7 +53,7 @@ queueWire now w e = record { state = sentAt now (e .state); out = e .out ++ w �
 
 -- one that has neither statuses nor payload, under the own magic
 abbrev pub queue : ℕ → MessageBody → Effect → Effect
-queue now body e = queueWire now (plain (e .state .setup .magic) body) e
+queue now body e = queueWire now (bodyOnly (e .state .setup .magic) body) e
 
 abbrev pub announce : List Entry → Effect → Effect
 announce es e = record { state = e .state; out = e .out; events = e .events ++ es }
@@ -66,7 +66,7 @@ unfoldable pub done : Effect → Did
 done e =
     record {
       answer = 0;
-      after = withEvents (e .state .events ++ e .events) (withQueued (e .state .queued + sizes (e .out)) (e .state));
+      after = withEvents (e .state .events ++ e .events) (withQueued (e .state .queued + queueSize (e .out)) (e .state));
       out = e .out;
       events = e .events;
     }

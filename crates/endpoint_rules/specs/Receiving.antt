@@ -10,7 +10,7 @@
 --     an InputAck is queued, and of the history what is >= newest - 2 max_prediction stays                                `acksQueued`, `taken`
 -- `inputTaken` is what it does, `onInput` all of it.
 use mathlib.Core.Bool.{Bool, true, false, not, _&&_, _||_}
-use mathlib.Core.List.{List, [], _∷_, _++_, map}
+use mathlib.Core.List.{List, [], _∷_, map}
 use Prim.Native.Nat.{ℕ, _+_, _*_, _^_}
 use lib.Dec.{ltb, eqb}
 use lib.ListN.{length, take}
@@ -24,10 +24,11 @@ use Rattle.status.specs.Status.{reported}
 use Rattle.status.specs.Statuses.{mergedAll}
 use Rattle.codec.specs.declared.StatusReport.{StatusReport}
 use Rattle.codec.specs.declared.MessageBody.the-variants.{InputAck}
-use Rattle.events.specs.declared.Entry.{Entry}
-use Rattle.events.specs.Events.{announced}
+use Rattle.events.specs.Events.{announcedEach}
 use Rattle.events.specs.declared.Event.the-variants as Event
 use Rattle.setup.specs.Setup.{Terms, receivingWidth}
+use Rattle.endpoint_rules.specs.declared.Phase.{Phase}
+use Rattle.endpoint_rules.specs.declared.Flags.{Flags}
 use Rattle.endpoint_rules.specs.Seen.{Seen, Receiver, isDisconnected, withCarried, withFlags, withStatuses, inputAt}
 use Rattle.endpoint_rules.specs.Did.{Effect, change, queue, announce, announceEvent}
 use Rattle.endpoint_rules.specs.Handshake.{Reaction, plainly}
@@ -59,15 +60,22 @@ abbrev pub reference : (start : ℕ) → Receiver → Found
 reference start r = foundIn (referenceFrame start (r .history)) (r .history)
 
 -- 12 (E-20): more frames than may be pending at the other end
-abbrev pub payloadTooLong : List ℕ → Seen → Bool
-payloadTooLong payload s = ltb (mostPending * receivingWidth (s .setup)) (length payload)
+abbrev pub tooLongBy : (width length : ℕ) → Bool
+tooLongBy width length = ltb (mostPending * width) length
 
--- 6 (E-21): start + count - 1 leaves i32; only a packet that can be read is tested: its reference is held, its payload decodable
+abbrev pub payloadTooLong : List ℕ → Seen → Bool
+payloadTooLong payload s = tooLongBy (receivingWidth (s .setup)) (length payload)
+
+-- 6 (E-21): start + count - 1 leaves i32
+abbrev pub overflowsBy : (start count : ℕ) → Bool
+overflowsBy start count = ltb (2 ^ 32) (start + count)
+
+-- only a packet that can be read is tested: its reference is held, its payload decodable
 unfoldable pub packetOverflows : (start : ℕ) → (payload : List ℕ) → Seen → Bool
 packetOverflows start payload s =
     reference start (s .carried .receiver) .held
     && decodable (receivingWidth (s .setup)) payload
-    && ltb (2 ^ 32) (start + frameCount (receivingWidth (s .setup)) (length payload))
+    && overflowsBy start (frameCount (receivingWidth (s .setup)) (length payload))
 
 -- ---- statuses are merged, or Disconnected is announced
 
@@ -75,8 +83,11 @@ unfoldable pub statusesMerged : List StatusReport → Seen → Seen
 statusesMerged reports s = withStatuses (mergedAll (s .statuses) (map (λ (x : StatusReport). reported (x .disconnected) (x .«last_frame»)) reports)) s
 
 -- a requested disconnect is announced once (E-19), and not by an end that is Disconnected already
+abbrev pub announcesBy : Phase → Flags → Bool
+announcesBy phase flags = not (isDisconnected phase) && not (flags .«disconnect_event_sent»)
+
 abbrev pub announces : Seen → Bool
-announces s = not (isDisconnected (s .phase)) && not (s .flags .«disconnect_event_sent»)
+announces s = announcesBy (s .phase) (s .flags)
 
 abbrev pub disconnectAnnounced : Effect → Effect
 disconnectAnnounced e = announceEvent Event.Disconnected (change (λ s. withFlags (record { «disconnect_notify_sent» = s .flags .«disconnect_notify_sent»; «disconnect_event_sent» = true }) s) e)
@@ -122,11 +133,6 @@ abbrev pub noted : (now : ℕ) → (isHeld : Bool) → Seen → Seen
 noted now true s = inputAt now s
 noted now false s = s
 
--- once per handle ascending, each with its S bytes
-unfoldable pub announcedEach : (size : ℕ) → (handles : List ℕ) → List InputBytes → List Entry
-announcedEach size handles [] = []
-announcedEach size handles (x ∷ xs) = announced (x .frame) size (x .bytes) handles ++ announcedEach size handles xs
-
 -- queue InputAck
 abbrev pub acksQueued : (now : ℕ) → List ℕ → Effect → Effect
 acksQueued now [] e = e
@@ -141,13 +147,13 @@ inputsReceived now x e =
     (announce (announcedEach (e .state .setup .inputSize) (e .state .setup .handles) (x .newFrames))
     (change (λ s. withReceiver (x .receiver) (noted now (x .held) s)) e))
 
--- ---- the whole of an Input, the innermost first
+-- ---- the whole of an Input: it acknowledges, then informs, then brings frames
 
 unfoldable pub inputTaken : (now : ℕ) → InputMessage → Effect → Effect
 inputTaken now m e =
-    inputsReceived now (receive (e .state .setup) (m .start) (m .payload) (e .state .carried .receiver))
-    (informed (m .disconnectRequested) (m .reports)
-    (change (acknowledged (m .ack)) e))
+    let afterAck : Effect = change (acknowledged (m .ack)) e in
+    let afterReports : Effect = informed (m .disconnectRequested) (m .reports) afterAck in
+    inputsReceived now (receive (e .state .setup) (m .start) (m .payload) (e .state .carried .receiver)) afterReports
 
 -- a discarded Input is only heard: it is tested for neither 12 nor 6 (E-16)
 unfoldable pub inputUnless : (isDiscarded : Bool) → (now : ℕ) → InputMessage → Effect → Reaction

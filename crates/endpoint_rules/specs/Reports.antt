@@ -7,6 +7,7 @@ use Rattle.codec.specs.declared.Wide.{Wide}
 use Rattle.codec.specs.declared.MessageBody.the-variants.{QualityReport, QualityReply}
 use Rattle.quality.specs.Quality.{clamped, roundTrip, remoteSet, tripNoted}
 use Rattle.quality.specs.declared.NetworkStats.{NetworkStats}
+use Rattle.endpoint_rules.specs.declared.Phase.{Phase}
 use Rattle.endpoint_rules.specs.Seen.{Seen, isSynchronizing, isRunning, withQuality, qualityAt}
 use Rattle.endpoint_rules.specs.Did.{Effect, change, queue}
 use Rattle.endpoint_rules.specs.Handshake.{Reaction, plainly}
@@ -34,12 +35,18 @@ unfoldable pub onQualityReply : (epoch : ℕ) → (pong : Wide) → Effect → R
 onQualityReply epoch pong e = plainly (change (roundTripNoted (roundTrip epoch (pong .low) (pong .high))) e)
 
 -- 14 (N-14): neither synchronizing nor running
+abbrev pub notSynchronizedIn : Phase → Bool
+notSynchronizedIn phase = not (isSynchronizing phase || isRunning phase)
+
 abbrev pub notSynchronized : Seen → Bool
-notSynchronized s = not (isSynchronizing (s .phase) || isRunning (s .phase))
+notSynchronized s = notSynchronizedIn (s .phase)
 
 -- 15 (N-15): less than a second since the start, or before it
+abbrev pub earlyBy : (start epoch : ℕ) → Bool
+earlyBy start epoch = ltb (epoch - start) 1000
+
 abbrev pub notEnoughData : (epoch : ℕ) → Seen → Bool
-notEnoughData epoch s = ltb (epoch - s .quality .«stats_start_time») 1000
+notEnoughData epoch s = earlyBy (s .quality .«stats_start_time») epoch
 
 unfoldable pub statsOf : Seen → NetworkStats
 statsOf s =

@@ -7,7 +7,7 @@ use lib.ListN.{length}
 use Rattle.base.specs.Pick.{pick}
 use Rattle.events.specs.declared.Entry.{Entry}
 use Rattle.events.specs.Events.{hasRoom}
-use Rattle.outbox.specs.Outbox.{sizes}
+use Rattle.outbox.specs.Outbox.{queueSize}
 use Rattle.endpoint_rules.specs.Did.{Effect}
 
 -- events 640 (C-13)
@@ -19,4 +19,4 @@ unfoldable pub bufferFull : (buffer queued bytes : ℕ) → Bool
 bufferFull buffer queued bytes = pick (ltb 0 bytes) (ltb buffer (queued + bytes)) false
 
 unfoldable pub isFull : (buffer : ℕ) → Effect → Bool
-isFull buffer e = eventsFull (e .state .events) (e .events) || bufferFull buffer (e .state .queued) (sizes (e .out))
+isFull buffer e = eventsFull (e .state .events) (e .events) || bufferFull buffer (e .state .queued) (queueSize (e .out))

@@ -3,12 +3,12 @@ use mathlib.Core.Bool.{Bool, true, false}
 use mathlib.Core.List.{List, [], _∷_}
 use Prim.Native.Nat.{ℕ}
 use Rattle.packing.specs.declared.input_bytes.InputBytes.{InputBytes}
-use Rattle.history.specs.History.{blank}
+use Rattle.history.specs.History.{blankFrame}
 use Rattle.status.specs.declared.ConnectionStatus.{ConnectionStatus}
-use Rattle.status.specs.Statuses.{fresh as freshStatuses}
+use Rattle.status.specs.Statuses.{defaultStatuses}
 use Rattle.checksums.specs.declared.Checksum.{Checksum}
 use Rattle.events.specs.declared.Entry.{Entry}
-use Rattle.setup.specs.Setup.{Terms, termsWith, sorted, listed}
+use Rattle.setup.specs.Setup.{Terms, termsWith, sorted, handleList}
 use Rattle.setup.specs.declared.Setup.{Setup}
 use Rattle.timers.specs.declared.Clocks.{Clocks}
 use Rattle.timers.specs.Timers as Timers
@@ -142,14 +142,14 @@ shutdownAt time s = withClocks (Timers.shutdownAt time (s .clocks)) s
 unfoldable pub made : Setup → ℕ → Seen
 made g now =
     record {
-      setup = termsWith (sorted (listed (g .handles))) g;
-      carried = record { sender = record { pending = []; acked = blank }; receiver = record { history = blank ∷ [] } };
+      setup = termsWith (sorted (handleList (g .handles))) g;
+      carried = record { sender = record { pending = []; acked = blankFrame }; receiver = record { history = blankFrame ∷ [] } };
       phase = Initializing;
       sync = record { remaining = 5; nonces = []; remoteMagic = 0 };
       clocks = Timers.madeAt now;
       flags = record { «disconnect_notify_sent» = false; «disconnect_event_sent» = false };
       quality = freshQuality;
-      statuses = freshStatuses (g .«num_players»);
+      statuses = defaultStatuses (g .«num_players»);
       checksums = [];
       events = [];
       queued = 0;

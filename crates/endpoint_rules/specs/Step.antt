@@ -57,7 +57,7 @@ synchronizeStep now epoch nonce buffer s =
 abbrev pub filtered : (remoteMagic magic : ℕ) → Bool
 filtered remoteMagic magic = not (eqb remoteMagic 0) && not (eqb magic remoteMagic)
 
--- which message is ignored (E-11): in Shutdown, from another peer or stopped by the filter
+-- which message is ignored (E-11)
 abbrev pub ignoredBy : Phase → (peer remoteMagic from magic : ℕ) → Bool
 ignoredBy phase peer remoteMagic from magic = isShutdown phase || not (eqb from peer) || filtered remoteMagic magic
 
@@ -152,8 +152,11 @@ unfoldable pub statusStep : (handle : ℕ) → Seen → Did
 statusStep handle s = decided (firstOf ((badHandle handle s, 7) ∷ [])) s (changed s)
 
 -- 5 (E-68): the queue does not fit the buffer; in Shutdown every buffer will do (E-67)
+abbrev pub shortBy : Phase → (queued buffer : ℕ) → Bool
+shortBy phase queued buffer = not (isShutdown phase) && ltb buffer queued
+
 abbrev pub shortBuffer : (buffer : ℕ) → Seen → Bool
-shortBuffer buffer s = not (isShutdown (s .phase)) && ltb buffer (s .queued)
+shortBuffer buffer s = shortBy (s .phase) (s .queued) buffer
 
 unfoldable pub takeStep : (buffer : ℕ) → Seen → Did
 takeStep buffer s = decided (firstOf ((shortBuffer buffer s, 5) ∷ [])) s (changed (withQueued 0 s))

@@ -9,10 +9,10 @@ use lib.Seq.{drop-cons}
 use Rattle.text.specs.Ascii.{ascii}
 use Rattle.text.specs.Page.{Page, written, writtenAll}
 use Rattle.events.specs.declared.Entry.{Entry}
-use Rattle.event_line.specs.Lines.{lineOf, under, eachOf, linesOf}
+use Rattle.event_line.specs.Lines.{entryLine, under, eachOf, linesOf}
 
 module _ (name size : ℕ) (l : List Entry) where
-  pub turn : (i : ℕ) (d : Entry) (p q : Page) → i < length l → q ≡ written (under name (lineOf size (getD l i d))) p
+  pub turn : (i : ℕ) (d : Entry) (p q : Page) → i < length l → q ≡ written (under name (entryLine size (getD l i d))) p
       → writtenAll (eachOf name size (drop (i + 1) l)) q ≡ writtenAll (eachOf name size (drop i l)) p
   unfolding eachOf writtenAll
   turn i d p q h e = rw (drop-cons l i d h, add-one, e)

@@ -25,8 +25,8 @@ eventText size input (NetworkInterrupted timeout) = ascii "NetworkInterrupted " 
 eventText size input NetworkResumed = ascii "NetworkResumed"
 
 -- an event's line, with no newline at its end
-abbrev pub lineOf : (size : ℕ) → Entry → List ℕ
-lineOf size x = eventText size (x .input) (x .event)
+abbrev pub entryLine : (size : ℕ) → Entry → List ℕ
+entryLine size x = eventText size (x .input) (x .event)
 
 -- a whole line: a letter, the text, a newline
 unfoldable pub under : (name : ℕ) → List ℕ → List ℕ
@@ -34,7 +34,7 @@ under name text = (name ∷ ascii ": ") ++ text ++ ascii "\n"
 
 unfoldable pub eachOf : (name size : ℕ) → List Entry → List (List ℕ)
 eachOf name size [] = []
-eachOf name size (x ∷ xs) = under name (lineOf size x) ∷ eachOf name size xs
+eachOf name size (x ∷ xs) = under name (entryLine size x) ∷ eachOf name size xs
 
 -- a line for each event, or one where there is none
 unfoldable pub linesOf : (name size : ℕ) → List Entry → List (List ℕ)

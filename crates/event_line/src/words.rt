@@ -1,4 +1,5 @@
 // An event in words, behind what a draft has. The numbers in the contracts count bytes: a whole line has at most 79.
+use ceilings::MOST_INPUT_SIZE;
 use events::Entry;
 use events::Event;
 use frame::BIAS32;
@@ -7,11 +8,11 @@ ghost use mathlib.Core.List.{_∷_};
 ghost use Prim.Native.Nat.{_≤_};
 ghost use Rattle.text.specs.Ascii.{ascii};
 ghost use Rattle.text.specs.Draft.{Holds, Adds};
-ghost use Rattle.event_line.specs.Lines.{inputText, lineOf, under};
+ghost use Rattle.event_line.specs.Lines.{inputText, entryLine, under};
 
 pub(crate) fn event(draft: Draft, entry: Entry, size: usize) -> Draft
     requires { ⌜ draft .used ≤ 3 ⌝ }
-    ensures { λ r. ⌜ Adds draft (lineOf size entry) 75 r ⌝ }
+    ensures { λ r. ⌜ Adds draft (entryLine size entry) 75 r ⌝ }
 {
     let event = entry.event;
     match event {
@@ -34,7 +35,7 @@ pub(crate) fn event(draft: Draft, entry: Entry, size: usize) -> Draft
     }
 }
 
-fn moved(draft: Draft, frame: u32, player: u32, input: [u8; 16], size: usize) -> Draft
+fn moved(draft: Draft, frame: u32, player: u32, input: [u8; MOST_INPUT_SIZE], size: usize) -> Draft
     requires { ⌜ draft .used ≤ 3 ⌝ }
     ensures { λ r. ⌜ Adds draft (inputText frame player size input) 75 r ⌝ }
 {
@@ -42,7 +43,7 @@ fn moved(draft: Draft, frame: u32, player: u32, input: [u8; 16], size: usize) ->
     let next = next.put(b" player ")
         .put_decimal(player as u64, 0)
         .put(b": ");
-    if size < 16 {
+    if size < MOST_INPUT_SIZE {
         return next.put_hex(&input[..size]);
     }
     next.put_hex(&input)
@@ -57,7 +58,7 @@ fn begun(name: u8) -> Draft
 }
 
 pub(crate) fn named(name: u8, entry: Entry, size: usize) -> Draft
-    ensures { λ r. ⌜ Holds (under name (lineOf size entry)) 79 r ⌝ }
+    ensures { λ r. ⌜ Holds (under name (entryLine size entry)) 79 r ⌝ }
 {
     event(begun(name), entry, size).put(b"\n")
 }

@@ -21,19 +21,19 @@ use Rattle.events.specs.declared.Entry.{Entry}
 use Rattle.events.specs.declared.Event.the-variants as Event
 use Rattle.events.specs.declared.Events.{Events}
 use Rattle.events.specs.declared.Pushed.{Pushed}
-use Rattle.events.specs.Events.{held, hasRoom, both, inputOf, inputEntry, announced, announcedAll, packetFits, PushedAs}
+use Rattle.events.specs.Events.{heldEvents, hasRoom, both, inputOf, inputEntry, announced, announcedEach, announcedAll, framesFrom, packetFits, PushedAs}
 
-unfoldable pub zeros : List ℕ
-zeros = replicate 16 0
+unfoldable pub noInput : List ℕ
+noInput = replicate 16 0
 
-pub zeros-length : length zeros ≡ 16
-unfolding zeros
-zeros-length = length-replicate {A = ℕ} 16 0
+pub no-input-length : length noInput ≡ 16
+unfolding noInput
+no-input-length = length-replicate {A = ℕ} 16 0
 
 -- bytes laid over zeros, up to the shorter's end, are an input
-pub laid-over : (bytes out : List ℕ) (i : ℕ) → i ≡ min 16 (length bytes) → out ≡ take i bytes ++ drop i zeros → out ≡ inputOf bytes
-unfolding inputOf zeros
-laid-over bytes out i m e = pad-over 0 16 bytes out i m e
+pub laid-input : (bytes out : List ℕ) (i : ℕ) → i ≡ min 16 (length bytes) → out ≡ take i bytes ++ drop i noInput → out ≡ inputOf bytes
+unfolding inputOf noInput
+laid-input bytes out i m e = pad-over 0 16 bytes out i m e
 
 -- a part of bytes, its length and its elements
 pub part-length : (l : List ℕ) (at size : ℕ) → length (take size (drop at l)) ≡ min size (length l - at)
@@ -54,10 +54,10 @@ drop-min k n l e =
     refl
 
 -- the entry of a part
-pub entry-is : (frame player : ℕ) (bytes out : List ℕ) (i : ℕ) → i ≡ min 16 (length bytes) → out ≡ take i bytes ++ drop i zeros
+pub entry-is : (frame player : ℕ) (bytes out : List ℕ) (i : ℕ) → i ≡ min 16 (length bytes) → out ≡ take i bytes ++ drop i noInput
     → _≡_ {A = Entry} (record { event = Event.Input frame player; input = out }) (inputEntry frame player bytes)
 unfolding inputEntry
-entry-is frame player bytes out i m e = rw (laid-over bytes out i m e)
+entry-is frame player bytes out i m e = rw (laid-input bytes out i m e)
 
 -- as many events as handles
 pub announced-length : (frame size : ℕ) (bytes hs : List ℕ) → length (announced frame size bytes hs) ≡ length hs
@@ -95,7 +95,7 @@ announced-padded frame size bytes hs h = rw (take-all 64 bytes h) (announced-zer
 
 -- as many events as frames and handles
 pub announcedAll-length : (frame size : ℕ) (hs : List ℕ) (fs : List (List ℕ)) → length (announcedAll frame size hs fs) ≡ length fs * length hs
-unfolding announcedAll
+unfolding announcedAll announcedEach framesFrom
 announcedAll-length frame size hs [] = sym (zero-mul (length hs))
 announcedAll-length frame size hs (bytes ∷ fs) =
     length-append (announced frame size bytes hs) (announcedAll (frame + 1) size hs fs)
@@ -113,7 +113,7 @@ module _ (frame size w : ℕ) (r hs p : List ℕ) (count k : ℕ) (l T : List En
       → t ≡ l ++ announced (frame + k) size bytes hs
       → l ++ announcedAll (frame + k) size hs (framesOf w r (count - k) (drop from p)) ≡ T
       → t ++ announcedAll (frame + (k + 1)) size hs (framesOf w r (count - (k + 1)) (drop from′ p)) ≡ T
-  unfolding announcedAll framesOf
+  unfolding announcedAll announcedEach framesFrom framesOf
   packet-turn t bytes from from′ h hr m b e inv =
       let n : count - k ≡ suc (count - (k + 1)) = omega arith in
       let g : frame + (k + 1) ≡ frame + k + 1 = omega arith in
@@ -122,7 +122,7 @@ module _ (frame size w : ℕ) (r hs p : List ℕ) (count k : ℕ) (l T : List En
 
   module _ (q : List ℕ) (inv : l ++ announcedAll (frame + k) size hs (framesOf w r (count - k) q) ≡ T) where
     pub packet-end : count ≤ k → l ≡ T
-    unfolding announcedAll framesOf
+    unfolding announcedAll announcedEach framesFrom framesOf
     packet-end h = let n : count - k ≡ 0 = omega arith in sym (append-nil l) ∙ (rw n at inv)
 
     pub packet-room : k < count → length l + length hs ≤ length T
@@ -133,8 +133,8 @@ module _ (frame size w : ℕ) (r hs p : List ℕ) (count k : ℕ) (l T : List En
         omega (arith, ap length inv, length-append l (announcedAll (frame + k) size hs (framesOf w r (count - k) q)))
 
 -- a count of 0 holds nothing
-pub held-none : (e : Events) → held (record { entries = e .entries; used = 0 }) ≡ []
-unfolding held
+pub held-none : (e : Events) → heldEvents (record { entries = e .entries; used = 0 }) ≡ []
+unfolding heldEvents
 held-none e = refl
 
 -- room: 640 at most are held after, and where the numbers are frames only the room decides
@@ -158,8 +158,8 @@ pub record Behind (l : List Entry) (more : List Entry) (entries : List Entry) (t
   pub long : length entries ≡ 640
   pub place : to ≡ length l + length more
 
-pub behind-none : (e : Events) (n : ℕ) → n ≡ length (held e) → length (e .entries) ≡ 640 → Behind (held e) [] (e .entries) n
-unfolding held
+pub behind-none : (e : Events) (n : ℕ) → n ≡ length (heldEvents e) → length (e .entries) ≡ 640 → Behind (heldEvents e) [] (e .entries) n
+unfolding heldEvents
 behind-none e n h l = record { view = rw (append-nil, h, ← take-count (e .used) (e .entries)); long = l; place = h ∙ sym (add-zero _) }
 
 pub behind-one : (l more entries : List Entry) (to : ℕ) (x : Entry) → to < 640 → Behind l more entries to → Behind l (more ++ x ∷ []) (set entries to x) (to + 1)
@@ -170,13 +170,13 @@ behind-one l more entries to x h b =
       place = rw (length-append more (x ∷ [])) (omega (arith, b .place));
     }
 
-pub pushed-behind : (e : Events) (more entries : List Entry) (to : ℕ) → length (held e) + length more ≤ 640 → Behind (held e) more entries to
-    → PushedAs e (hasRoom (held e) (length more)) more (record { ok = true; events = record { entries = entries; used = to } })
-unfolding hasRoom held
+pub pushed-behind : (e : Events) (more entries : List Entry) (to : ℕ) → length (heldEvents e) + length more ≤ 640 → Behind (heldEvents e) more entries to
+    → PushedAs e (hasRoom (heldEvents e) (length more)) more (record { ok = true; events = record { entries = entries; used = to } })
+unfolding hasRoom heldEvents
 pushed-behind e more entries to h b =
-    let t = le-leb (length (held e) + length more) 640 h in record { ok = sym t; view = rw t (b .view); same = λ q. cc }
+    let t = le-leb (length (heldEvents e) + length more) 640 h in record { ok = sym t; view = rw t (b .view); same = λ q. cc }
 
--- how many events there are to tell
+-- how many events there are to announce
 pub count-if-most : (b : Bool) → pick b 1 0 ≤ 1
 count-if-most true = omega arith
 count-if-most false = omega arith
@@ -195,16 +195,16 @@ both-length true one false other = refl
 both-length false one true other = refl
 both-length false one false other = refl
 
--- one event, told or not
-module _ (e : Events) (tells : Bool) (entry : Entry) where
+-- one event, announced or not
+module _ (e : Events) (announces : Bool) (entry : Entry) where
   abbrev More : List Entry
-  More = pick tells (entry ∷ []) []
+  More = pick announces (entry ∷ []) []
 
-  pub pushed-if : (r : Pushed) → tells ≡ true → PushedAs e (hasRoom (held e) 1) (entry ∷ []) r → PushedAs e (hasRoom (held e) (length More)) More r
+  pub pushed-if : (r : Pushed) → announces ≡ true → PushedAs e (hasRoom (heldEvents e) 1) (entry ∷ []) r → PushedAs e (hasRoom (heldEvents e) (length More)) More r
   pushed-if r h p = rw h p
 
-  pub not-pushed : tells ≡ false → length (e .entries) ≡ 640 → PushedAs e (hasRoom (held e) (length More)) More (record { ok = true; events = e })
-  unfolding hasRoom held
+  pub not-pushed : announces ≡ false → length (e .entries) ≡ 640 → PushedAs e (hasRoom (heldEvents e) (length More)) More (record { ok = true; events = e })
+  unfolding hasRoom heldEvents
   not-pushed h l =
-      let t : leb (length (held e) + 0) 640 ≡ true = le-leb (length (held e) + 0) 640 (omega (arith, l, view-le (e .used) (e .entries))) in
+      let t : leb (length (heldEvents e) + 0) 640 ≡ true = le-leb (length (heldEvents e) + 0) 640 (omega (arith, l, view-le (e .used) (e .entries))) in
       rw h (record { ok = sym t; view = rw (t, append-nil); same = λ _. refl })

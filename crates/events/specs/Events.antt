@@ -7,6 +7,7 @@ use lib.Dec.{leb}
 use lib.ListN.{length, take, drop, replicate}
 use Rattle.base.specs.Pick.{pick}
 use Rattle.ceilings.specs.Ceilings.{mostEvents, mostInputSize}
+use Rattle.packing.specs.declared.input_bytes.InputBytes.{InputBytes}
 use Rattle.events.specs.declared.Entry.{Entry}
 use Rattle.events.specs.declared.Events.{Events}
 use Rattle.events.specs.declared.Pushed.{Pushed}
@@ -14,8 +15,8 @@ use Rattle.events.specs.declared.Event.{Event}
 use Rattle.events.specs.declared.Event.the-variants as Event
 
 -- the events held, oldest first; a count beyond the array is the array's length
-unfoldable pub held : Events → List Entry
-held e = take (e .used) (e .entries)
+unfoldable pub heldEvents : Events → List Entry
+heldEvents e = take (e .used) (e .entries)
 
 -- room for n more
 unfoldable pub hasRoom : List Entry → ℕ → Bool
@@ -49,10 +50,19 @@ unfoldable pub announced : (frame size : ℕ) → (bytes handles : List ℕ) →
 announced frame size bytes [] = []
 announced frame size bytes (h ∷ hs) = inputEntry frame h (take size bytes) ∷ announced frame size (drop size bytes) hs
 
--- frames one after another, from a number on
+-- frames one after another, each once per handle (E-26)
+unfoldable pub announcedEach : (size : ℕ) → (handles : List ℕ) → List InputBytes → List Entry
+announcedEach size handles [] = []
+announcedEach size handles (x ∷ xs) = announced (x .frame) size (x .bytes) handles ++ announcedEach size handles xs
+
+-- frames with their numbers, from a first one on
+unfoldable pub framesFrom : (frame : ℕ) → List (List ℕ) → List InputBytes
+framesFrom frame [] = []
+framesFrom frame (bytes ∷ rest) = record { frame = frame; bytes = bytes } ∷ framesFrom (frame + 1) rest
+
+-- the same for code that is given the frames of a payload, of which the first has a number
 unfoldable pub announcedAll : (frame size : ℕ) → (handles : List ℕ) → (frames : List (List ℕ)) → List Entry
-announcedAll frame size handles [] = []
-announcedAll frame size handles (bytes ∷ rest) = announced frame size bytes handles ++ announcedAll (frame + 1) size handles rest
+announcedAll frame size handles frames = announcedEach size handles (framesFrom frame frames)
 
 -- room for all events of `count` frames, whose numbers are frames (they are where 6 was tested)
 unfoldable pub packetFits : List Entry → (frame count : ℕ) → (handles : List ℕ) → Bool
@@ -61,7 +71,7 @@ packetFits l frame count handles = pick (leb (frame + count) (2 ^ 32)) (hasRoom 
 -- all of some entries at the end where the call is able to, else nothing changes
 pub record PushedAs (e : Events) (able : Bool) (more : List Entry) (r : Pushed) : Type 0 where
   pub ok : r .ok ≡ able
-  pub view : held (r .events) ≡ pick able (held e ++ more) (held e)
+  pub view : heldEvents (r .events) ≡ pick able (heldEvents e ++ more) (heldEvents e)
   pub same : r .ok ≡ false → r .events ≡ e
 
 -- worked: frame 7 of two players with two bytes each
@@ -71,7 +81,7 @@ frame-example = refl
 
 -- worked: two frames of one player (P3)
 packet-example : announcedAll 7 1 (1 ∷ []) ((5 ∷ []) ∷ (7 ∷ []) ∷ []) ≡ inputEntry 7 1 (5 ∷ []) ∷ inputEntry 8 1 (7 ∷ []) ∷ []
-unfolding announced announcedAll
+unfolding announced announcedAll announcedEach framesFrom
 packet-example = refl
 
 -- worked: of two events the first alone, and both in their order

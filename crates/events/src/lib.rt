@@ -5,10 +5,10 @@ ghost use Prim.Native.Nat.{_+_, _*_, _^_, _≤_, min};
 ghost use mathlib.Core.Bool.{false};
 ghost use lib.Dec.{leb};
 ghost use Rattle.base.specs.Pick.{pick};
-ghost use Rattle.ceilings.specs.Ceilings.{mostEvents};
+ghost use Rattle.ceilings.specs.Ceilings.{mostPlayers, mostWidth, mostEvents};
 ghost use Rattle.packing.specs.Packing.{framesOf};
 ghost use lib.ListN.{length, take, drop, getD};
-ghost use Rattle.events.specs.Events.{held, hasRoom, inputEntry, announcedAll, packetFits, blankEntry, both, ahead, PushedAs};
+ghost use Rattle.events.specs.Events.{heldEvents, hasRoom, inputEntry, announcedAll, packetFits, blankEntry, both, ahead, PushedAs};
 use ceilings::MOST_EVENTS;
 use ceilings::MOST_INPUT_SIZE;
 use ceilings::MOST_PLAYERS;
@@ -69,7 +69,7 @@ fn onward(at: usize, size: usize, end: usize) -> usize
 
 // One player's input of a frame: its part of the frame's bytes.
 fn input_entry(frame: u32, player: u32, bytes: [u8; MOST_WIDTH], at: usize, size: usize) -> Entry
-    requires { ⌜ at ≤ 64 ⌝ }
+    requires { ⌜ at ≤ mostWidth ⌝ }
     ensures { λ r. ⌜ r ≡ inputEntry frame player (take size (drop at bytes)) ⌝ }
 {
     let n = numbers::least(MOST_INPUT_SIZE, numbers::least(size, MOST_WIDTH - at));
@@ -87,7 +87,7 @@ fn input_entry(frame: u32, player: u32, bytes: [u8; MOST_WIDTH], at: usize, size
 
 // Whether a packet's events fit behind `used`, and its frames' numbers are frames.
 fn packet_fits(used: usize, frame: u32, count: u32, players: usize) -> bool
-    requires { ⌜ (used ≤ 642) × (players ≤ 4) ⌝ }
+    requires { ⌜ (used ≤ mostEvents + 2) × (players ≤ mostPlayers) ⌝ }
     ensures { λ r. ⌜ r ≡ pick (leb (frame + count) (2 ^ 32)) (leb (used + count * players) mostEvents) false ⌝ }
 {
     if numbers::WORD < (frame as u64) + (count as u64) {
@@ -98,7 +98,7 @@ fn packet_fits(used: usize, frame: u32, count: u32, players: usize) -> bool
 
 impl Events {
     pub fn new() -> Events
-        ensures { λ r. ⌜ held r ≡ [] ⌝ }
+        ensures { λ r. ⌜ heldEvents r ≡ [] ⌝ }
     {
         Events {
             entries: [SYNCHRONIZED; MOST_EVENTS],
@@ -107,19 +107,14 @@ impl Events {
     }
 
     pub fn count(self) -> usize
-        ensures { λ r. ⌜ r ≡ length (held self) ⌝ }
+        ensures { λ r. ⌜ r ≡ length (heldEvents self) ⌝ }
     {
-        let used = self.used;
-        if used < MOST_EVENTS {
-            used
-        } else {
-            MOST_EVENTS
-        }
+        numbers::least(self.used, MOST_EVENTS)
     }
 
     // The i-th, or Synchronized with no input.
     pub fn entry(self, i: usize) -> Entry
-        ensures { λ r. ⌜ r ≡ getD (held self) i blankEntry ⌝ }
+        ensures { λ r. ⌜ r ≡ getD (heldEvents self) i blankEntry ⌝ }
     {
         let n = self.count();
         if i < n {
@@ -130,7 +125,7 @@ impl Events {
 
     // One more at the end; where there is no room, unchanged.
     pub fn push(mut self, entry: Entry) -> Pushed
-        ensures { λ r. ⌜ PushedAs self (hasRoom (held self) 1) (entry ∷ []) r ⌝ }
+        ensures { λ r. ⌜ PushedAs self (hasRoom (heldEvents self) 1) (entry ∷ []) r ⌝ }
     {
         let n = self.count();
         let ok = n < MOST_EVENTS;
@@ -143,7 +138,7 @@ impl Events {
 
     // Two in their order, each where it is to be announced; where there is no room for all, unchanged.
     pub fn push_both(mut self, first: bool, one: Entry, second: bool, other: Entry) -> Pushed
-        ensures { λ r. ⌜ PushedAs self (hasRoom (held self) (length (both first one second other))) (both first one second other) r ⌝ }
+        ensures { λ r. ⌜ PushedAs self (hasRoom (heldEvents self) (length (both first one second other))) (both first one second other) r ⌝ }
     {
         let used = self.count();
         let ok = used + numbers::count_if(first, 1) + numbers::count_if(second, 1) <= MOST_EVENTS;
@@ -179,7 +174,7 @@ impl Events {
         handle_count: usize,
         size: usize,
     ) -> Pushed
-        ensures { λ r. ⌜ PushedAs self (packetFits (held self ++ ahead resumed disconnected) frame count (take «handle_count» handles))
+        ensures { λ r. ⌜ PushedAs self (packetFits (heldEvents self ++ ahead resumed disconnected) frame count (take «handle_count» handles))
             (ahead resumed disconnected ++ announcedAll frame size (take «handle_count» handles) (framesOf width reference count (drop at (now (payload .entry))))) r ⌝ }
     {
         let players = numbers::least(handle_count, MOST_PLAYERS);
@@ -211,7 +206,7 @@ impl Events {
                     let entry = input_entry(frame + k, handles[i], bytes, part, size);
                     self.entries[to] = entry;
                     to += 1;
-                    part = onward(part, size, 64);
+                    part = onward(part, size, MOST_WIDTH);
                     i += 1;
                 }
                 from = onward(from, width, end);

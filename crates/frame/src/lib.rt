@@ -9,8 +9,8 @@ pub const BIAS32: u32 = 0x8000_0000;
 // The same for an advantage on the wire, which is an i16 there.
 pub const BIAS16: u16 = 0x8000;
 
-// How many frames there are.
-pub const FRAMES: usize = 0x1_0000_0000;
+// How many frames there are, of the type that frames are counted in.
+pub const FRAMES: usize = numbers::WORD as usize;
 
 // Frame -1: no frame.
 pub const NULL_FRAME: u32 = 0x7FFF_FFFF;

@@ -18,7 +18,7 @@ use Rattle.packing.specs.Packing.{xors, framesOf}
 use Rattle.packing.specs.Pad.{padded}
 use Rattle.packing.specs.declared.input_bytes.InputBytes.{InputBytes}
 use Rattle.history.specs.declared.History.{History}
-use Rattle.history.specs.History.{received, blank, highest, newestOf, Found, foundIn, lookedAt, numbered, Ascending}
+use Rattle.history.specs.History.{received, blankFrame, highest, newestOf, Found, foundIn, lookedAt, numbered, Ascending}
 
 pub received-le : (h : History) → length (received h) ≤ length (h .slots)
 unfolding received
@@ -59,11 +59,11 @@ module _ (f : ℕ) (l : List InputBytes) (k : ℕ) where
   unfolding foundIn
   found-stop d h e = rw (drop-cons l k d h, eq-eqb _ _ e)
 
-  pub found-end : length l ≤ k → foundIn f (drop k l) ≡ record { held = false; input = blank }
+  pub found-end : length l ≤ k → foundIn f (drop k l) ≡ record { held = false; input = blankFrame }
   unfolding foundIn
   found-end h = rw (drop-of-length-le l h)
 
-pub looked-none : (start : ℕ) (l : List InputBytes) → length l ≡ 0 → lookedAt start l ≡ record { input = blank; held = false; newest = nullFrame }
+pub looked-none : (start : ℕ) (l : List InputBytes) → length l ≡ 0 → lookedAt start l ≡ record { input = blankFrame; held = false; newest = nullFrame }
 unfolding lookedAt foundIn newestOf
 looked-none start [] h = refl
 looked-none start (x ∷ l) h = absurd (omega arith)
@@ -79,16 +79,16 @@ found-frame f (x ∷ l) h =
 
 -- ---- before anything is received
 
-pub start-newest : newestOf (blank ∷ []) ≡ nullFrame
-unfolding newestOf highest blank
+pub start-newest : newestOf (blankFrame ∷ []) ≡ nullFrame
+unfolding newestOf highest blankFrame
 start-newest = refl
 
-pub start-found : foundIn nullFrame (blank ∷ []) ≡ record { held = true; input = blank }
-unfolding foundIn blank
+pub start-found : foundIn nullFrame (blankFrame ∷ []) ≡ record { held = true; input = blankFrame }
+unfolding foundIn blankFrame
 start-found = refl
 
-pub start-ascending : Ascending 0 (blank ∷ [])
-unfolding Ascending blank
+pub start-ascending : Ascending 0 (blankFrame ∷ [])
+unfolding Ascending blankFrame
 start-ascending = (omega arith, tt)
 
 -- ---- a packet's frames

@@ -7,10 +7,10 @@ use Rattle.base.proofs.Settled.{settled}
 use Rattle.packing.specs.declared.input_bytes.InputBytes.{InputBytes}
 use Rattle.history.specs.declared.History.{History}
 use Rattle.history.specs.declared.Looked.{Looked}
-use Rattle.history.specs.History.{received, blank, newestOf, lookedAt, packetOf, takenAbove}
+use Rattle.history.specs.History.{received, blankFrame, newestOf, lookedAt, packetOf, takenAbove}
 
-pub new-settled : (r s : History) → received r ≡ blank ∷ [] → received s ≡ blank ∷ [] → received r ≡ received s
-new-settled = settled received (blank ∷ [])
+pub new-settled : (r s : History) → received r ≡ blankFrame ∷ [] → received s ≡ blankFrame ∷ [] → received r ≡ received s
+new-settled = settled received (blankFrame ∷ [])
 
 module _ (h : History) where
   pub newest-settled : (r s : ℕ) → r ≡ newestOf (received h) → s ≡ newestOf (received h) → r ≡ s

@@ -14,7 +14,7 @@ use Rattle.base.specs.Keyed.{kept}
 use Rattle.base.proofs.Kept.{kept-append, kept-kept}
 use Rattle.frame.specs.Bias.{nullFrame}
 use Rattle.packing.specs.declared.input_bytes.InputBytes.{InputBytes}
-use Rattle.history.specs.History.{highest, newestOf, stays, atLine, above, numbered, takenIn, takenAbove, newestAfter, fresh, Ascending}
+use Rattle.history.specs.History.{highest, newestOf, stays, atLine, above, numbered, takenIn, takenAbove, newestAfter, newAndKept, Ascending}
 use Rattle.history.proofs.Laws.{newest-is}
 
 -- ---- the newest after a packet
@@ -54,7 +54,7 @@ unfolding newestOf
 newest-with [] packet = newest-above packet ∙ highest-above nullFrame packet
 newest-with (x ∷ l) packet = highest-append (x ∷ l) (above (highest (x ∷ l)) packet) ∙ highest-above (highest (x ∷ l)) packet
 
--- it is told by the packet's first number and its count
+-- it is determined by the packet's first number and its count
 pub newest-after : (l : List InputBytes) (start : ℕ) (fs : List (List ℕ))
     → newestOf (l ++ above (newestOf l) (numbered start fs)) ≡ newestAfter (newestOf l) start (length fs)
 newest-after l start fs = newest-with l (numbered start fs) ∙ highest-numbered (newestOf l) start fs
@@ -63,7 +63,7 @@ newest-after l start fs = newest-with l (numbered start fs) ∙ highest-numbered
 
 -- dropped below the new line first, then only what stays appended: the same as append all, then keep
 pub taken-is : (newest mp : ℕ) (l : List InputBytes) (start : ℕ) (fs : List (List ℕ)) (last : ℕ) → last ≡ newestAfter newest start (length fs)
-    → takenAbove newest mp l (numbered start fs) ≡ kept (λ x. stays last mp (x .frame)) l ++ kept (λ x. fresh newest last mp (x .frame)) (numbered start fs)
+    → takenAbove newest mp l (numbered start fs) ≡ kept (λ x. stays last mp (x .frame)) l ++ kept (λ x. newAndKept newest last mp (x .frame)) (numbered start fs)
 unfolding takenAbove above
 taken-is newest mp l start fs last e =
     let a : List InputBytes = kept (λ x. ltb newest (x .frame)) (numbered start fs) in
@@ -76,10 +76,10 @@ taken-is newest mp l start fs last e =
 -- so a call that does that, as many as fit
 pub taken-by : (newest mp : ℕ) (l left out : List InputBytes) (start : ℕ) (fs : List (List ℕ)) (last : ℕ)
     → last ≡ newestAfter newest start (length fs) → left ≡ kept (λ x. stays last mp (x .frame)) l
-    → out ≡ take 33 (left ++ kept (λ x. fresh newest last mp (x .frame)) (numbered start fs)) → out ≡ take 33 (takenAbove newest mp l (numbered start fs))
+    → out ≡ take 33 (left ++ kept (λ x. newAndKept newest last mp (x .frame)) (numbered start fs)) → out ≡ take 33 (takenAbove newest mp l (numbered start fs))
 taken-by newest mp l left out start fs last e k o =
     o
-    ∙ ap (λ (m : List InputBytes). take 33 (m ++ kept (λ x. fresh newest last mp (x .frame)) (numbered start fs))) k
+    ∙ ap (λ (m : List InputBytes). take 33 (m ++ kept (λ x. newAndKept newest last mp (x .frame)) (numbered start fs))) k
     ∙ ap (take 33) (sym (taken-is newest mp l start fs last e))
 
 -- above the list's own newest: the rule

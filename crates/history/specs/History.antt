@@ -19,8 +19,8 @@ unfoldable pub received : History → List InputBytes
 received h = take (h .used) (h .slots)
 
 -- what is held before anything is received
-unfoldable pub blank : InputBytes
-blank = record { frame = nullFrame; bytes = zeros }
+unfoldable pub blankFrame : InputBytes
+blankFrame = record { frame = nullFrame; bytes = zeros }
 
 unfoldable pub highest : List InputBytes → ℕ
 highest [] = 0
@@ -38,7 +38,7 @@ pub record Found : Type 0 where
 
 -- the input of a frame; where it is not held, the blank one stands beside the answer
 unfoldable pub foundIn : ℕ → List InputBytes → Found
-foundIn f [] = record { held = false; input = blank }
+foundIn f [] = record { held = false; input = blankFrame }
 foundIn f (x ∷ xs) = pick (eqb (x .frame) f) (record { held = true; input = x }) (foundIn f xs)
 
 -- the frame of a packet's reference (E-22): by numbers alone, and of what is held
@@ -60,9 +60,12 @@ lookedAt start l = beside (newestOf l) (foundIn (referenceFrame start l) l)
 abbrev pub stays : ℕ → ℕ → ℕ → Bool
 stays newest maxPrediction frame = leb newest (frame + 2 * maxPrediction)
 
--- those at or above the keep line of the newest
+-- those at or above the keep line of a newest frame; and of their own newest
+abbrev pub atLineOf : ℕ → ℕ → List InputBytes → List InputBytes
+atLineOf newest maxPrediction l = kept (λ x. stays newest maxPrediction (x .frame)) l
+
 unfoldable pub atLine : ℕ → List InputBytes → List InputBytes
-atLine maxPrediction l = kept (λ x. stays (newestOf l) maxPrediction (x .frame)) l
+atLine maxPrediction l = atLineOf (newestOf l) maxPrediction l
 
 -- those above a frame
 unfoldable pub above : ℕ → List InputBytes → List InputBytes
@@ -81,9 +84,10 @@ packetOf start width reference payload = numbered start (take (2 ^ 32 - start) (
 unfoldable pub takenIn : ℕ → List InputBytes → List InputBytes → List InputBytes
 takenIn maxPrediction l packet = atLine maxPrediction (l ++ above (newestOf l) packet)
 
--- append all frames of a packet above a frame, then keep those at or above the keep line of the higher of that frame and the packet's highest
+-- `takenIn` for code that is given the newest frame as a number, and so knows the one after it: with the list's own newest it is `takenIn` (law
+-- `taken-newest`)
 unfoldable pub takenAbove : ℕ → ℕ → List InputBytes → List InputBytes → List InputBytes
-takenAbove newest maxPrediction l packet = kept (λ x. stays (max newest (highest packet)) maxPrediction (x .frame)) (l ++ above newest packet)
+takenAbove newest maxPrediction l packet = atLineOf (max newest (highest packet)) maxPrediction (l ++ above newest packet)
 
 -- the newest after it, by numbers alone
 unfoldable pub newestAfter : ℕ → ℕ → ℕ → ℕ
@@ -91,8 +95,8 @@ newestAfter newest start zero = newest
 newestAfter newest start (suc n) = max newest (start + n)
 
 -- new, and not below the keep line of the newest after it
-abbrev pub fresh : ℕ → ℕ → ℕ → ℕ → Bool
-fresh newest last maxPrediction frame = pick (ltb newest frame) (stays last maxPrediction frame) false
+abbrev pub newAndKept : ℕ → ℕ → ℕ → ℕ → Bool
+newAndKept newest last maxPrediction frame = pick (ltb newest frame) (stays last maxPrediction frame) false
 
 -- frames ascending, none below a first number
 unfoldable pub Ascending : ℕ → List InputBytes → Type 0
@@ -122,10 +126,10 @@ looks : lookedAt 12 (input 10 ∷ input 11 ∷ []) ≡ record { input = input 11
 unfolding lookedAt referenceFrame foundIn newestOf highest input
 looks = refl
 
-looks-first : lookedAt 12 (blank ∷ []) ≡ record { input = blank; held = true; newest = nullFrame }
-unfolding lookedAt referenceFrame foundIn newestOf highest blank
+looks-first : lookedAt 12 (blankFrame ∷ []) ≡ record { input = blankFrame; held = true; newest = nullFrame }
+unfolding lookedAt referenceFrame foundIn newestOf highest blankFrame
 looks-first = refl
 
-looks-in-vain : lookedAt 13 (input 10 ∷ input 11 ∷ []) ≡ record { input = blank; held = false; newest = 11 }
+looks-in-vain : lookedAt 13 (input 10 ∷ input 11 ∷ []) ≡ record { input = blankFrame; held = false; newest = 11 }
 unfolding lookedAt referenceFrame foundIn newestOf highest input
 looks-in-vain = refl

@@ -6,7 +6,7 @@ ghost use lib.ListN.{length, take};
 ghost use Rattle.base.specs.Keyed.{kept};
 ghost use Rattle.ceilings.specs.Ceilings.{mostReceived};
 ghost use Rattle.packing.specs.Packing.{frameCount, framesOf};
-ghost use Rattle.history.specs.History.{received, blank, newestOf, referenceBy, lookedAt, newestAfter, stays, fresh, numbered, packetOf, takenAbove};
+ghost use Rattle.history.specs.History.{received, blankFrame, newestOf, referenceBy, lookedAt, newestAfter, stays, newAndKept, numbered, packetOf, takenAbove};
 use ceilings::MOST_RECEIVED;
 use ceilings::MOST_WIDTH;
 use frame::FRAMES;
@@ -49,8 +49,8 @@ fn stays_above(frame: u32, newest: u32, max_prediction: u32) -> bool
 }
 
 // Whether a packet's frame is new and stays once the packet is in.
-fn is_fresh(frame: u32, newest: u32, last: u32, max_prediction: u32) -> bool
-    ensures { λ r. ⌜ r ≡ fresh newest last «max_prediction» frame ⌝ }
+fn is_new_and_kept(frame: u32, newest: u32, last: u32, max_prediction: u32) -> bool
+    ensures { λ r. ⌜ r ≡ newAndKept newest last «max_prediction» frame ⌝ }
 {
     if newest < frame {
         return stays_above(frame, last, max_prediction);
@@ -64,7 +64,7 @@ fn arriving(length: usize, width: usize, start: u32) -> usize
 {
     let n = packing::frame_count(length, width);
     let most = FRAMES - (start as usize);
-    if most < n { most } else { n }
+    numbers::least(most, n)
 }
 
 // The newest frame once count frames from start on are in.
@@ -85,7 +85,7 @@ fn after(newest: u32, start: u32, count: usize) -> u32
 impl History {
     // Holds the blank frame alone.
     pub fn new() -> History
-        ensures { λ r. ⌜ received r ≡ blank ∷ [] ⌝ }
+        ensures { λ r. ⌜ received r ≡ blankFrame ∷ [] ⌝ }
     {
         History {
             slots: [BLANK; MOST_RECEIVED],
@@ -96,12 +96,7 @@ impl History {
     fn count(self) -> usize
         ensures { λ r. ⌜ r ≡ length (received self) ⌝ }
     {
-        let used = self.used;
-        if used < MOST_RECEIVED {
-            used
-        } else {
-            MOST_RECEIVED
-        }
+        numbers::least(self.used, MOST_RECEIVED)
     }
 
     // The newest frame, searched; -1 where nothing is held.
@@ -186,7 +181,7 @@ impl History {
         self
     }
 
-    // Appends the fresh ones of the first count frames of a payload, as many as fit.
+    // Appends those of the first count frames of a payload that are new and stay, as many as fit.
     fn append(
         mut self,
         payload: &[u8],
@@ -199,7 +194,7 @@ impl History {
         max_prediction: u32,
     ) -> History
         requires { ⌜ (count ≤ 2 ^ 32 - start) × (count * width ≤ length (now payload)) ⌝ }
-        ensures { λ r. ⌜ received r ≡ take mostReceived (received self ++ kept (λ x. fresh newest last «max_prediction» (x .frame)) (numbered start (framesOf width (reference .bytes) count (now (payload .entry))))) ⌝ }
+        ensures { λ r. ⌜ received r ≡ take mostReceived (received self ++ kept (λ x. newAndKept newest last «max_prediction» (x .frame)) (numbered start (framesOf width (reference .bytes) count (now (payload .entry))))) ⌝ }
     {
         let bytes = reference.bytes;
         let mut at = self.count();
@@ -207,7 +202,7 @@ impl History {
         let mut k = 0;
         while k < count && at < MOST_RECEIVED {
             let frame = start + (k as u32);
-            if is_fresh(frame, newest, last, max_prediction) {
+            if is_new_and_kept(frame, newest, last, max_prediction) {
                 let b = packing::frame_at(payload, place, width, bytes);
                 self.slots[at] = InputBytes { frame, bytes: b };
                 at += 1;

@@ -4,7 +4,7 @@ use mathlib.Core.List.{[], _∷_, _++_}
 use Rattle.text.specs.Decimal.{decimalOf, signedOf, digits}
 use Rattle.text.specs.Hex.{hexOf}
 use Rattle.codec.specs.Read.{datagram}
-use Rattle.codec.specs.Read.Got.{got}
+use Rattle.codec.specs.Read.Reading.{got}
 use Rattle.codec.proofs.Laws.{read-bytes}
 use Rattle.codec.proofs.Bouts.{p1Message, p1Bytes, p1-fits, P1}
 use Rattle.text.specs.Ascii.{ascii}

@@ -11,8 +11,8 @@ use Rattle.base.specs.Pick.{pick}
 use Rattle.answer.specs.Number.{numberOf}
 use Rattle.text.specs.Decimal.{decimalOf}
 use Rattle.text.specs.Hex.{hexOf}
-use Rattle.codec.specs.Message.{Wire, listed, meant}
-use Rattle.codec.specs.Read.{Got, got, fault, datagram, numberIn, wireIn}
+use Rattle.codec.specs.Message.{Wire, reportList, meant}
+use Rattle.codec.specs.Read.{Reading, got, fault, datagram, numberIn, wireIn}
 use Rattle.codec.specs.Calls.{payloadIn, ReadAs}
 use Rattle.codec.proofs.Meant.{meant-magic, meant-body, meant-reports, meant-few}
 use Rattle.codec.specs.declared.StatusReport.{StatusReport}
@@ -41,13 +41,13 @@ fields-same KeepAlive rs qs n h = refl
 abbrev headIn : Wire → ℕ → List ℕ
 headIn w n = headText (w .magic) (w .body) (w .reports) n
 
-head-meant : (m : Message) (payload : List ℕ) (n : ℕ) → headText (m .magic) (m .body) (listed (m .reports)) n ≡ headIn (meant m payload) n
+head-meant : (m : Message) (payload : List ℕ) (n : ℕ) → headText (m .magic) (m .body) (reportList (m .reports)) n ≡ headIn (meant m payload) n
 unfolding headText
 head-meant m payload n =
     rw (
       meant-magic m payload,
       meant-body m payload,
-      fields-same (m .body) (meant m payload .reports) (listed (m .reports)) n (λ d s a e. meant-reports m payload d s a e),
+      fields-same (m .body) (meant m payload .reports) (reportList (m .reports)) n (λ d s a e. meant-reports m payload d s a e),
     )
 
 module _ (d : List ℕ) (r : Received) (e : ReadAs d r) where
@@ -58,12 +58,12 @@ module _ (d : List ℕ) (r : Received) (e : ReadAs d r) where
   unfolding headOf refusedLine
   refused-head n h = rw (← e .answer, ne-eqb _ 0 h)
 
-  pub read-head : (n : ℕ) → numberOf (r .answer) ≡ 0 → headText (r .message .magic) (r .message .body) (listed (r .message .reports)) n ≡ headOf d n
+  pub read-head : (n : ℕ) → numberOf (r .answer) ≡ 0 → headText (r .message .magic) (r .message .body) (reportList (r .message .reports)) n ≡ headOf d n
   unfolding headOf
   read-head n h = rw (← e .answer, eq-eqb _ 0 h) (head-meant (r .message) (payloadIn d) n ∙ ap (λ (w : Wire). headIn w n) (e .message))
 
 -- what is refused has no payload
-whole : (g : Got Wire)
+whole : (g : Reading Wire)
     → pick (eqb (numberIn g) 0) (headIn (wireIn g) (length (wireIn g .payload))) (refusedLine (numberIn g)) ++ hexOf (wireIn g .payload)
     ≡ pick (eqb (numberIn g) 0) (wireLine (wireIn g)) (refusedLine (numberIn g))
 unfolding wireLine hexOf

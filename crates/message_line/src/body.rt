@@ -10,7 +10,8 @@ use frame::BIAS16;
 use frame::BIAS32;
 use text::Draft;
 ghost use Prim.Native.Nat.{_≤_};
-ghost use Rattle.codec.specs.Message.{listed};
+ghost use Rattle.ceilings.specs.Ceilings.{mostPlayers};
+ghost use Rattle.codec.specs.Message.{reportList};
 ghost use Rattle.text.specs.Ascii.{ascii};
 ghost use Rattle.text.specs.Draft.{Holds, Adds};
 ghost use Rattle.message_line.specs.Line.{kindName, fieldsText};
@@ -45,8 +46,8 @@ pub(crate) fn kind(body: MessageBody) -> Draft
 
 // An Input's payload has `length` bytes.
 pub(crate) fn fields(draft: Draft, message: Message, length: usize) -> Draft
-    requires { ⌜ (draft .used ≤ 41) × (message .reports .count ≤ 4) ⌝ }
-    ensures { λ r. ⌜ Adds draft (fieldsText (message .body) (listed (message .reports)) length) 209 r ⌝ }
+    requires { ⌜ (draft .used ≤ 41) × (message .reports .count ≤ mostPlayers) ⌝ }
+    ensures { λ r. ⌜ Adds draft (fieldsText (message .body) (reportList (message .reports)) length) 209 r ⌝ }
 {
     let body = message.body;
     match body {

@@ -5,7 +5,8 @@ use crate::field::number;
 use codec::Message;
 use text::Draft;
 ghost use Prim.Native.Nat.{_≤_};
-ghost use Rattle.codec.specs.Message.{listed};
+ghost use Rattle.ceilings.specs.Ceilings.{mostPlayers};
+ghost use Rattle.codec.specs.Message.{reportList};
 ghost use Rattle.text.specs.Draft.{Holds};
 ghost use Rattle.message_line.specs.Head.{headOf};
 ghost use Rattle.message_line.specs.Line.{headText};
@@ -25,8 +26,8 @@ pub(crate) fn head_of(datagram: &[u8], length: usize) -> Draft
 }
 
 fn head(message: Message, length: usize) -> Draft
-    requires { ⌜ message .reports .count ≤ 4 ⌝ }
-    ensures { λ r. ⌜ Holds (headText (message .magic) (message .body) (listed (message .reports)) length) 250 r ⌝ }
+    requires { ⌜ message .reports .count ≤ mostPlayers ⌝ }
+    ensures { λ r. ⌜ Holds (headText (message .magic) (message .body) (reportList (message .reports)) length) 250 r ⌝ }
 {
     let body = message.body;
     let next = number(kind(body), b" magic ", message.magic as u64);

@@ -8,7 +8,8 @@ use frame::BIAS32;
 use text::Draft;
 ghost use Prim.Native.Nat.{_≤_};
 ghost use Rattle.base.specs.Pick.{pick};
-ghost use Rattle.codec.specs.Message.{listed};
+ghost use Rattle.ceilings.specs.Ceilings.{mostPlayers};
+ghost use Rattle.codec.specs.Message.{reportList};
 ghost use Rattle.codec.specs.declared.MessageBody.the-variants.{Input};
 ghost use Rattle.text.specs.Ascii.{ascii};
 ghost use Rattle.text.specs.Draft.{Adds};
@@ -22,8 +23,8 @@ pub(crate) fn input(
     ack_frame: u32,
     length: usize,
 ) -> Draft
-    requires { ⌜ (draft .used ≤ 41) × (reports .count ≤ 4) ⌝ }
-    ensures { λ r. ⌜ Adds draft (fieldsText (Input «disconnect_requested» «start_frame» «ack_frame») (listed reports) length) 209 r ⌝ }
+    requires { ⌜ (draft .used ≤ 41) × (reports .count ≤ mostPlayers) ⌝ }
+    ensures { λ r. ⌜ Adds draft (fieldsText (Input «disconnect_requested» «start_frame» «ack_frame») (reportList reports) length) 209 r ⌝ }
 {
     let next = number(draft, b" statuses ", reports.count as u64);
     let next = statuses(next, reports);
@@ -34,8 +35,8 @@ pub(crate) fn input(
 }
 
 fn statuses(draft: Draft, reports: StatusReports) -> Draft
-    requires { ⌜ (draft .used ≤ 156) × (reports .count ≤ 4) ⌝ }
-    ensures { λ r. ⌜ Adds draft (reportsText (listed reports)) 100 r ⌝ }
+    requires { ⌜ (draft .used ≤ 156) × (reports .count ≤ mostPlayers) ⌝ }
+    ensures { λ r. ⌜ Adds draft (reportsText (reportList reports)) 100 r ⌝ }
 {
     let count = reports.count;
     let mut next = draft;

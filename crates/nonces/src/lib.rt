@@ -55,12 +55,7 @@ impl Nonces {
     pub fn count(self) -> usize
         ensures { λ r. ⌜ r ≡ length (outstanding self) ⌝ }
     {
-        let used = self.used;
-        if used < MOST_NONCES {
-            used
-        } else {
-            MOST_NONCES
-        }
+        numbers::least(self.used, MOST_NONCES)
     }
 
     // The nonce at the end, and nowhere else; where 256 others are outstanding, unchanged.

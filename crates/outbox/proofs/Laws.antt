@@ -12,7 +12,7 @@ use Rattle.codec.specs.Message.{Wire, Fits, FitAll, tableSize}
 use Rattle.codec.specs.Bytes.{bytes, queueOf}
 use Rattle.codec.proofs.Laws.{bytes-length}
 use Rattle.outbox.specs.declared.Queued.{Queued}
-use Rattle.outbox.specs.Outbox.{sizes, QueuedAs}
+use Rattle.outbox.specs.Outbox.{queueSize, QueuedAs}
 
 -- the two answers
 module _ (b : List ℕ) (at : ℕ) (w : Wire) (r : Queued) (b′ : List ℕ) (h : QueuedAs b at w r b′) where
@@ -32,8 +32,8 @@ module _ (b : List ℕ) (at : ℕ) (w : Wire) (r : Queued) (b′ : List ℕ) (h 
 pub bytes-size : (w : Wire) → Fits w → length (bytes w) ≡ tableSize w
 bytes-size = bytes-length
 
-pub queue-size : (ws : List Wire) → FitAll ws → length (queueOf ws) ≡ sizes ws
-unfolding sizes flatten
+pub queue-size : (ws : List Wire) → FitAll ws → length (queueOf ws) ≡ queueSize ws
+unfolding queueSize flatten
 queue-size [] h = refl
 queue-size (w ∷ ws) h = length-append (bytes w) (queueOf ws) ∙ rw (bytes-size w (h .0), queue-size ws (h .1))
 
@@ -43,15 +43,15 @@ unfolding flatten
 laid-out-none b at = laid-none b at
 
 -- where a message and more behind it have room, these have it after the message is written, and written there they are one queue
-module _ (b : List ℕ) (at : ℕ) (w : Wire) (ws : List Wire) (h : Fits w) (room : at + sizes (w ∷ ws) ≤ length b) where
-  pub room-left : at + tableSize w + sizes ws ≤ length (laidAt b at (bytes w))
-  unfolding sizes
+module _ (b : List ℕ) (at : ℕ) (w : Wire) (ws : List Wire) (h : Fits w) (room : at + queueSize (w ∷ ws) ≤ length b) where
+  pub room-left : at + tableSize w + queueSize ws ≤ length (laidAt b at (bytes w))
+  unfolding queueSize
   room-left =
       let n = bytes-size w h in
       rw (laid-length b at (bytes w) (omega arith)) (omega arith)
 
   pub laid-out : FitAll ws → laidAt (laidAt b at (bytes w)) (at + tableSize w) (queueOf ws) ≡ laidAt b at (queueOf (w ∷ ws))
-  unfolding sizes flatten
+  unfolding queueSize flatten
   laid-out rest =
       let n = bytes-size w h in
       let m = queue-size ws rest in

@@ -15,7 +15,7 @@ use Rattle.base.proofs.Bytes.{bytes-take, bytes-drop}
 use Rattle.frame.specs.Bias.{nullFrame}
 use Rattle.answer.specs.Number.{numberOf}
 use Rattle.status.specs.declared.ConnectionStatus.{ConnectionStatus}
-use Rattle.packing.specs.Packing.{LaidAs}
+use Rattle.packing.specs.Packing.{PlacedAs}
 use Rattle.packing.specs.declared.input_bytes.InputBytes.{InputBytes}
 use Rattle.pending.specs.Pending.{firstFrame, payload}
 use Rattle.ceilings.specs.Ceilings.{mostPlayers, mostPayload}
@@ -30,7 +30,7 @@ use Rattle.codec.specs.declared.Written.{Written}
 use Rattle.codec.proofs.Laid.{fits-payload, not-long, head-lent}
 use Rattle.codec.proofs.Meant.{input-is, meant-input}
 use Rattle.codec.proofs.Laws.{head-length-law, head-payload, refused-room}
-use Rattle.outbox.specs.Outbox.{QueuedAs, ReportsAs, pendingInput}
+use Rattle.outbox.specs.Outbox.{QueuedAs, StatusReportsAs, pendingInput}
 
 -- a piece laid before one that stands already
 laid-prepend : (b : List ℕ) (at : ℕ) (a p : List ℕ) → at + length a + length p ≤ length b
@@ -52,7 +52,7 @@ pub record Prepared (statuses : List ConnectionStatus) (inputs : List InputBytes
     : Type 0 where
   pub few : length statuses ≤ mostPlayers
   pub first : start ≡ firstFrame nullFrame inputs
-  pub reports : ReportsAs statuses rs
+  pub reports : StatusReportsAs statuses rs
   pub four : length (rs .list) ≡ 4
   pub front : n ≡ fixedSize 2 + 5 * length statuses
   pub packed : length (payload width acked inputs) ≡ size
@@ -92,7 +92,7 @@ module _ (b : List ℕ) (at magic ack : ℕ) (statuses : List ConnectionStatus) 
         fits = λ e. let z : _≡_ {A = ℕ} 0 1 = cc in absurd (omega arith);
       }
 
-  module _ (room : at + (n + size) ≤ length b) (ok : Bool) (b′ : List ℕ) (laid : LaidAs b (at + n) piece ok b′) (r : Written) (b″ : List ℕ)
+  module _ (room : at + (n + size) ≤ length b) (ok : Bool) (b′ : List ℕ) (laid : PlacedAs b (at + n) piece ok b′) (r : Written) (b″ : List ℕ)
       (h : HeadAs b′ at message size r b″) where
     behind : at + n + length piece ≤ length b
     behind = omega (arith, room, ready .packed)
@@ -122,7 +122,7 @@ module _ (b : List ℕ) (at magic ack : ℕ) (statuses : List ConnectionStatus) 
         = rw front-size at (laid-prepend b at front piece (rw front-size behind)) in
         head-lent b′ at message piece r b″ begun done ∙ rw (packed, whole) joined
 
-    -- the buffer's bytes tell that those of the payload are bytes
+    -- the buffer's bytes show that those of the payload are bytes
     pub input-queued : Bytes b′ → QueuedAs b at wire (record { ok = true; end = at + n + size }) b″
     input-queued q =
         let part : Bytes (take (length piece) (drop (at + n) b′)) = bytes-take (length piece) (drop (at + n) b′) (bytes-drop (at + n) b′ q) in

@@ -16,13 +16,13 @@ use Rattle.codec.specs.declared.Written.{Written}
 use Rattle.codec.proofs.Laws.{refused-room, written-end}
 use Rattle.outbox.specs.Outbox.{QueuedAs}
 
-room-told : (t : Bool) → _≡_ {A = ℕ} (pick t 5 0) 0 → t ≡ false
-room-told true e = absurd (omega arith)
-room-told false e = refl
+room-known : (t : Bool) → _≡_ {A = ℕ} (pick t 5 0) 0 → t ≡ false
+room-known true e = absurd (omega arith)
+room-known false e = refl
 
-full-told : (t : Bool) → (_≡_ {A = ℕ} (pick t 5 0) 0 → ⊥) → t ≡ true
-full-told true n = refl
-full-told false n = absurd (n refl)
+full-known : (t : Bool) → (_≡_ {A = ℕ} (pick t 5 0) 0 → ⊥) → t ≡ true
+full-known true n = refl
+full-known false n = absurd (n refl)
 
 module _ (b : List ℕ) (at : ℕ) (m : Message) (p : List ℕ) (few : m .reports .count ≤ mostPlayers) (short : length p ≤ mostPayload)
     (four : length (m .reports .list) ≡ 4) (w : Wire) (is : meant m p ≡ w) (r : Written) (b′ : List ℕ) (h : WrittenAs b at m p r b′) where
@@ -32,7 +32,7 @@ module _ (b : List ℕ) (at : ℕ) (m : Message) (p : List ℕ) (few : m .report
   pub queued : numberOf (r .answer) ≡ 0 → QueuedAs b at w (record { ok = true; end = r .end }) b′
   queued done =
       let none : writeRefusal b at m (length p) ≡ 0 = sym (h .answer) ∙ done in
-      let room : noRoom b at (tableSize w) ≡ false = room-told _ (sym refusal ∙ none) in
+      let room : noRoom b at (tableSize w) ≡ false = room-known _ (sym refusal ∙ none) in
       record {
         ok = rw room;
         end = written-end b at m p r b′ h done ∙ rw is;
@@ -42,7 +42,7 @@ module _ (b : List ℕ) (at : ℕ) (m : Message) (p : List ℕ) (few : m .report
 
   pub full : (numberOf (r .answer) ≡ 0 → ⊥) → QueuedAs b at w (record { ok = false; end = at }) b′
   full refused =
-      let over : noRoom b at (tableSize w) ≡ true = full-told _ (λ e. refused (h .answer ∙ refusal ∙ e)) in
+      let over : noRoom b at (tableSize w) ≡ true = full-known _ (λ e. refused (h .answer ∙ refusal ∙ e)) in
       let five : writeRefusal b at m (length p) ≡ 5 = refusal ∙ rw over in
       record {
         ok = rw over;

@@ -6,15 +6,16 @@ use Prim.Native.Nat.{ℕ, _+_, _*_, min}
 use lib.ListN.{length}
 use Rattle.base.specs.Pick.{pick}
 use Rattle.base.specs.Lay.{noRoom, laidAt}
+use Rattle.ceilings.specs.Ceilings.{mostWidth}
 use Rattle.frame.specs.Bias.{nullFrame}
 use Rattle.status.specs.declared.ConnectionStatus.{ConnectionStatus}
 use Rattle.packing.specs.Packing.{xors, pack}
 use Rattle.packing.specs.declared.input_bytes.InputBytes.{InputBytes}
 use Rattle.pending.specs.Pending.{firstFrame, payload}
 use Rattle.codec.specs.Sizes.{fixedSize}
-use Rattle.codec.specs.Message.{Wire, Fits, listed, tableSize}
+use Rattle.codec.specs.Message.{Wire, Fits, reportList, tableSize}
 use Rattle.codec.specs.Bytes.{bytes}
-use Rattle.codec.specs.Read.{plain}
+use Rattle.codec.specs.Read.{bodyOnly}
 use Rattle.codec.specs.declared.StatusReport.{StatusReport}
 use Rattle.codec.specs.declared.StatusReports.{StatusReports}
 use Rattle.codec.specs.declared.MessageBody.the-variants.{Input, InputAck, KeepAlive}
@@ -28,9 +29,9 @@ pub record QueuedAs (buffer : List ℕ) (at : ℕ) (w : Wire) (r : Queued) (buff
   pub fits : r .ok ≡ true → Fits w
 
 -- the bytes that messages take by the table of sizes (W-7)
-unfoldable pub sizes : List Wire → ℕ
-sizes [] = 0
-sizes (w ∷ ws) = tableSize w + sizes ws
+unfoldable pub queueSize : List Wire → ℕ
+queueSize [] = 0
+queueSize (w ∷ ws) = tableSize w + queueSize ws
 
 -- a status as it travels
 unfoldable pub reportOf : ConnectionStatus → StatusReport
@@ -47,21 +48,21 @@ pendingInput magic ack statuses inputs width acked =
     }
 
 -- the reports of at most 4 statuses, by the array and its count
-pub record ReportsAs (statuses : List ConnectionStatus) (r : StatusReports) : Type 0 where
-  pub list : listed r ≡ map reportOf statuses
+pub record StatusReportsAs (statuses : List ConnectionStatus) (r : StatusReports) : Type 0 where
+  pub list : reportList r ≡ map reportOf statuses
   pub count : r .count ≡ length statuses
 
 -- the size of that Input: 31 + 5n + b, whatever else it holds
 pub record InputSizedAs (statuses : List ConnectionStatus) (inputs : List InputBytes) (width r : ℕ) : Type 0 where
-  pub counted : r ≡ fixedSize 2 + 5 * length statuses + length inputs * min width 64
-  pub sized : (magic ack : ℕ) (acked : InputBytes) → length (acked .bytes) ≡ 64 → tableSize (pendingInput magic ack statuses inputs width acked) ≡ r
+  pub counted : r ≡ fixedSize 2 + 5 * length statuses + length inputs * min width mostWidth
+  pub sized : (magic ack : ℕ) (acked : InputBytes) → length (acked .bytes) ≡ mostWidth → tableSize (pendingInput magic ack statuses inputs width acked) ≡ r
 
 -- worked: an InputAck takes 10 bytes, and with a KeepAlive behind it 16
-ack-size : tableSize (plain 0x1234 (InputAck nullFrame)) ≡ 10
+ack-size : tableSize (bodyOnly 0x1234 (InputAck nullFrame)) ≡ 10
 ack-size = refl
 
-two-sizes : sizes (plain 0x1234 (InputAck nullFrame) ∷ plain 0x1234 KeepAlive ∷ []) ≡ 16
-unfolding sizes
+two-sizes : queueSize (bodyOnly 0x1234 (InputAck nullFrame) ∷ bodyOnly 0x1234 KeepAlive ∷ []) ≡ 16
+unfolding queueSize
 two-sizes = refl
 
 -- worked: two inputs of one byte, from the first's frame on; with one status the Input takes 31 + 5 + 2 bytes

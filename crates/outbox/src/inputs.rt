@@ -1,8 +1,8 @@
 // All pending inputs as one Input, its payload packed straight into the queue.
 use crate::Queued;
+use codec::FIXED_SIZES;
 use codec::Message;
 use codec::MessageBody;
-use codec::SIZES;
 use codec::STATUS_SIZE;
 use codec::StatusReport;
 use codec::StatusReports;
@@ -12,14 +12,14 @@ use status::Statuses;
 ghost use mathlib.Core.Path.{_≡_};
 ghost use Prim.Native.Nat.{_+_, _*_};
 ghost use lib.ListN.{length};
-ghost use Rattle.status.specs.Statuses.{held};
+ghost use Rattle.status.specs.Statuses.{heldStatuses};
 ghost use Rattle.pending.specs.Pending.{waiting};
 ghost use Rattle.codec.specs.Sizes.{fixedSize};
-ghost use Rattle.outbox.specs.Outbox.{QueuedAs, ReportsAs, InputSizedAs, pendingInput};
+ghost use Rattle.outbox.specs.Outbox.{QueuedAs, StatusReportsAs, InputSizedAs, pendingInput};
 
 // The statuses as they travel: never more than a message may have.
 fn reports_of(statuses: Statuses) -> StatusReports
-    ensures { λ r. ⌜ ReportsAs (held statuses) r ⌝ }
+    ensures { λ r. ⌜ StatusReportsAs (heldStatuses statuses) r ⌝ }
 {
     let count = statuses.count();
     let mut reports = codec::no_reports();
@@ -38,9 +38,9 @@ fn reports_of(statuses: Statuses) -> StatusReports
 
 // The bytes of an Input before its payload.
 fn head_size(statuses: Statuses) -> usize
-    ensures { λ r. ⌜ r ≡ fixedSize 2 + 5 * length (held statuses) ⌝ }
+    ensures { λ r. ⌜ r ≡ fixedSize 2 + 5 * length (heldStatuses statuses) ⌝ }
 {
-    SIZES[2] + STATUS_SIZE * statuses.count()
+    FIXED_SIZES[2] + STATUS_SIZE * statuses.count()
 }
 
 // Only a running endpoint sends inputs, so none requests a disconnect.
@@ -54,7 +54,7 @@ pub fn pending_input(
     width: usize,
     acked: InputBytes,
 ) -> Queued
-    ensures { λ r. ⌜ QueuedAs (now (out .entry)) at (pendingInput magic ack (held statuses) (waiting pending) width acked) r (now (out .exit)) ⌝ }
+    ensures { λ r. ⌜ QueuedAs (now (out .entry)) at (pendingInput magic ack (heldStatuses statuses) (waiting pending) width acked) r (now (out .exit)) ⌝ }
 {
     let body = MessageBody::Input {
         disconnect_requested: false,
@@ -72,7 +72,7 @@ pub fn pending_input(
     if out.len() < at || out.len() - at < head + size {
         return Queued { ok: false, end: at };
     }
-    // The payload goes first: the compiler cannot tell that a write to the buffer leaves the pending
+    // The payload goes first: the compiler does not know that a write to the buffer leaves the pending
     // inputs as they were, so behind the head it would copy them once more.
     pending.pack_all(out, at + head, width, acked);
     codec::write_head(out, at, message, size);
@@ -85,7 +85,7 @@ pub fn pending_input(
 // The bytes that it takes, for a caller that must know that several messages fit before it writes
 // any.
 pub fn input_size(statuses: Statuses, pending: Pending, width: usize) -> usize
-    ensures { λ r. ⌜ InputSizedAs (held statuses) (waiting pending) width r ⌝ }
+    ensures { λ r. ⌜ InputSizedAs (heldStatuses statuses) (waiting pending) width r ⌝ }
 {
     head_size(statuses) + pending.payload_size(width)
 }

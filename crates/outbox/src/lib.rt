@@ -7,7 +7,7 @@ use codec::Message;
 use codec::MessageBody;
 pub use inputs::input_size;
 pub use inputs::pending_input;
-ghost use Rattle.codec.specs.Read.{plain};
+ghost use Rattle.codec.specs.Read.{bodyOnly};
 ghost use Rattle.outbox.specs.Outbox.{QueuedAs};
 
 // Whether a message was written, and where the queue now ends.
@@ -17,8 +17,8 @@ pub struct Queued {
 }
 
 // A message without statuses and payload.
-pub fn plain(out: &mut [u8], at: usize, magic: u16, body: MessageBody) -> Queued
-    ensures { λ r. ⌜ QueuedAs (now (out .entry)) at (plain magic body) r (now (out .exit)) ⌝ }
+pub fn body_only(out: &mut [u8], at: usize, magic: u16, body: MessageBody) -> Queued
+    ensures { λ r. ⌜ QueuedAs (now (out .entry)) at (bodyOnly magic body) r (now (out .exit)) ⌝ }
 {
     let reports = codec::no_reports();
     let message = Message {

@@ -1,15 +1,15 @@
 -- Laws of packing: a byte twice XOR the same is itself; packing and unpacking undo each other; the lengths.
 use borrow.Author.Tests.{lt-ltb, eqb-true}
-use mathlib.Core.Path.{_≡_, refl, sym, _∙_, ap, ap₂}
+use mathlib.Core.Path.{_≡_, refl, sym, ap, ap₂}
 use mathlib.Core.Bool.{true}
 use mathlib.Core.List.{List, [], _∷_}
-use Prim.Native.Nat.{ℕ, zero, suc, _+_, _-_, _*_, _/_, _%_, _≤_, _<_, _^_, min}
+use Prim.Native.Nat.{ℕ, zero, suc, _-_, _*_, _/_, _%_, _≤_, _<_, _^_, min}
 use native.Mathlib.Omega.{arith}
 use native.Mathlib.Nat.{not-suc-le-zero, le-of-suc-le-suc, div-add-mod', suc-mul, zero-mul, mul-div-cancel, pow-suc, mul-mod-left, sub-zero, zero-sub, suc-sub-suc, add-comm}
 use lib.Bits.{bitXor, differ, xor-step, xor-zero-l, xor-self, xor-comm}
 use lib.ListN.{length, take, drop, getD, length-append, length-take, length-drop, take-append-drop}
 use lib.Seq.{take-at, drop-at, drop-drop}
-use Rattle.packing.specs.Packing.{xors, pack, frameCount, frameOf, framesOf, unpack, decodable, decodableLength, Wide}
+use Rattle.packing.specs.Packing.{xors, pack, frameCount, framesOf, unpack, decodable, decodableLength, Wide}
 
 pub xors-length : (xs rs : List ℕ) → length (xors xs rs) ≡ min (length xs) (length rs)
 unfolding xors
@@ -128,19 +128,7 @@ module _ (w : ℕ) (r : List ℕ) (h : w ≤ length r) where
   unfolding unpack decodable
   pack-unpack p d = pack-frames (length p / w) p (sym (decodable-when w (length p) d .1))
 
--- frame k of a payload
-frames-at : (w : ℕ) (r : List ℕ) (n : ℕ) (p : List ℕ) (k : ℕ) → k < n → getD (framesOf w r n p) k [] ≡ frameOf r w k p
-unfolding framesOf frameOf
-frames-at w r zero p k h = absurd (not-suc-le-zero h)
-frames-at w r (suc n) p zero h = rw zero-mul
-frames-at w r (suc n) p (suc k) h =
-    let e : suc k * w ≡ w + k * w = omega (arith, suc-mul k w) in
-    frames-at w r n (drop w p) k (le-of-suc-le-suc h) ∙ rw (drop-drop, ← e)
-
-pub unpack-at : (w : ℕ) (r : List ℕ) (p : List ℕ) (k : ℕ) → k < frameCount w (length p) → getD (unpack w r p) k [] ≡ frameOf r w k p
-unfolding unpack
-unpack-at w r p k h = frames-at w r (frameCount w (length p)) p k h
-
+-- how many frames
 pub frames-length : (w : ℕ) (r : List ℕ) (n : ℕ) (p : List ℕ) → length (framesOf w r n p) ≡ n
 unfolding framesOf
 frames-length w r zero p = refl
@@ -149,13 +137,6 @@ frames-length w r (suc n) p = ap suc (frames-length w r n (drop w p))
 pub unpack-length : (w : ℕ) (r : List ℕ) (p : List ℕ) → length (unpack w r p) ≡ frameCount w (length p)
 unfolding unpack
 unpack-length w r p = frames-length w r (frameCount w (length p)) p
-
--- frame k of what is packed is the k-th frame
-pub pack-at : (w : ℕ) (r : List ℕ) → w ≤ length r → 0 < w → (fs : List (List ℕ)) → Wide w fs → (k : ℕ) → k < length fs
-    → frameOf r w k (pack r fs) ≡ getD fs k []
-pack-at w r h p fs a k b =
-    let n : frameCount w (length (pack r fs)) ≡ length fs = rw (pack-length w r h fs a) (mul-div-cancel (length fs) p) in
-    sym (unpack-at w r (pack r fs) k (omega arith)) ∙ rw (unpack-pack w r h p fs a)
 
 -- fewer of the frames
 frames-take : (w : ℕ) (r : List ℕ) (n m : ℕ) (p : List ℕ) → take n (framesOf w r m p) ≡ framesOf w r (min n m) p

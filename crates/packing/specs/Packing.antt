@@ -2,7 +2,7 @@
 use mathlib.Core.Bool.{Bool, false, not}
 use mathlib.Core.List.{List, [], _∷_, _++_}
 use mathlib.Core.Path.{_≡_, refl}
-use Prim.Native.Nat.{ℕ, zero, suc, _*_, _/_, _%_}
+use Prim.Native.Nat.{ℕ, zero, suc, _/_, _%_}
 use lib.Bits.{bitXor}
 use lib.Dec.{ltb, eqb}
 use lib.ListN.{length, take, drop}
@@ -23,10 +23,6 @@ pack reference (f ∷ fs) = xors f reference ++ pack reference fs
 -- how many whole frames a payload of a length has: none of width 0
 abbrev pub frameCount : ℕ → ℕ → ℕ
 frameCount width n = n / width
-
--- frame k of a payload
-unfoldable pub frameOf : List ℕ → ℕ → ℕ → List ℕ → List ℕ
-frameOf reference width k payload = xors (take width (drop (k * width) payload)) reference
 
 -- the first n frames of a payload
 unfoldable pub framesOf : ℕ → List ℕ → ℕ → List ℕ → List (List ℕ)
@@ -50,7 +46,7 @@ Wide width [] = Unit {0}
 Wide width (f ∷ fs) = (length f ≡ width) × Wide width fs
 
 -- what a call that lays bytes at a place of a lent buffer answers and leaves: all of them, or nothing where they do not fit
-pub record LaidAs (before : List ℕ) (at : ℕ) (bytes : List ℕ) (answer : Bool) (after : List ℕ) : Type 0 where
+pub record PlacedAs (before : List ℕ) (at : ℕ) (bytes : List ℕ) (answer : Bool) (after : List ℕ) : Type 0 where
   pub done : answer ≡ not (noRoom before at (length bytes))
   pub lent : after ≡ pick (noRoom before at (length bytes)) before (laidAt before at bytes)
 

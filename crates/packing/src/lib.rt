@@ -4,7 +4,7 @@ ghost use mathlib.Core.Path.{_≡_};
 ghost use Prim.Native.Nat.{min};
 ghost use lib.ListN.{take, drop};
 ghost use Rattle.ceilings.specs.Ceilings.{mostWidth};
-ghost use Rattle.packing.specs.Packing.{xors, decodableLength, frameCount, LaidAs};
+ghost use Rattle.packing.specs.Packing.{xors, decodableLength, frameCount, PlacedAs};
 ghost use Rattle.packing.specs.Pad.{padded};
 
 pub mod input_bytes;
@@ -16,11 +16,7 @@ pub use input_bytes::InputBytes;
 pub fn frame_width(width: usize) -> usize
     ensures { λ r. ⌜ r ≡ min width mostWidth ⌝ }
 {
-    if width < MOST_WIDTH {
-        width
-    } else {
-        MOST_WIDTH
-    }
+    numbers::least(width, MOST_WIDTH)
 }
 
 // Lays one frame, XOR the reference, at a place of a lent buffer; where it does not fit, nothing is written.
@@ -31,7 +27,7 @@ pub fn pack_frame(
     width: usize,
     reference: [u8; MOST_WIDTH],
 ) -> bool
-    ensures { λ r. ⌜ LaidAs (now (out .entry)) at (xors (take width frame) reference) r (now (out .exit)) ⌝ }
+    ensures { λ r. ⌜ PlacedAs (now (out .entry)) at (xors (take width frame) reference) r (now (out .exit)) ⌝ }
 {
     let w = frame_width(width);
     let len = out.len();

@@ -10,15 +10,15 @@ use lib.ListN.{length, take, drop, getD, length-append, length-take}
 use lib.Seq.{drop-cons}
 use Rattle.base.specs.Lay.{laidAt}
 use Rattle.base.proofs.Lay.{laid-length, laid-join}
-use Rattle.packing.specs.Packing.{xors, pack, LaidAs}
+use Rattle.packing.specs.Packing.{xors, pack, PlacedAs}
 use Rattle.packing.proofs.Laws.{xors-length}
 use Rattle.packing.specs.declared.input_bytes.InputBytes.{InputBytes}
-use Rattle.pending.specs.Pending.{frameBytes}
+use Rattle.pending.specs.Pending.{sentBytes}
 use Rattle.packing.proofs.Inputs.{Full, full-at}
 
 -- what is left to lay from the k-th on
 abbrev pub left : List ℕ → ℕ → ℕ → List InputBytes → List ℕ
-left r width k l = pack r (map (frameBytes width) (drop k l))
+left r width k l = pack r (map (sentBytes width) (drop k l))
 
 pub record Turned (r : List ℕ) (width : ℕ) (l : List InputBytes) (k : ℕ) (out : List ℕ) (place : ℕ) (after : List ℕ) : Type 0 where
   pub long : length after ≡ length out
@@ -40,7 +40,7 @@ module _ (r : List ℕ) (width : ℕ) (l : List InputBytes) (k : ℕ) (d : Input
   left-turn = rw (add-one, drop-cons l k d h)
 
   pub turned : (out : List ℕ) (place : ℕ) (after : List ℕ) (ok : Bool) → place + length (left r width k l) ≤ length out
-      → LaidAs out place (xors (take width (getD l k d .bytes)) r) ok after → Turned r width l k out place after
+      → PlacedAs out place (xors (take width (getD l k d .bytes)) r) ok after → Turned r width l k out place after
   unfolding frame
   turned out place after ok fits e =
       let n = frame-length in

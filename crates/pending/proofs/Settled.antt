@@ -6,7 +6,7 @@ use Prim.Native.Nat.{ℕ}
 use lib.ListN.{length}
 use Rattle.base.proofs.Settled.{settled}
 use Rattle.packing.specs.declared.input_bytes.InputBytes.{InputBytes}
-use Rattle.packing.specs.Packing.{LaidAs}
+use Rattle.packing.specs.Packing.{PlacedAs}
 use Rattle.packing.proofs.Settled.{laid-settled}
 use Rattle.pending.specs.declared.Pending.{Pending}
 use Rattle.pending.specs.declared.Pushed.{Pushed}
@@ -38,5 +38,5 @@ module _ (p : Pending) where
   payload-size-settled width r s a b = a .counted ∙ sym (b .counted)
 
   pub pack-all-settled : (before : List ℕ) (at width : ℕ) (reference : InputBytes) (r s : Bool) (after after′ : List ℕ)
-      → LaidAs before at (payload width reference (waiting p)) r after → LaidAs before at (payload width reference (waiting p)) s after′ → (r ≡ s) × (after ≡ after′)
+      → PlacedAs before at (payload width reference (waiting p)) r after → PlacedAs before at (payload width reference (waiting p)) s after′ → (r ≡ s) × (after ≡ after′)
   pack-all-settled before at width reference = laid-settled before at (payload width reference (waiting p))

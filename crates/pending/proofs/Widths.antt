@@ -1,4 +1,4 @@
--- The frames packed from a store all have the width, so the size of its payload is told by their number.
+-- The frames packed from a store all have the width, so the size of its payload is determined by their number.
 use mathlib.Core.Path.{_≡_, _∙_}
 use mathlib.Core.List.{List, [], _∷_, map}
 use Prim.Native.Nat.{ℕ, _*_, _≤_, min}
@@ -10,10 +10,10 @@ use Rattle.packing.specs.declared.input_bytes.InputBytes.{InputBytes}
 use Rattle.packing.proofs.Laws.{pack-length}
 use Rattle.packing.proofs.Inputs.{Full}
 use Rattle.pending.specs.declared.Pending.{Pending}
-use Rattle.pending.specs.Pending.{waiting, frameBytes, payload, SizedAs}
+use Rattle.pending.specs.Pending.{waiting, sentBytes, payload, SizedAs}
 use Rattle.pending.proofs.Laws.{waiting-le}
 
-pub frames-wide : (width : ℕ) (l : List InputBytes) → Full l → Wide (min width 64) (map (frameBytes width) l)
+pub frames-wide : (width : ℕ) (l : List InputBytes) → Full l → Wide (min width 64) (map (sentBytes width) l)
 unfolding Full Wide
 frames-wide width [] h = tt
 frames-wide width (x ∷ l) h = (length-take width (x .bytes) ∙ rw (h .0), frames-wide width l (h .1))
@@ -23,8 +23,8 @@ pub payload-length : (width : ℕ) (reference : InputBytes) (l : List InputBytes
     → length (payload width reference l) ≡ length l * min width 64
 unfolding payload
 payload-length width reference l h r =
-    pack-length (min width 64) (reference .bytes) (omega arith) (map (frameBytes width) l) (frames-wide width l h)
-    ∙ rw (length-map l (frameBytes width))
+    pack-length (min width 64) (reference .bytes) (omega arith) (map (sentBytes width) l) (frames-wide width l h)
+    ∙ rw (length-map l (sentBytes width))
 
 -- it is at most 129 frames of 64 bytes
 pub payload-most : (p : Pending) (width r : ℕ) → length (p .slots) ≡ 129 → SizedAs p width r → r ≤ 8256

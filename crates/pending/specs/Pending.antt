@@ -6,7 +6,7 @@ use Prim.Native.Nat.{ℕ, _*_, min}
 use lib.Dec.{ltb, leb}
 use lib.ListN.{length, take}
 use Rattle.base.specs.Pick.{pick}
-use Rattle.ceilings.specs.Ceilings.{mostPending}
+use Rattle.ceilings.specs.Ceilings.{mostWidth, mostPending}
 use Rattle.packing.specs.Packing.{pack}
 use Rattle.packing.specs.declared.input_bytes.InputBytes.{InputBytes}
 use Rattle.pending.specs.declared.Pending.{Pending}
@@ -50,12 +50,12 @@ lastFrame none [] = none
 lastFrame none (x ∷ xs) = lastFrame (x .frame) xs
 
 -- the bytes of an input that count
-abbrev pub frameBytes : ℕ → InputBytes → List ℕ
-frameBytes width x = take width (x .bytes)
+abbrev pub sentBytes : ℕ → InputBytes → List ℕ
+sentBytes width x = take width (x .bytes)
 
 -- all inputs packed against the reference
 unfoldable pub payload : ℕ → InputBytes → List InputBytes → List ℕ
-payload width reference l = pack (reference .bytes) (map (frameBytes width) l)
+payload width reference l = pack (reference .bytes) (map (sentBytes width) l)
 
 pub record PushedAs (p : Pending) (x : InputBytes) (none : ℕ) (r : Pushed) : Type 0 where
   pub ok : r .ok ≡ room (waiting p)
@@ -65,8 +65,8 @@ pub record PushedAs (p : Pending) (x : InputBytes) (none : ℕ) (r : Pushed) : T
 
 -- the size of all inputs packed, against any reference
 pub record SizedAs (p : Pending) (width : ℕ) (r : ℕ) : Type 0 where
-  pub counted : r ≡ length (waiting p) * min width 64
-  pub packed : (reference : InputBytes) → length (reference .bytes) ≡ 64 → length (payload width reference (waiting p)) ≡ r
+  pub counted : r ≡ length (waiting p) * min width mostWidth
+  pub packed : (reference : InputBytes) → length (reference .bytes) ≡ mostWidth → length (payload width reference (waiting p)) ≡ r
 
 pub record DroppedAs (p : Pending) (ack : ℕ) (reference : InputBytes) (r : Dropped) : Type 0 where
   pub last : r .last ≡ lastTo ack reference (waiting p)

@@ -2,9 +2,10 @@
 ghost use mathlib.Core.Path.{_≡_};
 ghost use mathlib.Core.List.{[]};
 ghost use lib.ListN.{length};
-ghost use Rattle.packing.specs.Packing.{LaidAs};
+ghost use Rattle.packing.specs.Packing.{PlacedAs};
 ghost use Rattle.pending.specs.Pending.{waiting, drops, firstFrame, payload, PushedAs, SizedAs, DroppedAs};
 use ceilings::MOST_PENDING;
+use ceilings::MOST_WIDTH;
 use packing::InputBytes;
 
 pub struct Pending {
@@ -30,7 +31,7 @@ impl Pending {
     {
         let blank = InputBytes {
             frame: 0,
-            bytes: [0u8; 64],
+            bytes: [0u8; MOST_WIDTH],
         };
         Pending {
             slots: [blank; MOST_PENDING],
@@ -41,12 +42,7 @@ impl Pending {
     pub fn count(self) -> usize
         ensures { λ r. ⌜ r ≡ length (waiting self) ⌝ }
     {
-        let used = self.used;
-        if used < MOST_PENDING {
-            used
-        } else {
-            MOST_PENDING
-        }
+        numbers::least(self.used, MOST_PENDING)
     }
 
     // One more at the end; where it is full, unchanged and not ok. The answer has the last frame before it too, or the one given where there was none.
@@ -128,7 +124,7 @@ impl Pending {
 
     // Packs all inputs against the reference straight into a lent buffer; where they do not fit, nothing is written.
     pub fn pack_all(self, out: &mut [u8], at: usize, width: usize, reference: InputBytes) -> bool
-        ensures { λ r. ⌜ LaidAs (now (out .entry)) at (payload width reference (waiting self)) r (now (out .exit)) ⌝ }
+        ensures { λ r. ⌜ PlacedAs (now (out .entry)) at (payload width reference (waiting self)) r (now (out .exit)) ⌝ }
     {
         let size = self.payload_size(width);
         let len = out.len();

@@ -1,5 +1,5 @@
 -- Laws for other crates: ranges, a reported advantage and back, the round trip time by the whole pong, and the local advantage over the signed numbers:
--- what it is, and that an overflow is told exactly where product, sum or difference leaves i32.
+-- what it is, and that an overflow is answered exactly where product, sum or difference leaves i32.
 use borrow.Author.Tests.{lt-ltb, le-ltb, lt-leb, ltb-false, leb-false, eqb-true, eqb-false}
 use mathlib.Core.Bool.{true, false, _||_}
 use mathlib.Core.Path.{_≡_, refl, _∙_}
@@ -109,7 +109,7 @@ module _ (received time fps frame : ℕ) where
     unfolding advantageOf
     advantage-signed = signed-difference bias32 (remoteFrame received time fps) frame (difference-passes .0) ∙ rw sum-is
 
-    -- where no overflow is told, each step is within i32
+    -- where no overflow is answered, each step is within i32
     pub steps-within : (product time fps < 2 ^ 31) × IsI32 sum × IsI32 difference
     steps-within = (
       leb-false (2 ^ 31) (product time fps) (passes .0),
@@ -117,7 +117,7 @@ module _ (received time fps frame : ℕ) where
       rw advantage-signed at (signed-within bias32 (advantageOf received time fps frame) advantage-below),
     )
 
-  -- and none is told where each is
+  -- and none is answered where each is
   pub no-overflow : product time fps < 2 ^ 31 → IsI32 sum → IsI32 difference → advantageOverflows received time fps frame ≡ false
   unfolding advantageOverflows
   no-overflow p s d =

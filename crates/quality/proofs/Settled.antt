@@ -27,11 +27,11 @@ shown-one-to-one Overflow (Frames b) e = absurd (omega (arith, ap (λ (x : ℕ �
 shown-one-to-one Overflow Overflow e = refl
 
 module _ (received time fps frame : ℕ) where
-  abbrev told : ℕ × ℕ
-  told = pick (advantageOverflows received time fps frame) (6, 0) (0, advantageOf received time fps frame)
+  abbrev answered : ℕ × ℕ
+  answered = pick (advantageOverflows received time fps frame) (6, 0) (0, advantageOf received time fps frame)
 
-  pub local-advantage-settled : (r s : Advantage) → shownAdvantage r ≡ told → shownAdvantage s ≡ told → r ≡ s
-  local-advantage-settled r s e f = shown-one-to-one r s (settled shownAdvantage told r s e f)
+  pub local-advantage-settled : (r s : Advantage) → shownAdvantage r ≡ answered → shownAdvantage s ≡ answered → r ≡ s
+  local-advantage-settled r s e f = shown-one-to-one r s (settled shownAdvantage answered r s e f)
 
 module _ (r s : Quality) where
   pub new-settled : r ≡ freshQuality → s ≡ freshQuality → r ≡ s

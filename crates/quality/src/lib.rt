@@ -5,8 +5,9 @@ ghost use Rattle.base.specs.Pick.{pick};
 ghost use Rattle.quality.specs.Quality.{clamped, widened, roundTrip, freshQuality, startedAt, remoteSet, tripNoted, localSet};
 ghost use Rattle.quality.specs.Advantage.{halfTrip, advantageOf, advantageOverflows, shownAdvantage};
 use frame::BIAS32;
+use numbers::WORD;
 
-// What `network_stats` tells of; the start is of the epoch clock.
+// What `network_stats` shows; the start is of the epoch clock.
 pub struct Quality {
     pub local_frame_advantage: u32,
     pub remote_frame_advantage: u32,
@@ -33,10 +34,8 @@ const I16_START: u32 = 0x7FFF_8000;
 
 const I16_END: u32 = 0x8000_8000;
 
-// The greatest i32, and what follows the greatest number that a frame is held as.
+// The greatest i32.
 const I32_MAX: u64 = 0x7FFF_FFFF;
-
-const FRAME_END: u64 = 0x1_0000_0000;
 
 // An advantage as it is reported: beyond i16 it is the nearest i16.
 pub fn clamped(advantage: u32) -> u16
@@ -65,12 +64,10 @@ pub fn round_trip(epoch: u64, low: u64, high: u64) -> u64
     if high != 0 {
         return 0;
     }
-    if epoch < low {
-        return 0;
-    }
-    epoch - low
+    numbers::minus(epoch, low)
 }
 
+// At most the greatest i32. `numbers` has no `least` for u64: this is the only place that would call it.
 fn half_trip(round_trip_time: u64) -> u64
     ensures { λ r. ⌜ r ≡ halfTrip «round_trip_time» ⌝ }
 {
@@ -87,7 +84,7 @@ pub fn local_advantage(received: u32, round_trip_time: u64, fps: u32, local_fram
         return Advantage::Overflow;
     }
     let remote_frame = received as u64 + product / 1000;
-    if FRAME_END <= remote_frame {
+    if WORD <= remote_frame {
         return Advantage::Overflow;
     }
     let raised = remote_frame + BIAS32 as u64;
@@ -95,7 +92,7 @@ pub fn local_advantage(received: u32, round_trip_time: u64, fps: u32, local_fram
         return Advantage::Overflow;
     }
     let advantage = raised - local_frame as u64;
-    if FRAME_END <= advantage {
+    if WORD <= advantage {
         return Advantage::Overflow;
     }
     Advantage::Frames(advantage as u32)

@@ -6,10 +6,10 @@ use lib.ListN.{length}
 use Rattle.base.proofs.Settled.{settled}
 use Rattle.setup.specs.declared.Handles.{Handles}
 use Rattle.setup.specs.declared.Setup.{Setup}
-use Rattle.setup.specs.Setup.{badSetup, sorted, listed, termsOf, termsWith, SortedAs, receivingWidth, sendingWidth, intervalOf}
+use Rattle.setup.specs.Setup.{badSetup, sorted, handleList, termsOf, termsWith, SortedAs, receivingWidth, sendingWidth, intervalOf}
 
-pub count-settled : (h : Handles) (r s : ℕ) → r ≡ length (listed h) → s ≡ length (listed h) → r ≡ s
-count-settled h = settled (λ r. r) (length (listed h))
+pub count-settled : (h : Handles) (r s : ℕ) → r ≡ length (handleList h) → s ≡ length (handleList h) → r ≡ s
+count-settled h = settled (λ r. r) (length (handleList h))
 
 module _ (g : Setup) where
   pub is-bad-settled : (r s : Bool) → r ≡ badSetup g → s ≡ badSetup g → r ≡ s
@@ -17,7 +17,7 @@ module _ (g : Setup) where
 
   pub sorted-settled : (r s : Setup) → SortedAs g r → SortedAs g s → (termsOf r ≡ termsOf s) × (r .handles .count ≡ s .handles .count)
   sorted-settled r s p q =
-      (settled termsOf (termsWith (sorted (listed (g .handles))) g) r s (p .0) (q .0), settled (λ (x : Setup). x .handles .count) (g .handles .count) r s (p .1) (q .1))
+      (settled termsOf (termsWith (sorted (handleList (g .handles))) g) r s (p .0) (q .0), settled (λ (x : Setup). x .handles .count) (g .handles .count) r s (p .1) (q .1))
 
   pub receiving-width-settled : (r s : ℕ) → r ≡ receivingWidth (termsOf g) → s ≡ receivingWidth (termsOf g) → r ≡ s
   receiving-width-settled = settled (λ r. r) (receivingWidth (termsOf g))

@@ -1,5 +1,5 @@
 -- The setup of an endpoint (C-1 to C-10): what is given, when it lies outside the ceilings, what an endpoint keeps of it, and what then holds of that.
-use mathlib.Core.Bool.{Bool, true, false, _||_}
+use mathlib.Core.Bool.{Bool, true, false}
 use mathlib.Core.List.{List, [], _∷_}
 use mathlib.Core.Path.{_≡_, refl}
 use Prim.Native.Nat.{ℕ, zero, suc, _*_, _^_, _≤_, _<_}
@@ -65,16 +65,16 @@ anyOf [] = false
 anyOf (t ∷ ts) = pick t true (anyOf ts)
 
 -- the handles given; of more than four, four
-abbrev pub listed : Handles → List ℕ
-listed h = take (h .count) (h .list)
+abbrev pub handleList : Handles → List ℕ
+handleList h = take (h .count) (h .list)
 
 -- handles that list these, with this count; what their array holds past the count is left open
 abbrev pub ListedAs : List ℕ → ℕ → Handles → Type 0
-ListedAs hs n r = (listed r ≡ hs) × (r .count ≡ n)
+ListedAs hs n r = (handleList r ≡ hs) × (r .count ≡ n)
 
 -- handles outside their ceilings (C-2)
 abbrev pub badHandles : Handles → Bool
-badHandles h = anyOf (outside 1 mostPlayers (h .count) ∷ anyTwice (listed h) ∷ anyAbove mostHandle (listed h) ∷ [])
+badHandles h = anyOf (outside 1 mostPlayers (h .count) ∷ anyTwice (handleList h) ∷ anyAbove mostHandle (handleList h) ∷ [])
 
 -- an interval outside its ceilings (C-10)
 abbrev pub badDesync : DesyncDetection → Bool
@@ -131,11 +131,11 @@ termsWith handles g =
 
 -- the terms of a setup as given
 abbrev pub termsOf : Setup → Terms
-termsOf g = termsWith (listed (g .handles)) g
+termsOf g = termsWith (handleList (g .handles)) g
 
 -- a setup with its handles sorted, and their count as it was, beyond 4 too
 abbrev pub SortedAs : Setup → Setup → Type 0
-SortedAs g r = (termsOf r ≡ termsWith (sorted (listed (g .handles))) g) × (r .handles .count ≡ g .handles .count)
+SortedAs g r = (termsOf r ≡ termsWith (sorted (handleList (g .handles))) g) × (r .handles .count ≡ g .handles .count)
 
 -- off is interval 1 (E-37)
 abbrev pub intervalOf : DesyncDetection → ℕ

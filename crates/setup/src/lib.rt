@@ -1,6 +1,5 @@
 // The setup of an endpoint: what is given to `new`, whether it keeps the ceilings, and what an endpoint reads of it.
 ghost use mathlib.Core.Path.{_≡_};
-ghost use Rattle.numbers.specs.Range.{outside};
 ghost use Rattle.setup.specs.Setup.{termsOf, SortedAs, badSetup, badDesync, intervalOf, receivingWidth, sendingWidth};
 
 mod list;
@@ -15,7 +14,7 @@ pub enum DesyncDetection {
 
 // What a setup chooses between ways of working.
 pub struct Choices {
-    // ggrs: `desync_detection`.
+    // Whether the ends report checksums of frames to each other, and how many frames apart. ggrs: `desync_detection`.
     pub desync_detection: DesyncDetection,
 }
 
@@ -50,6 +49,7 @@ pub struct Setup {
     pub magic: u16,
     // The number by which the owner knows the other end, any: messages that come from another one are ignored. ggrs: `peer_addr`, an address.
     pub peer_addr: u32,
+    // Ways of working that both ends choose alike: checksum reports off, or on with an interval of 1 to 10,000. ggrs: `desync_detection`.
     pub choices: Choices,
 }
 

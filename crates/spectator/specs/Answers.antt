@@ -3,11 +3,13 @@ use mathlib.Core.List.{List, [], _++_}
 use mathlib.Core.Path.{_≡_}
 use Prim.Native.Nat.{ℕ}
 use lib.Dec.{eqb}
+use lib.ListN.{take}
 use Rattle.base.specs.Pick.{pick}
 use Rattle.base.specs.Lay.{laidAt}
 use Rattle.answer.specs.Number.{numberOf}
 use Rattle.codec.specs.Bytes.{queueOf}
-use Rattle.endpoint_rules.specs.Value.{filledPart}
+use Rattle.endpoint_rules.specs.Value.{filledPart, handedBack}
+use Rattle.endpoint.specs.Taken.{shorter}
 use Rattle.endpoint.specs.declared.getters.StatsResult.{StatsResult}
 use Rattle.endpoint.specs.declared.getters.StatsResult.the-variants.{Stats, Refused}
 use Rattle.spectator_rules.specs.declared.SessionSetup.{SessionSetup}
@@ -26,9 +28,10 @@ use Rattle.spectator.specs.declared.advancing.Advanced.{Advanced}
 use Rattle.spectator.specs.declared.getters.FramesBehind.{FramesBehind}
 use Rattle.spectator.specs.declared.getters.FramesBehind.the-variants.{Frames, Overflow}
 use Rattle.spectator.specs.declared.getters.TakenEvents.{TakenEvents}
+use Rattle.spectator.specs.declared.hosting.TakenMessages.{TakenMessages}
 use Rattle.spectator.specs.declared.polling.Polled.{Polled}
-use Rattle.spectator.specs.Stores.{eventsOf, framesOf}
-use Rattle.spectator.specs.Session.{seen}
+use Rattle.spectator.specs.Stores.{eventsOf, requestFrames}
+use Rattle.spectator.specs.Session.{seen, DoneAs}
 
 -- new: its number, and the session in any case
 pub record MadeAs (g : SessionSetup) (now : ℕ) (r : Ended) : Type 0 where
@@ -36,8 +39,8 @@ pub record MadeAs (g : SessionSetup) (now : ℕ) (r : Ended) : Type 0 where
   pub made : seen (r .session) ≡ fresh g now .1
 
 -- a call that changes nothing: its number, and its value where that is 0
-unfoldable pub told : Call → Watch → ℕ × Value
-told c w = (step c w .answer, pick (eqb (step c w .answer) 0) (valueOf c w) Value.nothing)
+unfoldable pub shown : Call → Watch → ℕ × Value
+shown c w = (step c w .answer, pick (eqb (step c w .answer) 0) (valueOf c w) Value.nothing)
 
 abbrev pub shownStats : StatsResult → ℕ × Value
 shownStats (Stats stats) = (0, Value.stats stats)
@@ -50,6 +53,12 @@ shownBehind Overflow = (6, Value.nothing)
 pub record TakenAs (s : SpectatorSession) (r : TakenEvents) : Type 0 where
   pub events : Value.events (eventsOf (r .events)) ≡ valueOf Call.takeEvents (seen s)
   pub after : seen (r .session) ≡ step Call.takeEvents (seen s) .after
+
+-- messages taken into another buffer, as from the session's endpoint: what is handed back stands at the front of it
+pub record TakenIntoAs (s : SpectatorSession) (queue into : List ℕ) (r : TakenMessages) (into′ : List ℕ) : Type 0 where
+  pub taken : DoneAs s (step (Call.takeMessages (shorter queue into)) (seen s)) (record { session = r .session; answer = r .answer })
+  pub count : r .count ≡ handedBack (shorter queue into) (seen s .host)
+  pub lent : into′ ≡ laidAt into 0 (take (r .count) queue)
 
 -- how many bytes a poll hands back: the filled part of the buffer, none where it is refused
 unfoldable pub polledPart : (now epoch nonce buffer : ℕ) → Watch → ℕ
@@ -74,5 +83,5 @@ pub record TakenInAs (s : SpectatorSession) (old : List Entry) (acted : Seen) (b
 pub record AdvancedAs (s : SpectatorSession) (r : Advanced) : Type 0 where
   pub answer : numberOf (r .answer) ≡ step Call.advanceFrame (seen s) .answer
   pub after : seen (r .session) ≡ step Call.advanceFrame (seen s) .after
-  pub requests : framesOf (r .requests) ≡ pick (eqb (step Call.advanceFrame (seen s) .answer) 0) (requestsOf (seen s)) []
+  pub requests : requestFrames (r .requests) ≡ pick (eqb (step Call.advanceFrame (seen s) .answer) 0) (requestsOf (seen s)) []
   pub same : (step Call.advanceFrame (seen s) .answer ≡ 0 → ⊥) → r .session ≡ s

@@ -5,7 +5,7 @@ use Prim.Native.Nat.{ℕ}
 use Rattle.base.specs.Lay.{laidAt}
 use Rattle.answer.specs.Number.{numberOf}
 use Rattle.codec.specs.Bytes.{queueOf}
-use Rattle.status.specs.Statuses.{held as heldStatuses}
+use Rattle.status.specs.Statuses.{heldStatuses}
 use Rattle.endpoint.specs.Endpoint.{seen as seenHost}
 use Rattle.endpoint.specs.declared.Endpoint.{Endpoint}
 use Rattle.spectator_rules.specs.Watch.{Watch}

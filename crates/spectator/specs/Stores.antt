@@ -1,6 +1,7 @@
 -- What the session's stores hold: lists, the first `used` of their arrays. A count beyond the array counts as the array's length.
 use mathlib.Core.List.{List, map}
 use lib.ListN.{take, replicate}
+use Rattle.ceilings.specs.Ceilings.{mostInputSize}
 use Rattle.spectator_rules.specs.declared.PlayerInput.{PlayerInput}
 use Rattle.spectator_rules.specs.declared.SessionEntry.{SessionEntry}
 use Rattle.spectator_rules.specs.declared.SessionEvent.the-variants.{Synchronized}
@@ -24,13 +25,13 @@ unfoldable pub requestOf : Request → List SyncedInput
 requestOf q = take (q .used) (q .inputs)
 
 -- frame by frame
-unfoldable pub framesOf : Requests → List (List SyncedInput)
-framesOf r = map requestOf (take (r .used) (r .frames))
+unfoldable pub requestFrames : Requests → List (List SyncedInput)
+requestFrames r = map requestOf (take (r .used) (r .frames))
 
 -- what is read past the last event
-unfoldable pub blankEntry : SessionEntry
-blankEntry = record { addr = 0; event = Synchronized }
+unfoldable pub blankSessionEntry : SessionEntry
+blankSessionEntry = record { addr = 0; event = Synchronized }
 
 -- what is read past the last player
 unfoldable pub blankSynced : SyncedInput
-blankSynced = record { input = replicate 16 0; status = Confirmed }
+blankSynced = record { input = replicate mostInputSize 0; status = Confirmed }

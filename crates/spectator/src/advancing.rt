@@ -4,11 +4,12 @@ ghost use Prim.Native.Nat.{_-_, min};
 ghost use mathlib.Core.List.{[]};
 ghost use Rattle.base.specs.First.{firstOf};
 ghost use Rattle.answer.specs.Number.{numberOf};
+ghost use Rattle.ceilings.specs.Ceilings.{mostAdvanced};
 ghost use Rattle.quality.specs.Advantage.{differenceOverflows};
 ghost use Rattle.spectator_rules.specs.Watch.{isRunning};
 ghost use Rattle.spectator_rules.specs.Advance.{advanceRefusals};
 ghost use Rattle.spectator.specs.Session.{seen};
-ghost use Rattle.spectator.specs.Stores.{framesOf};
+ghost use Rattle.spectator.specs.Stores.{requestFrames};
 ghost use Rattle.spectator.specs.Inside.Requests.{framesFor};
 ghost use Rattle.spectator.specs.Answers.{AdvancedAs};
 use crate::Requests;
@@ -24,6 +25,11 @@ pub struct Advanced {
     pub answer: Answer,
     pub requests: Requests,
 }
+
+// The ceilings, in the width of frames and of the host's setup.
+const MOST_ADVANCED: u32 = ceilings::MOST_ADVANCED as u32;
+
+const MOST_PLAYERS: u32 = ceilings::MOST_PLAYERS as u32;
 
 // Whether newest less current leaves i32.
 pub(crate) fn behind_overflows(newest: u32, current: u32) -> bool
@@ -42,24 +48,14 @@ fn is_running(state: SessionState) -> bool
     }
 }
 
-// How far the newest frame is ahead; 0 where it is not.
-pub(crate) fn behind(newest: u32, current: u32) -> u32
-    ensures { λ r. ⌜ r ≡ newest - current ⌝ }
-{
-    if newest < current {
-        return 0;
-    }
-    newest - current
-}
-
 // Fewer than the slots.
 fn most_frames(slots: u32) -> u32
-    ensures { λ r. ⌜ r ≡ min (slots - 1) 63 ⌝ }
+    ensures { λ r. ⌜ r ≡ min (slots - 1) mostAdvanced ⌝ }
 {
     if slots == 0 {
         return 0;
     }
-    numbers::least_u32(slots - 1, 63)
+    numbers::least_u32(slots - 1, MOST_ADVANCED)
 }
 
 fn frames_to_advance(limits: Limits, behind: u32) -> u32
@@ -93,7 +89,7 @@ impl SpectatorSession {
     }
 
     fn not_advanced(self, answer: Answer) -> Advanced
-        ensures { λ r. ⌜ (r .answer ≡ answer) × (framesOf (r .requests) ≡ []) × (r .session ≡ self) ⌝ }
+        ensures { λ r. ⌜ (r .answer ≡ answer) × (requestFrames (r .requests) ≡ []) × (r .session ≡ self) ⌝ }
     {
         let requests = Requests::none();
         Advanced {
@@ -110,17 +106,15 @@ impl SpectatorSession {
         let Answer::Done = answer else {
             return self.not_advanced(answer);
         };
-        let n = frames_to_advance(
-            self.limits,
-            behind(self.last_recv_frame, self.current_frame),
-        );
+        let behind = numbers::minus_u32(self.last_recv_frame, self.current_frame);
+        let n = frames_to_advance(self.limits, behind);
         let slots = self.limits.slots;
         let frame = self.current_frame + 1;
         let answer = self.inputs.frames_refusal(slots, frame, n);
         let Answer::Done = answer else {
             return self.not_advanced(answer);
         };
-        let players = numbers::least_u32(self.host.setup.num_players, 4) as usize;
+        let players = numbers::least_u32(self.host.setup.num_players, MOST_PLAYERS) as usize;
         let requests = self.inputs
             .requests_from(self.statuses, slots, players, frame, n);
         Advanced {

@@ -3,7 +3,6 @@ ghost use mathlib.Core.Path.{_≡_};
 ghost use Rattle.base.specs.Pick.{pick};
 ghost use lib.Dec.{eqb};
 ghost use Rattle.answer.specs.Number.{numberOf};
-ghost use Rattle.numbers.specs.Range.{outside};
 ghost use Rattle.spectator_rules.specs.Setup.{hostSetup, badLimits};
 ghost use Rattle.spectator.specs.Answers.{MadeAs};
 use crate::Ended;
@@ -19,6 +18,14 @@ use spectator_rules::Limits;
 use spectator_rules::SessionSetup;
 use spectator_rules::SessionState;
 use status::Statuses;
+
+// The ceilings of the limits, in the width of their fields.
+const MOST_SLOTS: u32 = ceilings::MOST_SLOTS as u32;
+
+const MOST_SESSION_EVENTS: u32 = ceilings::MOST_SESSION_EVENTS as u32;
+
+// Of `max_frames_behind` and of `catchup_speed`.
+const MOST_FRAMES: u32 = 65535;
 
 // The setup of the host's endpoint: a handle for each player, and one local player, who never sends.
 fn host_setup(setup: SessionSetup) -> Setup
@@ -46,10 +53,10 @@ fn host_setup(setup: SessionSetup) -> Setup
 fn is_bad(limits: Limits) -> bool
     ensures { λ r. ⌜ r ≡ badLimits limits ⌝ }
 {
-    numbers::is_outside(2, 64, limits.slots)
-        | numbers::is_outside(1, 128, limits.session_events)
-        | (65535 < limits.max_frames_behind)
-        | (65535 < limits.catchup_speed)
+    numbers::is_outside(2, MOST_SLOTS, limits.slots)
+        | numbers::is_outside(1, MOST_SESSION_EVENTS, limits.session_events)
+        | (MOST_FRAMES < limits.max_frames_behind)
+        | (MOST_FRAMES < limits.catchup_speed)
 }
 
 fn refusal(setup: SessionSetup, host: Answer) -> Answer

@@ -3,10 +3,9 @@ ghost use mathlib.Core.Path.{_≡_};
 ghost use Rattle.spectator_rules.specs.Call.{Call};
 ghost use Rattle.spectator_rules.specs.Value.{Value, valueOf};
 ghost use Rattle.spectator.specs.Session.{seen};
-ghost use Rattle.spectator.specs.Answers.{told, shownBehind, TakenAs};
+ghost use Rattle.spectator.specs.Answers.{shown, shownBehind, TakenAs};
 use crate::SessionEvents;
 use crate::SpectatorSession;
-use crate::advancing::behind;
 use crate::advancing::behind_overflows;
 use spectator_rules::SessionState;
 
@@ -30,12 +29,13 @@ impl SpectatorSession {
 
     // How many frames are received and not advanced yet.
     pub fn frames_behind_host(self) -> FramesBehind
-        ensures { λ r. ⌜ shownBehind r ≡ told Call.framesBehindHost (seen self) ⌝ }
+        ensures { λ r. ⌜ shownBehind r ≡ shown Call.framesBehindHost (seen self) ⌝ }
     {
         if behind_overflows(self.last_recv_frame, self.current_frame) {
             return FramesBehind::Overflow;
         }
-        FramesBehind::Frames(behind(self.last_recv_frame, self.current_frame))
+        let behind = numbers::minus_u32(self.last_recv_frame, self.current_frame);
+        FramesBehind::Frames(behind)
     }
 
     // The events held, and the session without them.

@@ -1,10 +1,11 @@
 // What the events of a host change in its session, apart from the host: a poll handles them one after the other on these parts alone.
 ghost use mathlib.Core.Path.{_≡_};
-ghost use Rattle.events.specs.Events.{held};
-ghost use Rattle.spectator_rules.specs.Handling.{tell, inputHandled, handled, handledAll};
+ghost use Rattle.events.specs.Events.{heldEvents};
+ghost use Rattle.spectator_rules.specs.Handling.{announce, inputHandled, handled, handledAll};
 ghost use Rattle.spectator.specs.Inside.Handling.{qualityAfter, runningParts, ChangedAs};
 use crate::Inputs;
 use crate::SessionEvents;
+use ceilings::MOST_INPUT_SIZE;
 use events::Entry;
 use events::Event;
 use events::Events;
@@ -35,7 +36,9 @@ pub struct Parts {
     pub quality: Quality,
 }
 
-// The local advantage with the frame of an Input; as it was where it leaves its range, or while nothing is received.
+// The local advantage with the frame of an Input; as it was where it leaves its range, or while nothing is received. The endpoint's
+// `update_local_frame_advantage` tests the same, but over a whole endpoint, whose newest frame it searches at each call, and it answers 6 where this one
+// goes on: called here it would copy the host for each Input.
 fn quality_after(quality: Quality, newest: u32, fps: u32, frame: u32) -> Quality
     ensures { λ r. ⌜ r ≡ qualityAfter newest fps frame quality ⌝ }
 {
@@ -51,7 +54,7 @@ fn quality_after(quality: Quality, newest: u32, fps: u32, frame: u32) -> Quality
 
 impl Parts {
     fn announce(self, terms: Terms, event: SessionEvent) -> Parts
-        ensures { λ r. ⌜ ChangedAs terms (tell event) self r ⌝ }
+        ensures { λ r. ⌜ ChangedAs terms (announce event) self r ⌝ }
     {
         let entry = SessionEntry {
             addr: terms.addr,
@@ -61,7 +64,7 @@ impl Parts {
         Parts { events, ..self }
     }
 
-    fn store(self, terms: Terms, frame: u32, player: u32, input: [u8; 16]) -> Parts
+    fn store(self, terms: Terms, frame: u32, player: u32, input: [u8; MOST_INPUT_SIZE]) -> Parts
         ensures { λ r. ⌜ ChangedAs terms (inputHandled frame player input) self r ⌝ }
     {
         let inputs = self.inputs.store(terms.limits.slots, frame, player, input);
@@ -109,7 +112,7 @@ impl Parts {
 
     // Oldest first.
     pub(crate) fn handle_all(self, terms: Terms, events: Events) -> Parts
-        ensures { λ r. ⌜ ChangedAs terms (handledAll (held events)) self r ⌝ }
+        ensures { λ r. ⌜ ChangedAs terms (handledAll (heldEvents events)) self r ⌝ }
     {
         let n = events.count();
         let mut parts = self;

@@ -3,16 +3,23 @@ ghost use mathlib.Core.Path.{_≡_};
 ghost use lib.ListN.{length, take};
 ghost use Rattle.codec.specs.Message.{meant};
 ghost use Rattle.endpoint_rules.specs.Value.{handedBack};
-ghost use Rattle.endpoint.specs.Endpoint.{seen as seenHost};
 ghost use Rattle.spectator_rules.specs.Call.{Call};
 ghost use Rattle.spectator_rules.specs.Step.{step};
 ghost use Rattle.spectator.specs.Session.{seen, hosted, DidAs, DoneAs};
-ghost use Rattle.spectator.specs.Answers.{told, shownStats};
+ghost use Rattle.spectator.specs.Answers.{shown, shownStats, TakenIntoAs};
 use crate::Ended;
 use crate::SpectatorSession;
+use answer::Answer;
 use codec::Message;
 use endpoint::Ended as HostEnded;
 use endpoint::StatsResult;
+
+// The session without its messages, and how many bytes of them were copied.
+pub struct TakenMessages {
+    pub session: SpectatorSession,
+    pub answer: Answer,
+    pub count: usize,
+}
 
 impl SpectatorSession {
     fn by_host(self, ended: HostEnded) -> Ended
@@ -68,7 +75,7 @@ impl SpectatorSession {
         self.by_host(ended)
     }
 
-    // The queue is emptied, where the buffer holds what is queued.
+    // The queue is emptied, where the buffer holds what is queued. Whoever wants the messages asks `messages` before.
     pub fn take_messages(self, out: &[u8]) -> Ended
         ensures { λ r. ⌜ DoneAs self (step (Call.takeMessages (length (now (out .entry)))) (seen self)) r ⌝ }
     {
@@ -83,8 +90,22 @@ impl SpectatorSession {
         self.host.messages(out)
     }
 
+    // `messages` and `take_messages` in one: the filled part of `out` is copied to the front of `into`. Refused where either is shorter than what is queued.
+    pub fn take_messages_into(self, out: &[u8], into: &mut [u8]) -> TakenMessages
+        ensures { λ r. ⌜ TakenIntoAs self (now (out .entry)) (now (into .entry)) r (now (into .exit)) ⌝ }
+    {
+        let taken = self.host.take_messages_into(out, into);
+        let answer = taken.answer;
+        let host = taken.endpoint;
+        TakenMessages {
+            session: SpectatorSession { host, ..self },
+            answer,
+            count: taken.count,
+        }
+    }
+
     pub fn network_stats(self, epoch: u64) -> StatsResult
-        ensures { λ r. ⌜ shownStats r ≡ told (Call.networkStats epoch) (seen self) ⌝ }
+        ensures { λ r. ⌜ shownStats r ≡ shown (Call.networkStats epoch) (seen self) ⌝ }
     {
         self.host.network_stats(epoch)
     }

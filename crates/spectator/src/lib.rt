@@ -13,9 +13,15 @@ mod session_events;
 // What a caller meets, so that `use spectator::SessionSetup` is enough.
 pub use advancing::Advanced;
 pub use answer::Answer;
+pub use endpoint::Choices;
+pub use endpoint::DesyncDetection;
 use endpoint::Endpoint;
+pub use endpoint::Message;
+pub use endpoint::NetworkStats;
+pub use endpoint::StatsResult;
 pub use getters::FramesBehind;
 pub use getters::TakenEvents;
+pub use hosting::TakenMessages;
 pub use inputs::Inputs;
 pub use polling::Polled;
 pub use requests::Request;
@@ -30,7 +36,7 @@ pub use spectator_rules::SessionState;
 pub use spectator_rules::SyncedInput;
 use status::Statuses;
 
-// The host's endpoint; the limits; whether the host is synchronized; the inputs received; the session's copy of the statuses that the host
+// Its endpoint, which speaks with the host; the limits; whether it is synchronized; the inputs received; the session's copy of the statuses that the host
 // reported; the events that wait to be taken; the last frame advanced and the last one received.
 pub struct SpectatorSession {
     pub host: Endpoint,

@@ -1,7 +1,7 @@
 // Polling: the host acts, all its events are handled, its messages are taken.
 ghost use mathlib.Core.Path.{_≡_};
 ghost use lib.ListN.{length};
-ghost use Rattle.events.specs.Events.{held};
+ghost use Rattle.events.specs.Events.{heldEvents};
 ghost use Rattle.spectator_rules.specs.Call.{Call};
 ghost use Rattle.spectator_rules.specs.Handling.{handledAll};
 ghost use Rattle.spectator_rules.specs.Step.{step};
@@ -90,7 +90,7 @@ impl SpectatorSession {
 
     // Oldest first.
     fn handle_all(self, events: Events) -> SpectatorSession
-        ensures { λ r. ⌜ seen r ≡ handledAll (held events) (seen self) ⌝ }
+        ensures { λ r. ⌜ seen r ≡ handledAll (heldEvents events) (seen self) ⌝ }
     {
         let parts = self.parts().handle_all(self.terms(), events);
         self.with_parts(parts)
@@ -98,7 +98,7 @@ impl SpectatorSession {
 
     // What is left of a poll once the host has acted: its events, old and new, are handled, and its messages taken.
     fn take_in(self, old: Events, acted: Endpoint, out: &[u8]) -> Polled
-        ensures { λ r. ⌜ TakenInAs self (held old) (seenHost acted) (length (now (out .entry))) r ⌝ }
+        ensures { λ r. ⌜ TakenInAs self (heldEvents old) (seenHost acted) (length (now (out .entry))) r ⌝ }
     {
         let new = acted.take_events();
         let host = new.endpoint;

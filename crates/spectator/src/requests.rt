@@ -1,15 +1,18 @@
 // The frames that a session advances, each with one input per player.
 ghost use mathlib.Core.Path.{_≡_};
-ghost use mathlib.Core.List.{[], _∷_};
+ghost use mathlib.Core.List.{[]};
 ghost use Prim.Native.Nat.{_+_, _^_, _≤_};
-ghost use lib.ListN.{length, take, getD};
+ghost use lib.ListN.{length, getD};
 ghost use Rattle.answer.specs.Number.{numberOf};
-ghost use Rattle.status.specs.Status.{defaultStatus};
-ghost use Rattle.status.specs.Statuses.{held};
-ghost use Rattle.spectator.specs.Stores.{inputsOf, requestOf, framesOf, blankSynced};
+ghost use Rattle.ceilings.specs.Ceilings.{mostAdvanced};
+ghost use Rattle.status.specs.Statuses.{heldStatuses};
+ghost use Rattle.spectator.specs.Stores.{inputsOf, requestOf, requestFrames, blankSynced};
 ghost use Rattle.spectator.specs.Inside.Requests.{syncedOf, syncedIn, requestIn, requestsIn, refusalIn, refusalsIn};
 use crate::Inputs;
 use answer::Answer;
+use ceilings::MOST_ADVANCED;
+use ceilings::MOST_INPUT_SIZE;
+use ceilings::MOST_PLAYERS;
 use spectator_rules::InputStatus;
 use spectator_rules::PlayerInput;
 use spectator_rules::SyncedInput;
@@ -18,24 +21,20 @@ use status::Statuses;
 
 // One frame.
 pub struct Request {
-    pub inputs: [SyncedInput; 4],
+    pub inputs: [SyncedInput; MOST_PLAYERS],
     pub used: usize,
 }
 
 pub struct Requests {
-    pub frames: [Request; 63],
+    pub frames: [Request; MOST_ADVANCED],
     pub used: usize,
 }
 
 // What stands in the place of no player.
-fn blank_synced() -> SyncedInput
-    ensures { λ r. ⌜ r ≡ blankSynced ⌝ }
-{
-    SyncedInput {
-        input: [0; 16],
-        status: InputStatus::Confirmed,
-    }
-}
+const BLANK_SYNCED: SyncedInput = SyncedInput {
+    input: [0; MOST_INPUT_SIZE],
+    status: InputStatus::Confirmed,
+};
 
 // A player that the host reported as disconnected before the frame is so in it.
 fn synced(input: PlayerInput, status: ConnectionStatus, frame: u32) -> SyncedInput
@@ -56,7 +55,7 @@ fn synced(input: PlayerInput, status: ConnectionStatus, frame: u32) -> SyncedInp
 
 impl Inputs {
     fn synced_at(self, statuses: Statuses, slots: u32, frame: u32, player: u32) -> SyncedInput
-        ensures { λ r. ⌜ r ≡ syncedIn slots frame player (inputsOf self) (held statuses) ⌝ }
+        ensures { λ r. ⌜ r ≡ syncedIn slots frame player (inputsOf self) (heldStatuses statuses) ⌝ }
     {
         synced(
             self.at(slots, frame, player),
@@ -67,7 +66,7 @@ impl Inputs {
 
     // Of at most 4 players.
     fn request_at(self, statuses: Statuses, slots: u32, frame: u32, players: usize) -> Request
-        ensures { λ r. ⌜ requestOf r ≡ requestIn slots frame players (inputsOf self) (held statuses) ⌝ }
+        ensures { λ r. ⌜ requestOf r ≡ requestIn slots frame players (inputsOf self) (heldStatuses statuses) ⌝ }
     {
         let inputs = [
             self.synced_at(statuses, slots, frame, 0),
@@ -119,8 +118,8 @@ impl Inputs {
         frame: u32,
         n: u32,
     ) -> Requests
-        requires { ⌜ (frame + n ≤ 2 ^ 32) × (n ≤ 63) ⌝ }
-        ensures { λ r. ⌜ framesOf r ≡ requestsIn slots n frame players (inputsOf self) (held statuses) ⌝ }
+        requires { ⌜ (frame + n ≤ 2 ^ 32) × (n ≤ mostAdvanced) ⌝ }
+        ensures { λ r. ⌜ requestFrames r ≡ requestsIn slots n frame players (inputsOf self) (heldStatuses statuses) ⌝ }
     {
         let mut requests = Requests::none();
         let mut k = 0;
@@ -138,9 +137,8 @@ impl Request {
     fn none() -> Request
         ensures { λ r. ⌜ requestOf r ≡ [] ⌝ }
     {
-        let blank = blank_synced();
         Request {
-            inputs: [blank; 4],
+            inputs: [BLANK_SYNCED; MOST_PLAYERS],
             used: 0,
         }
     }
@@ -149,8 +147,7 @@ impl Request {
     pub fn count(self) -> usize
         ensures { λ r. ⌜ r ≡ length (requestOf self) ⌝ }
     {
-        let used = self.used;
-        if used < 4 { used } else { 4 }
+        numbers::least(self.used, MOST_PLAYERS)
     }
 
     // What the player does in this frame; past the last player, zeros, Confirmed.
@@ -161,32 +158,31 @@ impl Request {
         if player < n {
             return self.inputs[player];
         }
-        blank_synced()
+        BLANK_SYNCED
     }
 }
 
 impl Requests {
     pub(crate) fn none() -> Requests
-        ensures { λ r. ⌜ framesOf r ≡ [] ⌝ }
+        ensures { λ r. ⌜ requestFrames r ≡ [] ⌝ }
     {
         let none = Request::none();
         Requests {
-            frames: [none; 63],
+            frames: [none; MOST_ADVANCED],
             used: 0,
         }
     }
 
     // How many frames are advanced.
     pub fn count(self) -> usize
-        ensures { λ r. ⌜ r ≡ length (framesOf self) ⌝ }
+        ensures { λ r. ⌜ r ≡ length (requestFrames self) ⌝ }
     {
-        let used = self.used;
-        if used < 63 { used } else { 63 }
+        numbers::least(self.used, MOST_ADVANCED)
     }
 
     // The i-th of them, in the order in which they are to be played; past the last, a frame of no players.
     pub fn frame(self, i: usize) -> Request
-        ensures { λ r. ⌜ requestOf r ≡ getD (framesOf self) i [] ⌝ }
+        ensures { λ r. ⌜ requestOf r ≡ getD (requestFrames self) i [] ⌝ }
     {
         let n = self.count();
         if i < n {

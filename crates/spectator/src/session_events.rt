@@ -1,37 +1,33 @@
 // The session's events that wait to be taken, oldest first: at most so many, the oldest dropped beyond them.
 ghost use mathlib.Core.Path.{_≡_};
 ghost use mathlib.Core.List.{[], _∷_, _++_};
-ghost use Prim.Native.Nat.{min};
 ghost use lib.Dec.{ltb};
 ghost use lib.ListN.{length, drop, getD};
 ghost use Rattle.base.specs.Pick.{pick};
-ghost use Rattle.spectator_rules.specs.Handling.{toldTo};
-ghost use Rattle.spectator.specs.Stores.{eventsOf, blankEntry};
+ghost use Rattle.ceilings.specs.Ceilings.{mostSessionEvents};
+ghost use Rattle.spectator_rules.specs.Handling.{eventAdded};
+ghost use Rattle.spectator.specs.Stores.{eventsOf, blankSessionEntry};
+use ceilings::MOST_SESSION_EVENTS;
 use spectator_rules::SessionEntry;
 use spectator_rules::SessionEvent;
 
 pub struct SessionEvents {
-    pub entries: [SessionEntry; 128],
+    pub entries: [SessionEntry; MOST_SESSION_EVENTS],
     pub used: usize,
 }
 
 // What stands in a place that holds no event.
-fn blank_entry() -> SessionEntry
-    ensures { λ r. ⌜ r ≡ blankEntry ⌝ }
-{
-    SessionEntry {
-        addr: 0,
-        event: SessionEvent::Synchronized,
-    }
-}
+const BLANK_ENTRY: SessionEntry = SessionEntry {
+    addr: 0,
+    event: SessionEvent::Synchronized,
+};
 
 impl SessionEvents {
     pub(crate) fn new() -> SessionEvents
         ensures { λ r. ⌜ eventsOf r ≡ [] ⌝ }
     {
-        let blank = blank_entry();
         SessionEvents {
-            entries: [blank; 128],
+            entries: [BLANK_ENTRY; MOST_SESSION_EVENTS],
             used: 0,
         }
     }
@@ -39,19 +35,18 @@ impl SessionEvents {
     pub fn count(self) -> usize
         ensures { λ r. ⌜ r ≡ length (eventsOf self) ⌝ }
     {
-        let used = self.used;
-        if used < 128 { used } else { 128 }
+        numbers::least(self.used, MOST_SESSION_EVENTS)
     }
 
     // The i-th, oldest first; past the last, Synchronized of peer 0.
     pub fn entry(self, i: usize) -> SessionEntry
-        ensures { λ r. ⌜ r ≡ getD (eventsOf self) i blankEntry ⌝ }
+        ensures { λ r. ⌜ r ≡ getD (eventsOf self) i blankSessionEntry ⌝ }
     {
         let n = self.count();
         if i < n {
             return self.entries[i];
         }
-        blank_entry()
+        BLANK_ENTRY
     }
 
     // The store after all its events are taken.
@@ -84,10 +79,10 @@ impl SessionEvents {
 
     // One more at the end, where there is a place.
     fn push(mut self, entry: SessionEntry) -> SessionEvents
-        ensures { λ r. ⌜ eventsOf r ≡ pick (ltb (length (eventsOf self)) 128) (eventsOf self ++ entry ∷ []) (eventsOf self) ⌝ }
+        ensures { λ r. ⌜ eventsOf r ≡ pick (ltb (length (eventsOf self)) mostSessionEvents) (eventsOf self ++ entry ∷ []) (eventsOf self) ⌝ }
     {
         let n = self.count();
-        if n < 128 {
+        if n < MOST_SESSION_EVENTS {
             self.entries[n] = entry;
             self.used = n + 1;
         }
@@ -96,9 +91,9 @@ impl SessionEvents {
 
     // One more at the end; the oldest are dropped beyond `most`.
     pub(crate) fn announce(self, entry: SessionEntry, most: u32) -> SessionEvents
-        ensures { λ r. ⌜ eventsOf r ≡ toldTo most entry (eventsOf self) ⌝ }
+        ensures { λ r. ⌜ eventsOf r ≡ eventAdded most entry (eventsOf self) ⌝ }
     {
-        let most = numbers::least(most as usize, 128);
+        let most = numbers::least(most as usize, MOST_SESSION_EVENTS);
         let n = self.count();
         if n < most {
             return self.push(entry);

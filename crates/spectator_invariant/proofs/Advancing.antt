@@ -17,8 +17,8 @@ use Rattle.frame.specs.Bias.{bias32}
 use Rattle.endpoint_invariant.proofs.Choices.{passes}
 use Rattle.spectator_rules.specs.declared.SyncedInput.{SyncedInput}
 use Rattle.spectator_rules.specs.Watch.{Watch, playersOf}
-use Rattle.spectator_rules.specs.Inputs.{slotOf, placeOf, inputAt}
-use Rattle.spectator_rules.specs.Advance.{behind, heldAt, frameRefusal, framesToAdvance, framesRefusal, syncedAt, requestAt, requestsFrom, requestsOf, advanceRefusals, advanceRefusal}
+use Rattle.spectator_rules.specs.Inputs.{slotOf, placeOf, playerInputAt}
+use Rattle.spectator_rules.specs.Advance.{behind, heldAt, frameRefusal, framesToAdvance, framesRefusal, syncedAt, frameInputs, requestsFrom, requestsOf, advanceRefusals, advanceRefusal}
 use Rattle.spectator_invariant.specs.Seated.{SeatedOwn, Seated}
 use Rattle.spectator_invariant.proofs.Handling.{held-most}
 
@@ -32,7 +32,7 @@ after-none n r e = go (eqb n 0) refl e
 
 module _ (w : Watch) (h : SeatedOwn w) where
   one-most : framesRefusal 1 (suc (w .current)) w ≡ 0 → w .current + 1 ≤ w .newest
-  unfolding framesRefusal inputAt
+  unfolding framesRefusal playerInputAt
   one-most z =
       let f = suc (w .current) in
       let r = after-none (frameRefusal f w) 0 z .0 in
@@ -69,8 +69,8 @@ frames-there (suc n) frame w z zero b = rw add-zero (frame-there frame w (after-
 frames-there (suc n) frame w z (suc i) b = rw (add-suc, ← suc-add) (frames-there n (suc frame) w (after-none (frameRefusal frame w) _ z .1) i (omega arith))
 
 pub advance-there : (w : Watch) → Seated w → advanceRefusal w ≡ 0 → (i player : ℕ) → i < framesToAdvance w → player < w .host .setup .players
-    → inputAt (w .limits .slots) (suc (w .current) + i) player (w .inputs) .frame ≡ suc (w .current) + i
-unfolding advanceRefusal inputAt
+    → playerInputAt (w .limits .slots) (suc (w .current) + i) player (w .inputs) .frame ≡ suc (w .current) + i
+unfolding advanceRefusal playerInputAt
 advance-there w h z i player b c =
     let frame = suc (w .current) + i in
     let held = frames-there (framesToAdvance w) (suc (w .current)) w (after-none (firstOf (advanceRefusals w)) _ z .1) i b in
@@ -84,7 +84,7 @@ unfolding requestsFrom
 from-length zero frame w = refl
 from-length (suc n) frame w = ap suc (from-length n (suc frame) w)
 
-from-at : (n frame : ℕ) (w : Watch) (i : ℕ) → i < n → getD (requestsFrom n frame w) i [] ≡ requestAt (frame + i) w
+from-at : (n frame : ℕ) (w : Watch) (i : ℕ) → i < n → getD (requestsFrom n frame w) i [] ≡ frameInputs (frame + i) w
 unfolding requestsFrom
 from-at zero frame w i b = absurd (omega arith)
 from-at (suc n) frame w zero b = rw add-zero refl
@@ -94,13 +94,13 @@ module _ (w : Watch) (h : Seated w) where
   few : w .host .setup .players ≤ 4
   few = h .host .setup .players .1
 
-  request-length : (frame : ℕ) → length (requestAt frame w) ≡ w .host .setup .players
-  unfolding requestAt
+  request-length : (frame : ℕ) → length (frameInputs frame w) ≡ w .host .setup .players
+  unfolding frameInputs
   request-length frame =
       length-take-le (playersOf w) (syncedAt frame 0 w ∷ syncedAt frame 1 w ∷ syncedAt frame 2 w ∷ syncedAt frame 3 w ∷ []) (omega arith) ∙ omega (arith, few)
 
-  request-gives : (frame player : ℕ) (x : SyncedInput) → player < w .host .setup .players → getD (requestAt frame w) player x ≡ syncedAt frame player w
-  unfolding requestAt
+  request-gives : (frame player : ℕ) (x : SyncedInput) → player < w .host .setup .players → getD (frameInputs frame w) player x ≡ syncedAt frame player w
+  unfolding frameInputs
   request-gives frame player x b =
       getD-take (playersOf w) (syncedAt frame 0 w ∷ syncedAt frame 1 w ∷ syncedAt frame 2 w ∷ syncedAt frame 3 w ∷ []) player x (omega (arith, few)) ∙ go player (omega (arith, few))
     where
@@ -134,7 +134,7 @@ module _ (w : Watch) (h : SeatedOwn w) where
 
   -- with the first, all after it are there
   rest-there : frameRefusal first w ≡ 0 → (n k : ℕ) → w .current + k + n ≤ w .newest → framesRefusal n (first + k) w ≡ 0
-  unfolding framesRefusal inputAt
+  unfolding framesRefusal playerInputAt
   rest-there z zero k b = refl
   rest-there z (suc n) k b =
       let held : heldAt (first + k) w ≡ first + k = h .stock first k (omega (arith, h .current)) (frame-there first w z) (omega arith) in

@@ -1,4 +1,4 @@
--- What the calls of a host that a session makes tell: Inputs that rise from the newest frame received before the call to the newest after it.
+-- What the calls of a host that a session makes announce: Inputs that rise from the newest frame received before the call to the newest after it.
 use borrow.Author.Tests.{eqb-true}
 use mathlib.Core.Bool.{Bool, true, false}
 use mathlib.Core.List.{List, [], _∷_}
@@ -24,11 +24,12 @@ use Rattle.codec.specs.declared.MessageBody.{MessageBody}
 use Rattle.codec.specs.declared.MessageBody.the-variants.{SyncRequest, SyncReply, Input, InputAck, QualityReport, QualityReply, ChecksumReport, KeepAlive}
 use Rattle.events.specs.declared.Entry.{Entry}
 use Rattle.setup.specs.Setup.{Terms, SoundSetup, receivingWidth}
+use Rattle.events.specs.Events.{announcedEach}
 use Rattle.endpoint_rules.specs.Seen.{Seen, Receiver}
 use Rattle.endpoint_rules.specs.Did.{Did, Effect, refused, begin, done}
 use Rattle.endpoint_rules.specs.Handshake.{synchronized}
 use Rattle.endpoint_rules.specs.Act.{acted}
-use Rattle.endpoint_rules.specs.Receiving.{inputMessage, reference, taken, receivedIf, receive, announcedEach, discarded, inputTaken, inputUnless, onInput, onInputAck}
+use Rattle.endpoint_rules.specs.Receiving.{inputMessage, reference, taken, receivedIf, receive, discarded, inputTaken, inputUnless, onInput, onInputAck}
 use Rattle.endpoint_rules.specs.Step.{changed, heard, onBody, synchronizeStep, messageStep, datagramStep, actStep, statsStep, takeStep, reacted, ignored}
 use Rattle.endpoint_rules.proofs.Decided.{decided-both, silent-both}
 use Rattle.endpoint_invariant.specs.Each.{Each}
@@ -93,14 +94,14 @@ any (x ∷ l) = (λ magic. tt, any l)
 
 module _ (s : Seen) (h : Sound s) (few : Upto (s .setup .players) 0 (s .setup .handles)) where
   -- Inputs that rise, beside other events
-  tells : (d : Did) (news : List Entry) → d .after .setup ≡ s .setup → inputsIn (d .events) ≡ news
+  announces-of : (d : Did) (news : List Entry) → d .after .setup ≡ s .setup → inputsIn (d .events) ≡ news
       → Rising (s .setup .players) (newestOf (s .carried .receiver .history)) 0 (newestOf (d .after .carried .receiver .history)) news → Announces s d
-  tells d news p q k = record { setup = p; rises = rising-inputs (s .setup .players) _ 0 _ (d .events) (rw q k) }
+  announces-of d news p q k = record { setup = p; rises = rising-inputs (s .setup .players) _ 0 _ (d .events) (rw q k) }
 
   -- none
   silent : (d : Did) → d .after .setup ≡ s .setup → d .after .carried .receiver ≡ s .carried .receiver → inputsIn (d .events) ≡ [] → Announces s d
   unfolding Rising
-  silent d p q k = tells d [] p k (rw q (refl, refl))
+  silent d p q k = announces-of d [] p k (rw q (refl, refl))
 
   refuses : (k : ℕ) → Announces s (refused k s)
   unfolding refused kept
@@ -141,7 +142,7 @@ module _ (s : Seen) (h : Sound s) (few : Upto (s .setup .players) 0 (s .setup .h
   unfolding done
   input-announces now d start ack reports payload =
       let k = taking Any (λ m b q. tt) s start payload now ack d reports (any _) in
-      tells (done (inputTaken now (inputMessage d start ack reports payload) (heard now s))) _ (k .setup) (k .events)
+      announces-of (done (inputTaken now (inputMessage d start ack reports payload) (heard now s))) _ (k .setup) (k .events)
       (rw (k .carried) (received-rises (s .setup) (h .setup) (h .setup .players .0) few start payload (s .carried .receiver) (h .receiver)))
 
   body-announces : (m : MessageBody) (count : ℕ) (w : Wire) (now epoch nonce : ℕ) → Announces s (done (onBody m count w now epoch nonce (heard now s) .effect))

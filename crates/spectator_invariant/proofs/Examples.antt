@@ -11,24 +11,24 @@ use Rattle.frame.specs.Bias.{nullFrame}
 use Rattle.packing.specs.Packing.{xors, framesOf, unpack, decodableLength, decodable}
 use Rattle.packing.specs.Pad.{zeros, padded}
 use Rattle.pending.specs.Pending.{dropTo, lastTo}
-use Rattle.history.specs.History.{blank, highest, newestOf, foundIn, referenceFrame, atLine, above, numbered, packetOf, takenIn}
+use Rattle.history.specs.History.{blankFrame, highest, newestOf, foundIn, referenceFrame, atLine, above, numbered, packetOf, takenIn}
 use Rattle.nonces.specs.Nonces.{issued, fits}
 use Rattle.status.specs.Status.{defaultStatus, reported, merged}
-use Rattle.status.specs.Statuses.{mergedAll, fresh as freshStatuses}
+use Rattle.status.specs.Statuses.{mergedAll, defaultStatuses}
 use Rattle.codec.specs.declared.StatusReport.{StatusReport}
 use Rattle.events.specs.declared.Entry.{Entry}
 use Rattle.events.specs.declared.Event.{Event}
 use Rattle.events.specs.declared.Event.the-variants as Event
-use Rattle.events.specs.Events.{hasRoom, inputOf, inputEntry, announced}
+use Rattle.events.specs.Events.{hasRoom, inputOf, withoutInput, inputEntry, announced, announcedEach}
 use Rattle.setup.specs.Setup.{badSetup, anyAbove, anyTwice, inserted, sorted, termsWith}
 use Rattle.quality.specs.Advantage.{advantageOf, advantageOverflows}
-use Rattle.outbox.specs.Outbox.{sizes}
+use Rattle.outbox.specs.Outbox.{queueSize}
 use Rattle.endpoint_rules.specs.Seen.{made}
 use Rattle.endpoint_rules.specs.Did.{refused as hostRefused, decided as hostDecided, queueWire, done}
 use Rattle.endpoint_rules.specs.Room.{bufferFull, isFull}
 use Rattle.endpoint_rules.specs.Handshake.{nonceIssued, request, started, synchronized, counted, running, replied, onSyncReply}
 use Rattle.endpoint_rules.specs.Sending.{droppedTo, acknowledged, pendingQueued}
-use Rattle.endpoint_rules.specs.Receiving.{taken, receivedIf, receive, announcedEach, discarded, packetOverflows, statusesMerged, informed, inputsReceived, inputTaken, inputUnless, onInput}
+use Rattle.endpoint_rules.specs.Receiving.{taken, receivedIf, receive, discarded, packetOverflows, statusesMerged, informed, inputsReceived, inputTaken, inputUnless, onInput}
 use Rattle.endpoint_rules.specs.Act.{resent, reportSent, keptAlive, interrupted, timedOut, acted}
 use Rattle.endpoint_rules.specs.Advantage.{localAdvantage, advantageUpdated}
 use Rattle.endpoint_rules.specs.Step.{synchronizeStep, ignored, resumed, heard, onBody, reacted, messageStep, actStep, advantageStep, takeStep}
@@ -40,12 +40,12 @@ use Rattle.spectator_rules.specs.declared.SyncedInput.{SyncedInput}
 use Rattle.spectator_rules.specs.declared.SessionSetup.{SessionSetup}
 use Rattle.spectator_rules.specs.Setup.{hostSetup, badLimits, badSession}
 use Rattle.spectator_rules.specs.Watch.{Watch, madeWatch}
-use Rattle.spectator_rules.specs.Inputs.{blankInput, freshInputs, inputStored, inputAt}
-use Rattle.spectator_rules.specs.Handling.{lastOf, toldTo, tell, inputHandled, handled, handledAll}
-use Rattle.spectator_rules.specs.Advance.{framesToAdvance, framesRefusal, syncedAt, requestAt, requestsFrom, requestsOf, advanceRefusal, heldAt, frameRefusal}
+use Rattle.spectator_rules.specs.Inputs.{blankInput, freshInputs, inputStored, playerInputAt}
+use Rattle.spectator_rules.specs.Handling.{lastOf, eventAdded, announce, inputHandled, handled, handledAll}
+use Rattle.spectator_rules.specs.Advance.{framesToAdvance, framesRefusal, syncedAt, frameInputs, requestsFrom, requestsOf, advanceRefusal, heldAt, frameRefusal}
 use Rattle.spectator_rules.specs.Call.{Call}
 use Rattle.spectator_rules.specs.Step.{fresh, decided, byHost, hostActs, hostTakes, pollRefusal, polled, pollStep, advanceStep, step}
-use Rattle.spectator_rules.proofs.Examples.{setupWith, new, ready, plain, synced, shaken, packet, poll, handshake}
+use Rattle.spectator_rules.proofs.Examples.{setupWith, new, ready, synced, shaken, packet, poll, handshake}
 use Rattle.spectator_invariant.specs.Typed.{Typed, TypedSession}
 use Rattle.spectator_invariant.specs.Seated.{Rising, Seated, ran}
 use Rattle.spectator_invariant.specs.Handled.{allHandled, inputEvent}
@@ -55,11 +55,11 @@ use Rattle.spectator_invariant.proofs.Handled.{handled-rises, advance-h
 
 -- ---- events, of two players
 
-abbrev told : (frame player : ℕ) → List ℕ → Entry
-told frame player input = inputEvent player (record { frame = fr frame; input = input })
+abbrev playerInput : (frame player : ℕ) → List ℕ → Entry
+playerInput frame player input = inputEvent player (record { frame = fr frame; input = input })
 
 abbrev input : (frame player : ℕ) → Entry
-input frame player = told frame player (replicate 16 0)
+input frame player = playerInput frame player (replicate 16 0)
 
 -- frames 7 and 8, another event between
 rises : Rising 2 (fr 6) 0 (fr 8) (input 7 0 ∷ input 7 1 ∷ record { event = Event.NetworkResumed; input = [] } ∷ input 8 0 ∷ input 8 1 ∷ [])
@@ -81,7 +81,7 @@ falls :
     -- nor one for another player than the one due
     × (Rising 2 (fr 6) 0 (fr 7) (input 7 1 ∷ []) → ⊥)
     -- nor one with an input of another length
-    × (Rising 2 (fr 6) 0 (fr 7) (input 7 0 ∷ told 7 1 (replicate 15 0) ∷ []) → ⊥)
+    × (Rising 2 (fr 6) 0 (fr 7) (input 7 0 ∷ playerInput 7 1 (replicate 15 0) ∷ []) → ⊥)
 unfolding Rising
 falls = (
   λ h. omega (arith, h .0 .0 .0),
@@ -159,7 +159,7 @@ abbrev reached : Watch
 reached = ran calls (new 4 8 2 2)
 
 abbrev greetings : List Entry
-greetings = plain (Event.Synchronizing 5 1) ∷ plain (Event.Synchronizing 5 2) ∷ plain (Event.Synchronizing 5 3) ∷ plain (Event.Synchronizing 5 4) ∷ plain Event.Synchronized ∷ []
+greetings = withoutInput (Event.Synchronizing 5 1) ∷ withoutInput (Event.Synchronizing 5 2) ∷ withoutInput (Event.Synchronizing 5 3) ∷ withoutInput (Event.Synchronizing 5 4) ∷ withoutInput Event.Synchronized ∷ []
 
 -- after the handshake the host holds its events, and five requests are queued
 abbrev greeted : Watch
@@ -170,7 +170,7 @@ unfolding ran
 greeted-is = shaken 4 8 2 2
 
 running-is : ran (poll ∷ Call.takeEvents ∷ []) greeted ≡ ready 4 8 2 2
-unfolding kept hasRoom hostDecided sizes done bufferFull isFull resent reportSent keptAlive interrupted timedOut acted actStep takeStep lastOf toldTo tell handled handledAll decided hostActs hostTakes pollRefusal polled pollStep step ran
+unfolding kept hasRoom hostDecided queueSize done bufferFull isFull resent reportSent keptAlive interrupted timedOut acted actStep takeStep lastOf eventAdded announce handled handledAll decided hostActs hostTakes pollRefusal polled pollStep step ran
 running-is = refl
 
 abbrev watched : Watch
@@ -199,7 +199,7 @@ record Stands (w : Watch) : Type 0 where
   after : step Call.advanceFrame w .after .current ≡ fr 1
 
 watched-stands : Stands watched
-unfolding kept xors framesOf unpack decodableLength decodable zeros padded dropTo lastTo blank highest newestOf foundIn atLine above numbered packetOf takenIn defaultStatus reported merged mergedAll hasRoom inputOf inputEntry announced hostDecided queueWire sizes done bufferFull isFull droppedTo acknowledged pendingQueued referenceFrame taken receivedIf receive announcedEach discarded packetOverflows statusesMerged informed inputsReceived inputTaken inputUnless onInput resent reportSent keptAlive interrupted timedOut acted advantageOf advantageOverflows localAdvantage advantageUpdated ignored resumed heard onBody reacted messageStep actStep advantageStep takeStep blankInput freshInputs inputStored inputAt lastOf toldTo tell inputHandled handled handledAll framesToAdvance framesRefusal syncedAt requestAt requestsFrom requestsOf advanceRefusal decided byHost hostActs hostTakes pollRefusal polled pollStep advanceStep step ran
+unfolding kept xors framesOf unpack decodableLength decodable zeros padded dropTo lastTo blankFrame highest newestOf foundIn atLine above numbered packetOf takenIn defaultStatus reported merged mergedAll hasRoom inputOf inputEntry announced hostDecided queueWire queueSize done bufferFull isFull droppedTo acknowledged pendingQueued referenceFrame taken receivedIf receive announcedEach discarded packetOverflows statusesMerged informed inputsReceived inputTaken inputUnless onInput resent reportSent keptAlive interrupted timedOut acted advantageOf advantageOverflows localAdvantage advantageUpdated ignored resumed heard onBody reacted messageStep actStep advantageStep takeStep blankInput freshInputs inputStored playerInputAt lastOf eventAdded announce inputHandled handled handledAll framesToAdvance framesRefusal syncedAt frameInputs requestsFrom requestsOf advanceRefusal decided byHost hostActs hostTakes pollRefusal polled pollStep advanceStep step ran
 watched-stands = record { players = refl; current = refl; newest = refl; held = refl; refusal = refl; frames = refl; requests = refl; after = refl }
 
 reached-stands : Stands reached
@@ -207,10 +207,10 @@ reached-stands = subst Stands (sym reached-is) watched-stands
 
 -- the events of the handshake, then the Inputs
 abbrev events : List Entry
-events = greetings ++ told 0 0 (byte 1) ∷ told 0 1 (byte 2) ∷ told 1 0 (byte 3) ∷ told 1 1 (byte 4) ∷ told 2 0 (byte 5) ∷ told 2 1 (byte 6) ∷ []
+events = greetings ++ playerInput 0 0 (byte 1) ∷ playerInput 0 1 (byte 2) ∷ playerInput 1 0 (byte 3) ∷ playerInput 1 1 (byte 4) ∷ playerInput 2 0 (byte 5) ∷ playerInput 2 1 (byte 6) ∷ []
 
 handled-are : allHandled calls (new 4 8 2 2) ≡ events
-unfolding kept has without xors framesOf unpack decodableLength decodable zeros padded dropTo lastTo blank highest newestOf foundIn atLine above numbered packetOf takenIn issued fits defaultStatus reported merged mergedAll freshStatuses hasRoom inputOf inputEntry announced inserted sorted termsWith made hostRefused hostDecided queueWire sizes done bufferFull isFull nonceIssued request started synchronized counted running replied onSyncReply droppedTo acknowledged pendingQueued referenceFrame taken receivedIf receive announcedEach discarded packetOverflows statusesMerged informed inputsReceived inputTaken inputUnless onInput resent reportSent keptAlive interrupted timedOut acted advantageOf advantageOverflows localAdvantage advantageUpdated synchronizeStep ignored resumed heard onBody reacted messageStep actStep advantageStep takeStep hostSetup madeWatch freshInputs lastOf toldTo tell inputHandled handled handledAll fresh decided byHost hostActs hostTakes pollRefusal polled pollStep step ran allHandled
+unfolding kept has without xors framesOf unpack decodableLength decodable zeros padded dropTo lastTo blankFrame highest newestOf foundIn atLine above numbered packetOf takenIn issued fits defaultStatus reported merged mergedAll defaultStatuses hasRoom inputOf inputEntry announced inserted sorted termsWith made hostRefused hostDecided queueWire queueSize done bufferFull isFull nonceIssued request started synchronized counted running replied onSyncReply droppedTo acknowledged pendingQueued referenceFrame taken receivedIf receive announcedEach discarded packetOverflows statusesMerged informed inputsReceived inputTaken inputUnless onInput resent reportSent keptAlive interrupted timedOut acted advantageOf advantageOverflows localAdvantage advantageUpdated synchronizeStep ignored resumed heard onBody reacted messageStep actStep advantageStep takeStep hostSetup madeWatch freshInputs lastOf eventAdded announce inputHandled handled handledAll fresh decided byHost hostActs hostTakes pollRefusal polled pollStep step ran allHandled
 handled-are = refl
 
 -- ---- and what the laws say there
@@ -226,7 +226,7 @@ events-rise = rw (handled-are, reached-stands .newest) at (handled-rises setup 1
 
 -- with frame 0, frame 2 is held
 third-held : heldAt (fr 2) reached ≡ fr 2
-unfolding inputAt
+unfolding playerInputAt
 third-held = reached-sits .own .stock (fr 0) 2 (omega arith) (reached-stands .held) (omega (arith, reached-stands .newest))
 
 -- both frames of the advance are there where the first is
@@ -234,9 +234,9 @@ first-decides : framesRefusal 2 (fr 0) reached ≡ frameRefusal (fr 0) reached
 unfolding ran
 first-decides = rw (reached-stands .frames, reached-stands .current) at (advance-first reached (reached-sits .own))
 
--- what it hands back of frame 1 for player 1 was told
-second-told : Mem (told 1 1 (byte 4)) events
-second-told =
+-- what it hands back of frame 1 for player 1 was announced
+second-announced : Mem (playerInput 1 1 (byte 4)) events
+second-announced =
     let b : 1 < framesToAdvance reached = omega (arith, reached-stands .frames) in
     let c : 1 < reached .host .setup .players = omega (arith, reached-stands .players) in
     let given : confirmed 4 ≡ syncedAt (suc (reached .current) + 1) 1 reached = rw (reached-stands .requests) at (advance-gives reached reached-sits 1 1 (confirmed 0) b c) in

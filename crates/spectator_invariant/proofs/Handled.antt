@@ -22,13 +22,13 @@ use Rattle.endpoint_invariant.proofs.Choices.{by-pick}
 use Rattle.endpoint_invariant.specs.Typed.{TypedPlace}
 use Rattle.spectator_rules.specs.declared.PlayerInput.{PlayerInput}
 use Rattle.spectator_rules.specs.declared.SessionSetup.{SessionSetup}
-use Rattle.spectator_rules.specs.Inputs.{blankInput, freshInputs, slotOf, inputStored, inputAt}
+use Rattle.spectator_rules.specs.Inputs.{blankInput, freshInputs, slotOf, inputStored, playerInputAt}
 use Rattle.spectator_rules.specs.Setup.{hostSetup}
 use Rattle.spectator_rules.specs.Watch.{Watch, madeWatch}
 use Rattle.spectator_rules.specs.Advance.{behindOverflows, framesToAdvance, syncedAt, advanceRefusal, advanced}
 use Rattle.spectator_rules.specs.Call.{Call}
 use Rattle.spectator_rules.specs.Step.{Did, fresh, refused, changed, decided, byHost, hostActs, pollRefusal, polled, pollStep, advanceStep, framesBehindStep, step}
-use Rattle.spectator_rules.specs.Handling.{tell, inputHandled, handled, handledAll}
+use Rattle.spectator_rules.specs.Handling.{announce, inputHandled, handled, handledAll}
 use Rattle.spectator_invariant.specs.Typed.{Typed, TypedSession}
 use Rattle.spectator_invariant.specs.Seated.{Rising, Seated, ran}
 use Rattle.spectator_invariant.specs.Handled.{handledBy, allHandled, inputEvent, Came}
@@ -62,7 +62,7 @@ stored-came events l at player x few within h slot p b = go (eqb (slot * 4 + p) 
 
 module _ (t : Terms) (top : ℕ) where
   handled-came : (x : Entry) (rest events : List Entry) (w : Watch) → Midway t top (x ∷ rest) w → Came events (w .inputs) → Came (events ++ x ∷ []) (handled x w .inputs)
-  unfolding handled tell inputHandled inputStored Rising
+  unfolding handled announce inputHandled inputStored Rising
   handled-came x rest events w m h = go (x .event) m
     where
       same : (e : Event) → Came (events ++ record { event = e; input = x .input } ∷ []) (w .inputs)
@@ -182,10 +182,10 @@ module _ (g : SessionSetup) (now : ℕ) (t : TypedSession g) (z : fresh g now .0
   -- what stands for a player at a frame of an advance, which is what it hands back (`advance-gives`), is what was announced of that frame for that player
   pub advance-handled : advanceRefusal reached ≡ 0 → (i player : ℕ) → i < framesToAdvance reached → player < reached .host .setup .players
       → Mem (inputEvent player (record { frame = suc (reached .current) + i; input = syncedAt (suc (reached .current) + i) player reached .input })) (allHandled cs begun)
-  unfolding inputAt syncedAt
+  unfolding playerInputAt syncedAt
   advance-handled r i player b c =
       let s = reached-seated g now t z cs ts in
       let frame : ℕ = suc (reached .current) + i in
-      let e : inputAt (reached .limits .slots) frame player (reached .inputs) .frame ≡ frame = advance-there reached s r i player b c in
+      let e : playerInputAt (reached .limits .slots) frame player (reached .inputs) .frame ≡ frame = advance-there reached s r i player b c in
       elim (kept .came (slotOf (reached .limits .slots) frame) player (omega (arith, s .host .setup .players .1)))
       [ inl k ↦ absurd (omega (arith, s .own .current, e, k)) | inr m ↦ rw e at m ]

@@ -1,4 +1,4 @@
--- Handling the host's events one after the other keeps what holds: each is told on, or an Input that is not below the newest frame.
+-- Handling the host's events one after the other keeps what holds: each is announced on, or an Input that is not below the newest frame.
 use mathlib.Core.List.{List, [], _∷_, _++_}
 use mathlib.Core.Path.{_≡_, refl, _∙_}
 use Prim.Native.Nat.{ℕ, suc, _+_, _-_, _*_, _^_, _≤_, _<_, min}
@@ -28,7 +28,7 @@ use Rattle.spectator_rules.specs.declared.SessionEvent.the-variants as SessionE
 use Rattle.spectator_rules.specs.declared.SessionState.the-variants.{Running}
 use Rattle.spectator_rules.specs.Inputs.{blankInput, slotOf, placeOf, inputStored}
 use Rattle.spectator_rules.specs.Watch.{Watch, withState, withEvents}
-use Rattle.spectator_rules.specs.Handling.{lastOf, toldTo, tell, inputHandled, handled, handledAll}
+use Rattle.spectator_rules.specs.Handling.{lastOf, eventAdded, announce, inputHandled, handled, handledAll}
 use Rattle.spectator_invariant.specs.Seated.{Rising, SeatedInput, SeatedOwn, frameAt}
 use Rattle.spectator_invariant.proofs.Slots.{each-set, each-get, Others, stored-due, stored-whole, stored-stock}
 use Rattle.spectator_invariant.proofs.Rising.{next-least, rising-most}
@@ -39,7 +39,7 @@ unfolding blankInput
 held-most w h i =
     each-get (SeatedInput (w .newest)) (w .inputs) i blankInput (h .inputs) (record { low = omega arith; high = omega (arith, h .current, h .newest); size = refl }) .high
 
--- ---- between two events: the host's setup and newest frame stay, what was told is out of it, and the rest is to come
+-- ---- between two events: the host's setup and newest frame stay, what was announced is out of it, and the rest is to come
 
 pub record Midway (t : Terms) (top : ℕ) (rest : List Entry) (w : Watch) : Type 0 where
   pub terms : w .host .setup ≡ t
@@ -53,22 +53,22 @@ pub record Midway (t : Terms) (top : ℕ) (rest : List Entry) (w : Watch) : Type
   pub others : Others (w .limits .slots) (t .players) due (w .newest) (w .inputs)
   pub coming : Rising (t .players) (w .newest) due top rest
 
--- ---- telling
+-- ---- announcing
 
 last-few : {X : Type 0} (n : ℕ) (l : List X) → length (lastOf n l) ≤ n
 unfolding lastOf
 last-few n l = omega (arith, length-drop (length l - n) l)
 
-told-few : (most : ℕ) (x : SessionEntry) (l : List SessionEntry) → length (toldTo most x l) ≤ most
-unfolding toldTo
-told-few most x l = omega (arith, last-few (min most 128) (l ++ x ∷ []))
+announced-few : (most : ℕ) (x : SessionEntry) (l : List SessionEntry) → length (eventAdded most x l) ≤ most
+unfolding eventAdded
+announced-few most x l = omega (arith, last-few (min most 128) (l ++ x ∷ []))
 
 events-own : (w : Watch) (l : List SessionEntry) → length l ≤ w .limits .«session_events» → SeatedOwn w → SeatedOwn (withEvents l w)
 events-own w l n h = search
 
-tell-midway : (t : Terms) (top : ℕ) (x : SessionEvent) (rest : List Entry) (w : Watch) → Midway t top rest w → Midway t top rest (tell x w)
-unfolding tell
-tell-midway t top x rest w h = record { terms = h .terms; level = h .level; host = h .host; own = events-own w _ (told-few _ _ (w .events)) (h .own); none = h .none; due = h .due; there = h .there; others = h .others; coming = h .coming }
+announce-midway : (t : Terms) (top : ℕ) (x : SessionEvent) (rest : List Entry) (w : Watch) → Midway t top rest w → Midway t top rest (announce x w)
+unfolding announce
+announce-midway t top x rest w h = record { terms = h .terms; level = h .level; host = h .host; own = events-own w _ (announced-few _ _ (w .events)) (h .own); none = h .none; due = h .due; there = h .there; others = h .others; coming = h .coming }
 
 running-midway : (t : Terms) (top : ℕ) (rest : List Entry) (w : Watch) → Midway t top rest w → Midway t top rest (withState Running w)
 running-midway t top rest w h =
@@ -147,12 +147,12 @@ handled-midway t top x rest w h = go (x .event) h
         record { terms = k .terms; level = k .level; host = k .host; own = k .own; none = k .none; due = k .due; there = k .there; others = k .others; coming = r }
 
     go : (e : Event) → Midway t top (record { event = e; input = x .input } ∷ rest) w → Midway t top rest (handled (record { event = e; input = x .input }) w)
-    go (Event.Synchronizing total count) k = tell-midway t top (SessionEvent.Synchronizing total count) rest w (passed _ k (k .coming .1))
-    go Event.Synchronized k = tell-midway t top SessionEvent.Synchronized rest (withState Running w) (running-midway t top rest w (passed _ k (k .coming .1)))
+    go (Event.Synchronizing total count) k = announce-midway t top (SessionEvent.Synchronizing total count) rest w (passed _ k (k .coming .1))
+    go Event.Synchronized k = announce-midway t top SessionEvent.Synchronized rest (withState Running w) (running-midway t top rest w (passed _ k (k .coming .1)))
     go (Event.Input frame player) k = input-midway t top frame player (x .input) rest w k
-    go Event.Disconnected k = tell-midway t top SessionEvent.Disconnected rest w (passed _ k (k .coming .1))
-    go (Event.NetworkInterrupted timeout) k = tell-midway t top (SessionEvent.NetworkInterrupted timeout) rest w (passed _ k (k .coming .1))
-    go Event.NetworkResumed k = tell-midway t top SessionEvent.NetworkResumed rest w (passed _ k (k .coming .1))
+    go Event.Disconnected k = announce-midway t top SessionEvent.Disconnected rest w (passed _ k (k .coming .1))
+    go (Event.NetworkInterrupted timeout) k = announce-midway t top (SessionEvent.NetworkInterrupted timeout) rest w (passed _ k (k .coming .1))
+    go Event.NetworkResumed k = announce-midway t top SessionEvent.NetworkResumed rest w (passed _ k (k .coming .1))
 
 pub all-midway : (t : Terms) (top : ℕ) (l rest : List Entry) (w : Watch) → Midway t top (l ++ rest) w → Midway t top rest (handledAll l w)
 unfolding handledAll

@@ -4,7 +4,7 @@ use mathlib.Core.Bool.{Bool, true, false}
 use mathlib.Core.List.{List, [], _∷_, _++_}
 use mathlib.Core.Logic.{_⊎_, inl, inr}
 use mathlib.Core.Path.{_≡_, refl, sym, ap, _∙_}
-use Prim.Native.Nat.{ℕ, zero, suc, _+_, _≤_, _<_, max}
+use Prim.Native.Nat.{ℕ, zero, suc, _≤_, _<_, max}
 use native.Mathlib.Omega.{arith}
 use lib.Dec.{ltb, eqb}
 use lib.ListN.{length, take, drop}
@@ -17,8 +17,7 @@ use Rattle.history.specs.History.{above, numbered, newestAfter}
 use Rattle.events.specs.declared.Entry.{Entry}
 use Rattle.events.specs.declared.Event.{Event}
 use Rattle.events.specs.declared.Event.the-variants as Event
-use Rattle.events.specs.Events.{inputOf, inputEntry, announced}
-use Rattle.endpoint_rules.specs.Receiving.{announcedEach}
+use Rattle.events.specs.Events.{inputOf, inputEntry, announced, announcedEach}
 use Rattle.endpoint_delivery.proofs.Lists.{Mem, here, there, cases-cons, not-nil}
 use Rattle.endpoint_delivery.proofs.Moves.{isInput, inputsIn}
 use Rattle.spectator_invariant.specs.Seated.{Next, Follows, lastAfter, dueAfter, Rising}

@@ -6,6 +6,7 @@ use Prim.Native.Nat.{ℕ, _+_, _*_, _<_}
 use lib.Dec.{eqb}
 use lib.ListN.{getD}
 use Rattle.base.specs.Pick.{pick}
+use Rattle.ceilings.specs.Ceilings.{mostPlayers}
 use Rattle.frame.specs.Bias.{nullFrame}
 use Rattle.events.specs.declared.Entry.{Entry}
 use Rattle.events.specs.declared.Event.the-variants as Event
@@ -42,5 +43,5 @@ inputEvent player x = record { event = Event.Input (x .frame) player; input = x 
 -- at every place stands an input of frame -1, as a blank one is, or one that came with an event of its frame and player
 abbrev pub Came : List Entry → List PlayerInput → Type 0
 Came events l =
-    (slot player : ℕ) → player < 4
-    → (getD l (slot * 4 + player) blankInput .frame ≡ nullFrame) ⊎ Mem (inputEvent player (getD l (slot * 4 + player) blankInput)) events
+    (slot player : ℕ) → player < mostPlayers
+    → (getD l (slot * mostPlayers + player) blankInput .frame ≡ nullFrame) ⊎ Mem (inputEvent player (getD l (slot * mostPlayers + player) blankInput)) events

@@ -6,12 +6,14 @@ use Prim.Native.Nat.{ℕ, zero, suc, _+_, _*_, _^_, _≤_, _<_}
 use lib.Dec.{eqb}
 use lib.ListN.{length, take, getD}
 use Rattle.base.specs.Pick.{pick}
+use Rattle.ceilings.specs.Ceilings.{mostPlayers, mostInputSize, mostSlots, mostSessionEvents}
 use Rattle.frame.specs.Bias.{bias32, nullFrame}
 use Rattle.history.specs.History.{newestOf}
 use Rattle.events.specs.declared.Entry.{Entry}
 use Rattle.events.specs.declared.Event.{Event}
 use Rattle.events.specs.declared.Event.the-variants as Event
 use Rattle.setup.specs.Setup.{Between}
+use Rattle.spectator_rules.specs.Setup.{mostFrames}
 use Rattle.endpoint_invariant.specs.Each.{Each}
 use Rattle.endpoint_invariant.specs.Sound.{Sound, SoundStatus}
 use Rattle.spectator_rules.specs.declared.Limits.{Limits}
@@ -33,7 +35,7 @@ Next last (suc due) frame = frame ≡ last
 abbrev pub Follows : (players last due : ℕ) → Event → (input : List ℕ) → Type 0
 Follows players last due (Event.Synchronizing total count) input = Unit {0}
 Follows players last due Event.Synchronized input = Unit {0}
-Follows players last due (Event.Input frame player) input = Next last due frame × (player ≡ due) × (player < players) × (length input ≡ 16)
+Follows players last due (Event.Input frame player) input = Next last due frame × (player ≡ due) × (player < players) × (length input ≡ mostInputSize)
 Follows players last due Event.Disconnected input = Unit {0}
 Follows players last due (Event.NetworkInterrupted timeout) input = Unit {0}
 Follows players last due Event.NetworkResumed input = Unit {0}
@@ -65,20 +67,20 @@ Rising players last due top (x ∷ xs) =
 
 -- within the ceilings
 pub record SeatedLimits (l : Limits) : Type 0 where
-  pub slots : Between 2 64 (l .slots)
-  pub events : Between 1 128 (l .«session_events»)
-  pub behind : l .«max_frames_behind» ≤ 65535
-  pub speed : l .«catchup_speed» ≤ 65535
+  pub slots : Between 2 mostSlots (l .slots)
+  pub events : Between 1 mostSessionEvents (l .«session_events»)
+  pub behind : l .«max_frames_behind» ≤ mostFrames
+  pub speed : l .«catchup_speed» ≤ mostFrames
 
 -- a stored input: of no frame below -1 and of none above the newest, of length 16
 pub record SeatedInput (newest : ℕ) (x : PlayerInput) : Type 0 where
   pub low : nullFrame ≤ x .frame
   pub high : x .frame ≤ newest
-  pub size : length (x .input) ≡ 16
+  pub size : length (x .input) ≡ mostInputSize
 
 -- the frame that stands at a player's place of a slot
 abbrev pub frameAt : (slot player : ℕ) → List PlayerInput → ℕ
-frameAt slot player l = getD l (slot * 4 + player) blankInput .frame
+frameAt slot player l = getD l (slot * mostPlayers + player) blankInput .frame
 
 -- with a frame, those after it up to the newest are held: frames come without a gap, and newer ones take the slots of the oldest
 abbrev pub Stock : (slots newest : ℕ) → List PlayerInput → Type 0
@@ -88,7 +90,7 @@ Stock slots newest l =
 pub record SeatedOwn (w : Watch) : Type 0 where
   pub limits : SeatedLimits (w .limits)
   -- four places a slot
-  pub places : length (w .inputs) ≡ w .limits .slots * 4
+  pub places : length (w .inputs) ≡ w .limits .slots * mostPlayers
   pub inputs : Each (SeatedInput (w .newest)) (w .inputs)
   pub stock : Stock (w .limits .slots) (w .newest) (w .inputs)
   -- its copy of the host's statuses has one record a player

@@ -9,28 +9,27 @@ use Rattle.frame.specs.Bias.{bias32, nullFrame}
 use Rattle.packing.specs.Packing.{xors, framesOf, unpack, pack, decodableLength, decodable}
 use Rattle.packing.specs.Pad.{zeros, padded}
 use Rattle.pending.specs.Pending.{dropTo, lastTo, room}
-use Rattle.history.specs.History.{blank, highest, newestOf, foundIn, referenceFrame, atLine, above, numbered, packetOf, takenIn}
+use Rattle.history.specs.History.{blankFrame, highest, newestOf, foundIn, referenceFrame, atLine, above, numbered, packetOf, takenIn}
 use Rattle.nonces.specs.Nonces.{issued, fits}
 use Rattle.status.specs.Status.{defaultStatus, reported, merged}
-use Rattle.status.specs.Statuses.{mergedAll, fresh as freshStatuses}
+use Rattle.status.specs.Statuses.{mergedAll, defaultStatuses}
 use Rattle.codec.specs.Message.{Wire}
 use Rattle.codec.specs.declared.StatusReport.{StatusReport}
 use Rattle.codec.specs.declared.MessageBody.the-variants.{SyncReply, Input, QualityReply}
-use Rattle.events.specs.declared.Entry.{Entry}
 use Rattle.events.specs.declared.Event.{Event}
 use Rattle.events.specs.declared.Event.the-variants as Event
-use Rattle.events.specs.Events.{hasRoom, inputOf, inputEntry, announced}
+use Rattle.events.specs.Events.{hasRoom, inputOf, withoutInput, inputEntry, announced, announcedEach}
 use Rattle.timers.specs.Timers.{madeAt}
 use Rattle.endpoint_rules.specs.declared.Phase.the-variants as Phase
 use Rattle.setup.specs.declared.DesyncDetection.the-variants.{Off}
 use Rattle.setup.specs.Setup.{badSetup, anyAbove, anyTwice, inserted, sorted, termsWith}
 use Rattle.endpoint_rules.specs.Seen.{Seen, made, withPhase, withSync, withEvents as withHostEvents, withQuality, withQueued}
-use Rattle.outbox.specs.Outbox.{sizes}
+use Rattle.outbox.specs.Outbox.{queueSize}
 use Rattle.endpoint_rules.specs.Did.{refused as hostRefused, decided as hostDecided, queueWire, done}
 use Rattle.endpoint_rules.specs.Room.{bufferFull, isFull}
 use Rattle.endpoint_rules.specs.Handshake.{nonceIssued, request, started, synchronized, counted, running, replied, onSyncReply}
 use Rattle.endpoint_rules.specs.Sending.{droppedTo, acknowledged, pendingQueued}
-use Rattle.endpoint_rules.specs.Receiving.{taken, receivedIf, receive, announcedEach, discarded, packetOverflows, statusesMerged, informed, inputsReceived, inputTaken, inputUnless, onInput}
+use Rattle.endpoint_rules.specs.Receiving.{taken, receivedIf, receive, discarded, packetOverflows, statusesMerged, informed, inputsReceived, inputTaken, inputUnless, onInput}
 use Rattle.endpoint_rules.specs.Act.{resent, reportSent, keptAlive, interrupted, timedOut, acted}
 use Rattle.quality.specs.Quality.{clamped, roundTrip, tripNoted}
 use Rattle.quality.specs.Advantage.{advantageOf, advantageOverflows}
@@ -48,9 +47,9 @@ use Rattle.spectator_rules.specs.declared.SessionState.the-variants.{Syn
 use Rattle.spectator_rules.specs.declared.SyncedInput.{SyncedInput}
 use Rattle.spectator_rules.specs.Setup.{hostSetup, badLimits, badSession}
 use Rattle.spectator_rules.specs.Watch.{Watch, madeWatch, withHost, withState, withCurrent, withNewest}
-use Rattle.spectator_rules.specs.Inputs.{blankInput, freshInputs, inputStored, inputAt}
-use Rattle.spectator_rules.specs.Handling.{lastOf, toldTo, tell, inputHandled, handled, handledAll}
-use Rattle.spectator_rules.specs.Advance.{framesToAdvance, framesRefusal, syncedAt, requestAt, requestsFrom, requestsOf, advanceRefusal}
+use Rattle.spectator_rules.specs.Inputs.{blankInput, freshInputs, inputStored, playerInputAt}
+use Rattle.spectator_rules.specs.Handling.{lastOf, eventAdded, announce, inputHandled, handled, handledAll}
+use Rattle.spectator_rules.specs.Advance.{framesToAdvance, framesRefusal, syncedAt, frameInputs, requestsFrom, requestsOf, advanceRefusal}
 use Rattle.spectator_rules.specs.Call.{Call}
 use Rattle.spectator_rules.specs.Step.{fresh, refused, decided, byHost, hostActs, hostTakes, pollRefusal, polled, pollStep, advanceStep, framesBehindStep, step}
 use Rattle.spectator_rules.specs.Value.{Value, valueOf}
@@ -113,7 +112,7 @@ abbrev readyHost : Seen
 readyHost =
     record {
       setup = record { players = 2; handles = 0 ∷ 1 ∷ []; localPlayers = 1; inputSize = 1; maxPrediction = 2; disconnectTimeout = 100000; notifyStart = 50000; fps = 60; magic = 7; peer = 3; choices = record { «desync_detection» = Off } };
-      carried = record { sender = record { pending = []; acked = blank }; receiver = record { history = blank ∷ [] } };
+      carried = record { sender = record { pending = []; acked = blankFrame }; receiver = record { history = blankFrame ∷ [] } };
       phase = Phase.Running;
       sync = record { remaining = 0; nonces = []; remoteMagic = 9 };
       clocks = madeAt 1000;
@@ -140,13 +139,10 @@ ready slots events behind speed =
     }
 
 -- the session before that poll: the host holds its events, and five requests are queued
-abbrev pub plain : Event → Entry
-plain event = record { event = event; input = replicate 16 0 }
-
 abbrev pub synced : (slots events behind speed : ℕ) → Watch
 synced slots events behind speed =
     let w : Watch = ready slots events behind speed in
-    withState Synchronizing (withHost (withHostEvents (plain (Event.Synchronizing 5 1) ∷ plain (Event.Synchronizing 5 2) ∷ plain (Event.Synchronizing 5 3) ∷ plain (Event.Synchronizing 5 4) ∷ plain Event.Synchronized ∷ []) (withQueued 50 (w .host))) w)
+    withState Synchronizing (withHost (withHostEvents (withoutInput (Event.Synchronizing 5 1) ∷ withoutInput (Event.Synchronizing 5 2) ∷ withoutInput (Event.Synchronizing 5 3) ∷ withoutInput (Event.Synchronizing 5 4) ∷ withoutInput Event.Synchronized ∷ []) (withQueued 50 (w .host))) w)
 
 -- an event of peer 3
 abbrev by3 : SessionEvent → SessionEntry
@@ -182,7 +178,7 @@ setups :
     × (new 2 1 0 0 .host .setup .handles ≡ 0 ∷ 1 ∷ [])
     × (new 2 1 0 0 .current ≡ nullFrame)
     × (new 2 1 0 0 .newest ≡ nullFrame)
-unfolding kept has without xors framesOf unpack pack decodableLength decodable zeros padded dropTo lastTo room blank highest newestOf foundIn atLine above numbered packetOf takenIn issued fits defaultStatus reported merged mergedAll freshStatuses hasRoom inputOf inputEntry announced badSetup anyAbove anyTwice inserted sorted termsWith made hostRefused hostDecided queueWire sizes done bufferFull isFull nonceIssued request started synchronized counted running replied onSyncReply droppedTo acknowledged pendingQueued referenceFrame taken receivedIf receive announcedEach discarded packetOverflows statusesMerged informed inputsReceived inputTaken inputUnless onInput resent reportSent keptAlive interrupted timedOut acted clamped reportQueued roundTrip roundTripNoted onQualityReply advantageOf advantageOverflows localAdvantage advantageUpdated synchronizeStep ignored resumed heard onBody reacted messageStep actStep advantageStep takeStep statsOf filledPart hostSetup badLimits badSession madeWatch blankInput freshInputs inputStored inputAt lastOf toldTo tell inputHandled handled handledAll framesToAdvance framesRefusal syncedAt requestAt requestsFrom requestsOf advanceRefusal fresh refused decided byHost hostActs hostTakes pollRefusal polled pollStep advanceStep framesBehindStep step valueOf
+unfolding kept has without xors framesOf unpack pack decodableLength decodable zeros padded dropTo lastTo room blankFrame highest newestOf foundIn atLine above numbered packetOf takenIn issued fits defaultStatus reported merged mergedAll defaultStatuses hasRoom inputOf inputEntry announced badSetup anyAbove anyTwice inserted sorted termsWith made hostRefused hostDecided queueWire queueSize done bufferFull isFull nonceIssued request started synchronized counted running replied onSyncReply droppedTo acknowledged pendingQueued referenceFrame taken receivedIf receive announcedEach discarded packetOverflows statusesMerged informed inputsReceived inputTaken inputUnless onInput resent reportSent keptAlive interrupted timedOut acted clamped reportQueued roundTrip roundTripNoted onQualityReply advantageOf advantageOverflows localAdvantage advantageUpdated synchronizeStep ignored resumed heard onBody reacted messageStep actStep advantageStep takeStep statsOf filledPart hostSetup badLimits badSession madeWatch blankInput freshInputs inputStored playerInputAt lastOf eventAdded announce inputHandled handled handledAll framesToAdvance framesRefusal syncedAt frameInputs requestsFrom requestsOf advanceRefusal fresh refused decided byHost hostActs hostTakes pollRefusal polled pollStep advanceStep framesBehindStep step valueOf
 setups = (refl, refl, refl, refl, refl, refl, refl, refl, refl, refl, refl, refl)
 
 -- ---- handshake
@@ -195,15 +191,15 @@ halfway slots events behind speed =
     (withHost
     (withPhase Phase.Synchronizing
     (withSync (record { remaining = 3; nonces = 3 ∷ []; remoteMagic = 0 })
-    (withHostEvents (plain (Event.Synchronizing 5 1) ∷ plain (Event.Synchronizing 5 2) ∷ []) (withQueued 30 (w .host)))))
+    (withHostEvents (withoutInput (Event.Synchronizing 5 1) ∷ withoutInput (Event.Synchronizing 5 2) ∷ []) (withQueued 30 (w .host)))))
     w)
 
 half : (slots events behind speed : ℕ) → after (Call.synchronize 1000 (epochAt 1000) 1 65536 ∷ reply 1 2 ∷ reply 2 3 ∷ []) (new slots events behind speed) ≡ halfway slots events behind speed
-unfolding kept has without xors framesOf unpack pack decodableLength decodable zeros padded dropTo lastTo room blank highest newestOf foundIn atLine above numbered packetOf takenIn issued fits defaultStatus reported merged mergedAll freshStatuses hasRoom inputOf inputEntry announced badSetup anyAbove anyTwice inserted sorted termsWith made hostRefused hostDecided queueWire sizes done bufferFull isFull nonceIssued request started synchronized counted running replied onSyncReply droppedTo acknowledged pendingQueued referenceFrame taken receivedIf receive announcedEach discarded packetOverflows statusesMerged informed inputsReceived inputTaken inputUnless onInput resent reportSent keptAlive interrupted timedOut acted clamped reportQueued roundTrip roundTripNoted onQualityReply advantageOf advantageOverflows localAdvantage advantageUpdated synchronizeStep ignored resumed heard onBody reacted messageStep actStep advantageStep takeStep statsOf filledPart hostSetup badLimits badSession madeWatch blankInput freshInputs inputStored inputAt lastOf toldTo tell inputHandled handled handledAll framesToAdvance framesRefusal syncedAt requestAt requestsFrom requestsOf advanceRefusal fresh refused decided byHost hostActs hostTakes pollRefusal polled pollStep advanceStep framesBehindStep step valueOf
+unfolding kept has without xors framesOf unpack pack decodableLength decodable zeros padded dropTo lastTo room blankFrame highest newestOf foundIn atLine above numbered packetOf takenIn issued fits defaultStatus reported merged mergedAll defaultStatuses hasRoom inputOf inputEntry announced badSetup anyAbove anyTwice inserted sorted termsWith made hostRefused hostDecided queueWire queueSize done bufferFull isFull nonceIssued request started synchronized counted running replied onSyncReply droppedTo acknowledged pendingQueued referenceFrame taken receivedIf receive announcedEach discarded packetOverflows statusesMerged informed inputsReceived inputTaken inputUnless onInput resent reportSent keptAlive interrupted timedOut acted clamped reportQueued roundTrip roundTripNoted onQualityReply advantageOf advantageOverflows localAdvantage advantageUpdated synchronizeStep ignored resumed heard onBody reacted messageStep actStep advantageStep takeStep statsOf filledPart hostSetup badLimits badSession madeWatch blankInput freshInputs inputStored playerInputAt lastOf eventAdded announce inputHandled handled handledAll framesToAdvance framesRefusal syncedAt frameInputs requestsFrom requestsOf advanceRefusal fresh refused decided byHost hostActs hostTakes pollRefusal polled pollStep advanceStep framesBehindStep step valueOf
 half slots events behind speed = refl
 
 rest : (slots events behind speed : ℕ) → after (reply 3 4 ∷ reply 4 5 ∷ reply 5 6 ∷ []) (halfway slots events behind speed) ≡ synced slots events behind speed
-unfolding kept has without xors framesOf unpack pack decodableLength decodable zeros padded dropTo lastTo room blank highest newestOf foundIn atLine above numbered packetOf takenIn issued fits defaultStatus reported merged mergedAll freshStatuses hasRoom inputOf inputEntry announced badSetup anyAbove anyTwice inserted sorted termsWith made hostRefused hostDecided queueWire sizes done bufferFull isFull nonceIssued request started synchronized counted running replied onSyncReply droppedTo acknowledged pendingQueued referenceFrame taken receivedIf receive announcedEach discarded packetOverflows statusesMerged informed inputsReceived inputTaken inputUnless onInput resent reportSent keptAlive interrupted timedOut acted clamped reportQueued roundTrip roundTripNoted onQualityReply advantageOf advantageOverflows localAdvantage advantageUpdated synchronizeStep ignored resumed heard onBody reacted messageStep actStep advantageStep takeStep statsOf filledPart hostSetup badLimits badSession madeWatch blankInput freshInputs inputStored inputAt lastOf toldTo tell inputHandled handled handledAll framesToAdvance framesRefusal syncedAt requestAt requestsFrom requestsOf advanceRefusal fresh refused decided byHost hostActs hostTakes pollRefusal polled pollStep advanceStep framesBehindStep step valueOf
+unfolding kept has without xors framesOf unpack pack decodableLength decodable zeros padded dropTo lastTo room blankFrame highest newestOf foundIn atLine above numbered packetOf takenIn issued fits defaultStatus reported merged mergedAll defaultStatuses hasRoom inputOf inputEntry announced badSetup anyAbove anyTwice inserted sorted termsWith made hostRefused hostDecided queueWire queueSize done bufferFull isFull nonceIssued request started synchronized counted running replied onSyncReply droppedTo acknowledged pendingQueued referenceFrame taken receivedIf receive announcedEach discarded packetOverflows statusesMerged informed inputsReceived inputTaken inputUnless onInput resent reportSent keptAlive interrupted timedOut acted clamped reportQueued roundTrip roundTripNoted onQualityReply advantageOf advantageOverflows localAdvantage advantageUpdated synchronizeStep ignored resumed heard onBody reacted messageStep actStep advantageStep takeStep statsOf filledPart hostSetup badLimits badSession madeWatch blankInput freshInputs inputStored playerInputAt lastOf eventAdded announce inputHandled handled handledAll framesToAdvance framesRefusal syncedAt frameInputs requestsFrom requestsOf advanceRefusal fresh refused decided byHost hostActs hostTakes pollRefusal polled pollStep advanceStep framesBehindStep step valueOf
 rest slots events behind speed = refl
 
 pub shaken : (slots events behind speed : ℕ) → after handshake (new slots events behind speed) ≡ synced slots events behind speed
@@ -230,7 +226,7 @@ handshakes :
     ≡ record { answer = 0; after = after (Call.synchronize 1000 (epochAt 1000) 1 65536 ∷ []) (new 4 8 2 1); out = [] })
     × (step (Call.synchronize 1000 (epochAt 1000) 1 65536) (ready 4 8 2 1) .answer ≡ 2)
     × (step (Call.synchronize 1000 (epochAt 1000) 1 9) (new 4 8 2 1) ≡ record { answer = 5; after = new 4 8 2 1; out = [] })
-unfolding kept has without xors framesOf unpack pack decodableLength decodable zeros padded dropTo lastTo room blank highest newestOf foundIn atLine above numbered packetOf takenIn issued fits defaultStatus reported merged mergedAll freshStatuses hasRoom inputOf inputEntry announced badSetup anyAbove anyTwice inserted sorted termsWith made hostRefused hostDecided queueWire sizes done bufferFull isFull nonceIssued request started synchronized counted running replied onSyncReply droppedTo acknowledged pendingQueued referenceFrame taken receivedIf receive announcedEach discarded packetOverflows statusesMerged informed inputsReceived inputTaken inputUnless onInput resent reportSent keptAlive interrupted timedOut acted clamped reportQueued roundTrip roundTripNoted onQualityReply advantageOf advantageOverflows localAdvantage advantageUpdated synchronizeStep ignored resumed heard onBody reacted messageStep actStep advantageStep takeStep statsOf filledPart hostSetup badLimits badSession madeWatch blankInput freshInputs inputStored inputAt lastOf toldTo tell inputHandled handled handledAll framesToAdvance framesRefusal syncedAt requestAt requestsFrom requestsOf advanceRefusal fresh refused decided byHost hostActs hostTakes pollRefusal polled pollStep advanceStep framesBehindStep step valueOf
+unfolding kept has without xors framesOf unpack pack decodableLength decodable zeros padded dropTo lastTo room blankFrame highest newestOf foundIn atLine above numbered packetOf takenIn issued fits defaultStatus reported merged mergedAll defaultStatuses hasRoom inputOf inputEntry announced badSetup anyAbove anyTwice inserted sorted termsWith made hostRefused hostDecided queueWire queueSize done bufferFull isFull nonceIssued request started synchronized counted running replied onSyncReply droppedTo acknowledged pendingQueued referenceFrame taken receivedIf receive announcedEach discarded packetOverflows statusesMerged informed inputsReceived inputTaken inputUnless onInput resent reportSent keptAlive interrupted timedOut acted clamped reportQueued roundTrip roundTripNoted onQualityReply advantageOf advantageOverflows localAdvantage advantageUpdated synchronizeStep ignored resumed heard onBody reacted messageStep actStep advantageStep takeStep statsOf filledPart hostSetup badLimits badSession madeWatch blankInput freshInputs inputStored playerInputAt lastOf eventAdded announce inputHandled handled handledAll framesToAdvance framesRefusal syncedAt frameInputs requestsFrom requestsOf advanceRefusal fresh refused decided byHost hostActs hostTakes pollRefusal polled pollStep advanceStep framesBehindStep step valueOf
 handshakes = (refl, shaken 4 8 2 1, refl, refl, refl, refl, refl, refl, refl)
 
 -- ---- inputs
@@ -239,11 +235,11 @@ handshakes = (refl, shaken 4 8 2 1, refl, refl, refl, refl, refl, refl, refl)
 abbrev two : Call
 two = packet (fr 0) (report false (fr 1) ∷ report true (fr 0) ∷ []) (5 ∷ 6 ∷ 7 ∷ 8 ∷ [])
 
-abbrev told : Watch
-told = after (two ∷ []) (ready 4 8 2 1)
+abbrev unpolled : Watch
+unpolled = after (two ∷ []) (ready 4 8 2 1)
 
 abbrev stored : Watch
-stored = after (poll ∷ []) told
+stored = after (poll ∷ []) unpolled
 
 -- a round trip of 100 first: the advantage is 1 + 3 - 1
 abbrev paced : Watch
@@ -260,9 +256,9 @@ watches :
     -- nothing is there: 16
     (step Call.advanceFrame (ready 4 8 2 1) .answer ≡ 16)
     -- a message alone brings no frame: its events wait for the poll
-    × (told .newest ≡ nullFrame)
-    × (step Call.advanceFrame told .answer ≡ 16)
-    × (valueOf Call.framesBehindHost told ≡ Value.count 0)
+    × (unpolled .newest ≡ nullFrame)
+    × (step Call.advanceFrame unpolled .answer ≡ 16)
+    × (valueOf Call.framesBehindHost unpolled ≡ Value.count 0)
     × (stored .newest ≡ fr 1)
     × (stored .statuses ≡ record { disconnected = false; «last_frame» = fr 1 } ∷ record { disconnected = true; «last_frame» = fr 0 } ∷ [])
     × (valueOf Call.framesBehindHost stored ≡ Value.count 2)
@@ -279,10 +275,10 @@ watches :
     × (advance (after (without1 [] ∷ poll ∷ []) begun) ≡ (0, Value.requests ((confirmed 1 ∷ confirmed 1 ∷ []) ∷ [])))
     × (advance (after (without1 (3 ∷ 3 ∷ []) ∷ poll ∷ []) begun) ≡ (0, Value.requests ((confirmed 1 ∷ gone 1 ∷ []) ∷ [])))
     -- the poll hands back what the host had queued for its inputs, and what its act adds
-    × (valueOf poll told ≡ Value.part 10)
+    × (valueOf poll unpolled ≡ Value.part 10)
     × (stored .host .queued ≡ 0)
-    × (valueOf (pollAt 1201 65536) told ≡ Value.part 34)
-unfolding kept has without xors framesOf unpack pack decodableLength decodable zeros padded dropTo lastTo room blank highest newestOf foundIn atLine above numbered packetOf takenIn issued fits defaultStatus reported merged mergedAll freshStatuses hasRoom inputOf inputEntry announced badSetup anyAbove anyTwice inserted sorted termsWith made hostRefused hostDecided queueWire sizes done bufferFull isFull nonceIssued request started synchronized counted running replied onSyncReply droppedTo acknowledged pendingQueued referenceFrame taken receivedIf receive announcedEach discarded packetOverflows statusesMerged informed inputsReceived inputTaken inputUnless onInput resent reportSent keptAlive interrupted timedOut acted clamped reportQueued roundTrip roundTripNoted onQualityReply advantageOf advantageOverflows localAdvantage advantageUpdated synchronizeStep ignored resumed heard onBody reacted messageStep actStep advantageStep takeStep statsOf filledPart hostSetup badLimits badSession madeWatch blankInput freshInputs inputStored inputAt lastOf toldTo tell inputHandled handled handledAll framesToAdvance framesRefusal syncedAt requestAt requestsFrom requestsOf advanceRefusal fresh refused decided byHost hostActs hostTakes pollRefusal polled pollStep advanceStep framesBehindStep step valueOf
+    × (valueOf (pollAt 1201 65536) unpolled ≡ Value.part 34)
+unfolding kept has without xors framesOf unpack pack decodableLength decodable zeros padded dropTo lastTo room blankFrame highest newestOf foundIn atLine above numbered packetOf takenIn issued fits defaultStatus reported merged mergedAll defaultStatuses hasRoom inputOf inputEntry announced badSetup anyAbove anyTwice inserted sorted termsWith made hostRefused hostDecided queueWire queueSize done bufferFull isFull nonceIssued request started synchronized counted running replied onSyncReply droppedTo acknowledged pendingQueued referenceFrame taken receivedIf receive announcedEach discarded packetOverflows statusesMerged informed inputsReceived inputTaken inputUnless onInput resent reportSent keptAlive interrupted timedOut acted clamped reportQueued roundTrip roundTripNoted onQualityReply advantageOf advantageOverflows localAdvantage advantageUpdated synchronizeStep ignored resumed heard onBody reacted messageStep actStep advantageStep takeStep statsOf filledPart hostSetup badLimits badSession madeWatch blankInput freshInputs inputStored playerInputAt lastOf eventAdded announce inputHandled handled handledAll framesToAdvance framesRefusal syncedAt frameInputs requestsFrom requestsOf advanceRefusal fresh refused decided byHost hostActs hostTakes pollRefusal polled pollStep advanceStep framesBehindStep step valueOf
 watches = (refl, refl, refl, refl, refl, refl, refl, refl, refl, refl, refl, refl, refl, refl, refl, refl, refl, refl, refl)
 
 -- ---- falling behind
@@ -330,7 +326,7 @@ catches-up :
     -- a first frame other than 0: 16 while slot 0 is blank, then 17
     × (step Call.advanceFrame seventh .answer ≡ 16)
     × (step Call.advanceFrame eighth .answer ≡ 17)
-unfolding kept has without xors framesOf unpack pack decodableLength decodable zeros padded dropTo lastTo room blank highest newestOf foundIn atLine above numbered packetOf takenIn issued fits defaultStatus reported merged mergedAll freshStatuses hasRoom inputOf inputEntry announced badSetup anyAbove anyTwice inserted sorted termsWith made hostRefused hostDecided queueWire sizes done bufferFull isFull nonceIssued request started synchronized counted running replied onSyncReply droppedTo acknowledged pendingQueued referenceFrame taken receivedIf receive announcedEach discarded packetOverflows statusesMerged informed inputsReceived inputTaken inputUnless onInput resent reportSent keptAlive interrupted timedOut acted clamped reportQueued roundTrip roundTripNoted onQualityReply advantageOf advantageOverflows localAdvantage advantageUpdated synchronizeStep ignored resumed heard onBody reacted messageStep actStep advantageStep takeStep statsOf filledPart hostSetup badLimits badSession madeWatch blankInput freshInputs inputStored inputAt lastOf toldTo tell inputHandled handled handledAll framesToAdvance framesRefusal syncedAt requestAt requestsFrom requestsOf advanceRefusal fresh refused decided byHost hostActs hostTakes pollRefusal polled pollStep advanceStep framesBehindStep step valueOf
+unfolding kept has without xors framesOf unpack pack decodableLength decodable zeros padded dropTo lastTo room blankFrame highest newestOf foundIn atLine above numbered packetOf takenIn issued fits defaultStatus reported merged mergedAll defaultStatuses hasRoom inputOf inputEntry announced badSetup anyAbove anyTwice inserted sorted termsWith made hostRefused hostDecided queueWire queueSize done bufferFull isFull nonceIssued request started synchronized counted running replied onSyncReply droppedTo acknowledged pendingQueued referenceFrame taken receivedIf receive announcedEach discarded packetOverflows statusesMerged informed inputsReceived inputTaken inputUnless onInput resent reportSent keptAlive interrupted timedOut acted clamped reportQueued roundTrip roundTripNoted onQualityReply advantageOf advantageOverflows localAdvantage advantageUpdated synchronizeStep ignored resumed heard onBody reacted messageStep actStep advantageStep takeStep statsOf filledPart hostSetup badLimits badSession madeWatch blankInput freshInputs inputStored playerInputAt lastOf eventAdded announce inputHandled handled handledAll framesToAdvance framesRefusal syncedAt frameInputs requestsFrom requestsOf advanceRefusal fresh refused decided byHost hostActs hostTakes pollRefusal polled pollStep advanceStep framesBehindStep step valueOf
 catches-up = (refl, refl, refl, refl, refl, refl, refl, refl, refl, refl, refl, refl)
 
 -- ---- overflow
@@ -363,11 +359,11 @@ pacedAs =
     withHost (withQuality (record { «local_frame_advantage» = bias32 + 3; «remote_frame_advantage» = bias32; «round_trip_time» = 100; «stats_start_time» = epochAt 1000 }) h) stored
 
 paced-is : paced ≡ pacedAs
-unfolding kept has without xors framesOf unpack pack decodableLength decodable zeros padded dropTo lastTo room blank highest newestOf foundIn atLine above numbered packetOf takenIn issued fits defaultStatus reported merged mergedAll freshStatuses hasRoom inputOf inputEntry announced badSetup anyAbove anyTwice inserted sorted termsWith made hostRefused hostDecided queueWire sizes done bufferFull isFull nonceIssued request started synchronized counted running replied onSyncReply droppedTo acknowledged pendingQueued referenceFrame taken receivedIf receive announcedEach discarded packetOverflows statusesMerged informed inputsReceived inputTaken inputUnless onInput resent reportSent keptAlive interrupted timedOut acted clamped reportQueued roundTrip roundTripNoted onQualityReply advantageOf advantageOverflows localAdvantage advantageUpdated synchronizeStep ignored resumed heard onBody reacted messageStep actStep advantageStep takeStep statsOf filledPart hostSetup badLimits badSession madeWatch blankInput freshInputs inputStored inputAt lastOf toldTo tell inputHandled handled handledAll framesToAdvance framesRefusal syncedAt requestAt requestsFrom requestsOf advanceRefusal fresh refused decided byHost hostActs hostTakes pollRefusal polled pollStep advanceStep framesBehindStep step valueOf
+unfolding kept has without xors framesOf unpack pack decodableLength decodable zeros padded dropTo lastTo room blankFrame highest newestOf foundIn atLine above numbered packetOf takenIn issued fits defaultStatus reported merged mergedAll defaultStatuses hasRoom inputOf inputEntry announced badSetup anyAbove anyTwice inserted sorted termsWith made hostRefused hostDecided queueWire queueSize done bufferFull isFull nonceIssued request started synchronized counted running replied onSyncReply droppedTo acknowledged pendingQueued referenceFrame taken receivedIf receive announcedEach discarded packetOverflows statusesMerged informed inputsReceived inputTaken inputUnless onInput resent reportSent keptAlive interrupted timedOut acted clamped reportQueued roundTrip roundTripNoted onQualityReply advantageOf advantageOverflows localAdvantage advantageUpdated synchronizeStep ignored resumed heard onBody reacted messageStep actStep advantageStep takeStep statsOf filledPart hostSetup badLimits badSession madeWatch blankInput freshInputs inputStored playerInputAt lastOf eventAdded announce inputHandled handled handledAll framesToAdvance framesRefusal syncedAt frameInputs requestsFrom requestsOf advanceRefusal fresh refused decided byHost hostActs hostTakes pollRefusal polled pollStep advanceStep framesBehindStep step valueOf
 paced-is = refl
 
 slowed-is : (slowed pacedAs .host .quality .«local_frame_advantage» ≡ bias32 + 3) × (slowed pacedAs .newest ≡ fr 2)
-unfolding kept has without xors framesOf unpack pack decodableLength decodable zeros padded dropTo lastTo room blank highest newestOf foundIn atLine above numbered packetOf takenIn issued fits defaultStatus reported merged mergedAll freshStatuses hasRoom inputOf inputEntry announced badSetup anyAbove anyTwice inserted sorted termsWith made hostRefused hostDecided queueWire sizes done bufferFull isFull nonceIssued request started synchronized counted running replied onSyncReply droppedTo acknowledged pendingQueued referenceFrame taken receivedIf receive announcedEach discarded packetOverflows statusesMerged informed inputsReceived inputTaken inputUnless onInput resent reportSent keptAlive interrupted timedOut acted clamped reportQueued roundTrip roundTripNoted onQualityReply advantageOf advantageOverflows localAdvantage advantageUpdated synchronizeStep ignored resumed heard onBody reacted messageStep actStep advantageStep takeStep statsOf filledPart hostSetup badLimits badSession madeWatch blankInput freshInputs inputStored inputAt lastOf toldTo tell inputHandled handled handledAll framesToAdvance framesRefusal syncedAt requestAt requestsFrom requestsOf advanceRefusal fresh refused decided byHost hostActs hostTakes pollRefusal polled pollStep advanceStep framesBehindStep step valueOf
+unfolding kept has without xors framesOf unpack pack decodableLength decodable zeros padded dropTo lastTo room blankFrame highest newestOf foundIn atLine above numbered packetOf takenIn issued fits defaultStatus reported merged mergedAll defaultStatuses hasRoom inputOf inputEntry announced badSetup anyAbove anyTwice inserted sorted termsWith made hostRefused hostDecided queueWire queueSize done bufferFull isFull nonceIssued request started synchronized counted running replied onSyncReply droppedTo acknowledged pendingQueued referenceFrame taken receivedIf receive announcedEach discarded packetOverflows statusesMerged informed inputsReceived inputTaken inputUnless onInput resent reportSent keptAlive interrupted timedOut acted clamped reportQueued roundTrip roundTripNoted onQualityReply advantageOf advantageOverflows localAdvantage advantageUpdated synchronizeStep ignored resumed heard onBody reacted messageStep actStep advantageStep takeStep statsOf filledPart hostSetup badLimits badSession madeWatch blankInput freshInputs inputStored playerInputAt lastOf eventAdded announce inputHandled handled handledAll framesToAdvance framesRefusal syncedAt frameInputs requestsFrom requestsOf advanceRefusal fresh refused decided byHost hostActs hostTakes pollRefusal polled pollStep advanceStep framesBehindStep step valueOf
 slowed-is = (refl, refl)
 
 slower-is : (slower .host .quality .«local_frame_advantage» ≡ bias32 + 3) × (slower .newest ≡ fr 2)
@@ -389,26 +385,26 @@ overflows :
     × (slowly .newest ≡ fr 1)
     × (slowly .statuses ≡ stored .statuses)
     × (slowly .inputs ≡ stored .inputs)
-unfolding kept has without xors framesOf unpack pack decodableLength decodable zeros padded dropTo lastTo room blank highest newestOf foundIn atLine above numbered packetOf takenIn issued fits defaultStatus reported merged mergedAll freshStatuses hasRoom inputOf inputEntry announced badSetup anyAbove anyTwice inserted sorted termsWith made hostRefused hostDecided queueWire sizes done bufferFull isFull nonceIssued request started synchronized counted running replied onSyncReply droppedTo acknowledged pendingQueued referenceFrame taken receivedIf receive announcedEach discarded packetOverflows statusesMerged informed inputsReceived inputTaken inputUnless onInput resent reportSent keptAlive interrupted timedOut acted clamped reportQueued roundTrip roundTripNoted onQualityReply advantageOf advantageOverflows localAdvantage advantageUpdated synchronizeStep ignored resumed heard onBody reacted messageStep actStep advantageStep takeStep statsOf filledPart hostSetup badLimits badSession madeWatch blankInput freshInputs inputStored inputAt lastOf toldTo tell inputHandled handled handledAll framesToAdvance framesRefusal syncedAt requestAt requestsFrom requestsOf advanceRefusal fresh refused decided byHost hostActs hostTakes pollRefusal polled pollStep advanceStep framesBehindStep step valueOf
+unfolding kept has without xors framesOf unpack pack decodableLength decodable zeros padded dropTo lastTo room blankFrame highest newestOf foundIn atLine above numbered packetOf takenIn issued fits defaultStatus reported merged mergedAll defaultStatuses hasRoom inputOf inputEntry announced badSetup anyAbove anyTwice inserted sorted termsWith made hostRefused hostDecided queueWire queueSize done bufferFull isFull nonceIssued request started synchronized counted running replied onSyncReply droppedTo acknowledged pendingQueued referenceFrame taken receivedIf receive announcedEach discarded packetOverflows statusesMerged informed inputsReceived inputTaken inputUnless onInput resent reportSent keptAlive interrupted timedOut acted clamped reportQueued roundTrip roundTripNoted onQualityReply advantageOf advantageOverflows localAdvantage advantageUpdated synchronizeStep ignored resumed heard onBody reacted messageStep actStep advantageStep takeStep statsOf filledPart hostSetup badLimits badSession madeWatch blankInput freshInputs inputStored playerInputAt lastOf eventAdded announce inputHandled handled handledAll framesToAdvance framesRefusal syncedAt frameInputs requestsFrom requestsOf advanceRefusal fresh refused decided byHost hostActs hostTakes pollRefusal polled pollStep advanceStep framesBehindStep step valueOf
 overflows = (refl, refl, refl, refl, refl, refl, slower-is .0, slower-is .1, refl, refl, refl)
 
 -- ---- the poll's refusals
 
 -- 640 events held by the host
 abbrev crowded : Watch
-crowded = let w : Watch = ready 4 2 9 1 in withHost (withHostEvents (replicate 640 (record { event = Event.NetworkResumed; input = replicate 16 0 })) (w .host)) w
+crowded = let w : Watch = ready 4 2 9 1 in withHost (withHostEvents (replicate 640 (withoutInput Event.NetworkResumed)) (w .host)) w
 
 polls :
     -- 8; a buffer shorter than what is queued already and now: 5, and nothing is handled
-    (step (pollAt (2 ^ 62) 65536) told ≡ record { answer = 8; after = told; out = [] })
-    × (step (pollAt 1000 9) told ≡ record { answer = 5; after = told; out = [] })
-    × (step (pollAt 1000 10) told .answer ≡ 0)
-    × (step (pollAt 1201 33) told ≡ record { answer = 5; after = told; out = [] })
-    × (step (pollAt 1201 34) told .answer ≡ 0)
+    (step (pollAt (2 ^ 62) 65536) unpolled ≡ record { answer = 8; after = unpolled; out = [] })
+    × (step (pollAt 1000 9) unpolled ≡ record { answer = 5; after = unpolled; out = [] })
+    × (step (pollAt 1000 10) unpolled .answer ≡ 0)
+    × (step (pollAt 1201 33) unpolled ≡ record { answer = 5; after = unpolled; out = [] })
+    × (step (pollAt 1201 34) unpolled .answer ≡ 0)
     -- the host's own act has no room for the event of an interruption; the poll handles all, the new one last
     × (actStep 2 (crowded .statuses) 60000 130000 99 65536 (crowded .host) .answer ≡ 5)
     × (step (pollAt 60000 65536) crowded .answer ≡ 0)
     × (step (pollAt 60000 65536) crowded .after .host .events ≡ [])
     × (step (pollAt 60000 65536) crowded .after .events ≡ by3 SessionEvent.NetworkResumed ∷ by3 (SessionEvent.NetworkInterrupted 50000) ∷ [])
-unfolding kept has without xors framesOf unpack pack decodableLength decodable zeros padded dropTo lastTo room blank highest newestOf foundIn atLine above numbered packetOf takenIn issued fits defaultStatus reported merged mergedAll freshStatuses hasRoom inputOf inputEntry announced badSetup anyAbove anyTwice inserted sorted termsWith made hostRefused hostDecided queueWire sizes done bufferFull isFull nonceIssued request started synchronized counted running replied onSyncReply droppedTo acknowledged pendingQueued referenceFrame taken receivedIf receive announcedEach discarded packetOverflows statusesMerged informed inputsReceived inputTaken inputUnless onInput resent reportSent keptAlive interrupted timedOut acted clamped reportQueued roundTrip roundTripNoted onQualityReply advantageOf advantageOverflows localAdvantage advantageUpdated synchronizeStep ignored resumed heard onBody reacted messageStep actStep advantageStep takeStep statsOf filledPart hostSetup badLimits badSession madeWatch blankInput freshInputs inputStored inputAt lastOf toldTo tell inputHandled handled handledAll framesToAdvance framesRefusal syncedAt requestAt requestsFrom requestsOf advanceRefusal fresh refused decided byHost hostActs hostTakes pollRefusal polled pollStep advanceStep framesBehindStep step valueOf
+unfolding kept has without xors framesOf unpack pack decodableLength decodable zeros padded dropTo lastTo room blankFrame highest newestOf foundIn atLine above numbered packetOf takenIn issued fits defaultStatus reported merged mergedAll defaultStatuses hasRoom inputOf inputEntry announced badSetup anyAbove anyTwice inserted sorted termsWith made hostRefused hostDecided queueWire queueSize done bufferFull isFull nonceIssued request started synchronized counted running replied onSyncReply droppedTo acknowledged pendingQueued referenceFrame taken receivedIf receive announcedEach discarded packetOverflows statusesMerged informed inputsReceived inputTaken inputUnless onInput resent reportSent keptAlive interrupted timedOut acted clamped reportQueued roundTrip roundTripNoted onQualityReply advantageOf advantageOverflows localAdvantage advantageUpdated synchronizeStep ignored resumed heard onBody reacted messageStep actStep advantageStep takeStep statsOf filledPart hostSetup badLimits badSession madeWatch blankInput freshInputs inputStored playerInputAt lastOf eventAdded announce inputHandled handled handledAll framesToAdvance framesRefusal syncedAt frameInputs requestsFrom requestsOf advanceRefusal fresh refused decided byHost hostActs hostTakes pollRefusal polled pollStep advanceStep framesBehindStep step valueOf
 polls = (refl, refl, refl, refl, refl, refl, refl, refl, refl)

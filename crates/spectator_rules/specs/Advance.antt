@@ -6,13 +6,14 @@ use lib.Dec.{ltb, eqb}
 use lib.ListN.{take, getD}
 use Rattle.base.specs.Pick.{pick}
 use Rattle.base.specs.First.{firstOf}
+use Rattle.ceilings.specs.Ceilings.{mostAdvanced}
 use Rattle.status.specs.Status.{defaultStatus}
 use Rattle.status.specs.declared.ConnectionStatus.{ConnectionStatus}
 use Rattle.quality.specs.Advantage.{differenceOverflows}
 use Rattle.spectator_rules.specs.declared.InputStatus.{InputStatus}
 use Rattle.spectator_rules.specs.declared.InputStatus.the-variants.{Confirmed, Disconnected}
 use Rattle.spectator_rules.specs.declared.SyncedInput.{SyncedInput}
-use Rattle.spectator_rules.specs.Inputs.{inputAt}
+use Rattle.spectator_rules.specs.Inputs.{playerInputAt}
 use Rattle.spectator_rules.specs.Watch.{Watch, isRunning, playersOf, withCurrent}
 
 -- ---- how far behind, and how many frames that is
@@ -34,14 +35,14 @@ nextOverflows w = eqb (w .current + 1) (2 ^ 32)
 unfoldable pub framesToAdvance : Watch → ℕ
 framesToAdvance w =
     pick (ltb (w .limits .«max_frames_behind») (behind w))
-    (min (min (w .limits .«catchup_speed») (behind w)) (min (w .limits .slots - 1) 63))
+    (min (min (w .limits .«catchup_speed») (behind w)) (min (w .limits .slots - 1) mostAdvanced))
     1
 
 -- ---- the inputs of a frame
 
 -- the frame that the slot of a frame holds: its first player's
 abbrev pub heldAt : (frame : ℕ) → Watch → ℕ
-heldAt frame w = inputAt (w .limits .slots) frame 0 (w .inputs) .frame
+heldAt frame w = playerInputAt (w .limits .slots) frame 0 (w .inputs) .frame
 
 -- 16: the frame is not received yet; 17: it is gone, another one is in its slot (S-21)
 abbrev pub frameRefusal : (frame : ℕ) → Watch → ℕ
@@ -63,18 +64,18 @@ statusOf false = Confirmed
 unfoldable pub syncedAt : (frame player : ℕ) → Watch → SyncedInput
 syncedAt frame player w =
     record {
-      input = inputAt (w .limits .slots) frame player (w .inputs) .input;
+      input = playerInputAt (w .limits .slots) frame player (w .inputs) .input;
       status = statusOf (isGone frame (getD (w .statuses) player defaultStatus));
     }
 
 -- one for each player in their order
-unfoldable pub requestAt : (frame : ℕ) → Watch → List SyncedInput
-requestAt frame w = take (playersOf w) (syncedAt frame 0 w ∷ syncedAt frame 1 w ∷ syncedAt frame 2 w ∷ syncedAt frame 3 w ∷ [])
+unfoldable pub frameInputs : (frame : ℕ) → Watch → List SyncedInput
+frameInputs frame w = take (playersOf w) (syncedAt frame 0 w ∷ syncedAt frame 1 w ∷ syncedAt frame 2 w ∷ syncedAt frame 3 w ∷ [])
 
 -- n frames from one on
 unfoldable pub requestsFrom : (n frame : ℕ) → Watch → List (List SyncedInput)
 requestsFrom zero frame w = []
-requestsFrom (suc n) frame w = requestAt frame w ∷ requestsFrom n (suc frame) w
+requestsFrom (suc n) frame w = frameInputs frame w ∷ requestsFrom n (suc frame) w
 
 -- ---- the whole
 

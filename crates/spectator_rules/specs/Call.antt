@@ -5,7 +5,7 @@ use Rattle.codec.specs.Message.{Wire}
 
 pub data Call : Type 0 where
   synchronize : (now epoch nonce buffer : ℕ) → Call
-  -- a message from a peer, as a value; `count` is its status count as given, which a list of four cannot tell
+  -- a message from a peer, as a value; `count` is its status count as given, which a list of four cannot show
   message : (from count : ℕ) → (w : Wire) → (now epoch nonce buffer : ℕ) → Call
   -- the same as bytes
   datagram : (from : ℕ) → (bytes : List ℕ) → (now epoch nonce buffer : ℕ) → Call

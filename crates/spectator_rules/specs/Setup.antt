@@ -1,8 +1,10 @@
 -- The setup of a session (C-18 to C-20, S-1): the setup of its host's endpoint, and when a number lies outside.
 use mathlib.Core.Bool.{Bool, _||_}
 use mathlib.Core.List.{[], _∷_}
+use Prim.Native.Nat.{ℕ}
 use lib.Dec.{ltb}
 use Rattle.numbers.specs.Range.{outside}
+use Rattle.ceilings.specs.Ceilings.{mostSlots, mostSessionEvents}
 use Rattle.setup.specs.Setup.{anyOf, badSetup}
 use Rattle.setup.specs.declared.Setup.{Setup}
 use Rattle.spectator_rules.specs.declared.Limits.{Limits}
@@ -25,15 +27,19 @@ hostSetup g =
       choices = g .choices;
     }
 
+-- the most of `max_frames_behind` and of `catchup_speed` (C-20)
+abbrev pub mostFrames : ℕ
+mostFrames = 65535
+
 -- limits outside their ceilings (C-18 to C-20)
 unfoldable pub badLimits : Limits → Bool
 badLimits l =
-    anyOf (outside 2 64 (l .slots)
-    ∷ outside 1 128 (l .«session_events»)
-    ∷ ltb 65535 (l .«max_frames_behind»)
-    ∷ ltb 65535 (l .«catchup_speed»)
+    anyOf (outside 2 mostSlots (l .slots)
+    ∷ outside 1 mostSessionEvents (l .«session_events»)
+    ∷ ltb mostFrames (l .«max_frames_behind»)
+    ∷ ltb mostFrames (l .«catchup_speed»)
     ∷ [])
 
--- 1 (N-1): a number is outside its ceiling
+-- 1 (N-1): a number is outside its range
 unfoldable pub badSession : SessionSetup → Bool
 badSession g = badSetup (hostSetup g) || badLimits (g .limits)

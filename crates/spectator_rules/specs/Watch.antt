@@ -2,9 +2,10 @@
 use mathlib.Core.Bool.{Bool, true, false}
 use mathlib.Core.List.{List, []}
 use Prim.Native.Nat.{ℕ, min}
+use Rattle.ceilings.specs.Ceilings.{mostPlayers}
 use Rattle.frame.specs.Bias.{nullFrame}
 use Rattle.status.specs.declared.ConnectionStatus.{ConnectionStatus}
-use Rattle.status.specs.Statuses.{fresh as freshStatuses}
+use Rattle.status.specs.Statuses.{defaultStatuses}
 use Rattle.endpoint_rules.specs.Seen.{Seen, made}
 use Rattle.spectator_rules.specs.declared.Limits.{Limits}
 use Rattle.spectator_rules.specs.declared.PlayerInput.{PlayerInput}
@@ -32,7 +33,7 @@ isRunning Running = true
 
 -- the players of the session, of whom there are at most 4 (more are not reachable)
 abbrev pub playersOf : Watch → ℕ
-playersOf w = min (w .host .setup .players) 4
+playersOf w = min (w .host .setup .players) mostPlayers
 
 -- ---- one part set, all else as it was
 
@@ -65,7 +66,7 @@ madeWatch g now =
       limits = g .limits;
       state = Synchronizing;
       inputs = freshInputs (g .limits .slots);
-      statuses = freshStatuses (g .«num_players»);
+      statuses = defaultStatuses (g .«num_players»);
       events = [];
       current = nullFrame;
       newest = nullFrame;

@@ -1,5 +1,6 @@
 // What a spectator session is and what each of its calls does (ggrs, p2p_spectator_session.rs), as definitions: specs/ holds them, and worked
 // examples computed from them. The calls themselves are the crate `spectator`.
+use ceilings::MOST_INPUT_SIZE;
 use setup::Choices;
 
 // The crate's SessionState.
@@ -32,12 +33,12 @@ pub struct SessionEntry {
 // One player's input of a frame, zeros past its size.
 pub struct PlayerInput {
     pub frame: u32,
-    pub input: [u8; 16],
+    pub input: [u8; MOST_INPUT_SIZE],
 }
 
 // One player's input as a frame is advanced, with what is known of the player then.
 pub struct SyncedInput {
-    pub input: [u8; 16],
+    pub input: [u8; MOST_INPUT_SIZE],
     pub status: InputStatus,
 }
 
@@ -75,7 +76,8 @@ pub struct SessionSetup {
     pub magic: u16,
     // The host's number as a peer: messages from another number are ignored. Any. The crate's name is the same, an address.
     pub peer_addr: u32,
-    // Desync detection off, or on with an interval of 1 to 10,000 frames, as at the host. The crate's DesyncDetection.
+    // Off, or on with an interval of 1 to 10,000 frames; a session has no call for checksums, so off. The crate's DesyncDetection.
     pub choices: Choices,
+    // How many frames and events the session keeps, and how it catches up: each in its range, above.
     pub limits: Limits,
 }

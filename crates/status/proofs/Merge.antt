@@ -1,4 +1,4 @@
--- Laws of merging, over the whole record: whichever report comes first, however they are grouped and however often one repeats, the record is the same;
+-- Laws of merging, over the whole record: neither the order of the reports, nor how they are grouped, nor that one comes again changes the outcome;
 -- `disconnected` never clears, and `last_frame` never falls.
 use mathlib.Core.Path.{_≡_, refl, sym, _∙_, ap}
 use mathlib.Core.Bool.{true, false, or-comm, or-assoc, or-self, or-false, or-true}

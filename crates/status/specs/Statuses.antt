@@ -4,25 +4,26 @@ use mathlib.Core.Bool.{true, false}
 use mathlib.Core.List.{List, [], _∷_}
 use Prim.Native.Nat.{ℕ, min}
 use lib.ListN.{length, take, replicate, getD, set}
+use Rattle.ceilings.specs.Ceilings.{mostPlayers}
 use Rattle.status.specs.declared.ConnectionStatus.{ConnectionStatus}
 use Rattle.status.specs.declared.list.Statuses.{Statuses}
 use Rattle.status.specs.Status.{defaultStatus, merged, reported}
 
 -- the statuses held; a count beyond the array counts as the array's length
-unfoldable pub held : Statuses → List ConnectionStatus
-held s = take (s .count) (s .list)
+unfoldable pub heldStatuses : Statuses → List ConnectionStatus
+heldStatuses s = take (s .count) (s .list)
 
 -- a store that holds a list, with this count; what its array holds past the count is left open
 abbrev pub HeldAs : List ConnectionStatus → ℕ → Statuses → Type 0
-HeldAs l n r = (held r ≡ l) × (r .count ≡ n)
+HeldAs l n r = (heldStatuses r ≡ l) × (r .count ≡ n)
 
--- a list of any length copied into a store: its first four, and how many they are
+-- a list of any length copied into a store: the first of it, one for each player at most, and how many they are
 abbrev pub CopiedAs : List ConnectionStatus → Statuses → Type 0
-CopiedAs l = HeldAs (take 4 l) (min (length l) 4)
+CopiedAs l = HeldAs (take mostPlayers l) (min (length l) mostPlayers)
 
--- the default for each player, of whom there are at most 4
-unfoldable pub fresh : ℕ → List ConnectionStatus
-fresh players = replicate (min players 4) defaultStatus
+-- the default for each player, of whom there are so many at most
+unfoldable pub defaultStatuses : ℕ → List ConnectionStatus
+defaultStatuses players = replicate (min players mostPlayers) defaultStatus
 
 -- the status at a place merged with another; nothing changes where there is no such place
 unfoldable pub mergedAt : ℕ → ConnectionStatus → List ConnectionStatus → List ConnectionStatus
@@ -56,10 +57,10 @@ merged-at-past = refl
 -- worked: of five records four are copied, in their order, and four is the count
 module _ (a b c d e : ConnectionStatus) where
   copied-five : CopiedAs (a ∷ b ∷ c ∷ d ∷ e ∷ []) (record { list = a ∷ b ∷ c ∷ d ∷ []; count = 4 })
-  unfolding held
+  unfolding heldStatuses
   copied-five = (refl, refl)
 
   -- of two, two, whatever the array holds past them
   copied-two : CopiedAs (a ∷ b ∷ []) (record { list = a ∷ b ∷ c ∷ d ∷ []; count = 2 })
-  unfolding held
+  unfolding heldStatuses
   copied-two = (refl, refl)

@@ -3,11 +3,12 @@ ghost use mathlib.Core.Path.{_≡_};
 ghost use mathlib.Core.List.{[], _∷_};
 ghost use Prim.Native.Nat.{_≤_, min};
 ghost use lib.ListN.{length, take, getD};
+ghost use Rattle.ceilings.specs.Ceilings.{mostPlayers};
 ghost use Rattle.status.specs.Status.{defaultStatus};
-ghost use Rattle.status.specs.Statuses.{held, HeldAs, CopiedAs};
+ghost use Rattle.status.specs.Statuses.{heldStatuses, HeldAs, CopiedAs};
 use crate::ConnectionStatus;
 use crate::Statuses;
-use crate::list::at_most_four;
+use ceilings::MOST_PLAYERS;
 
 // The record at a place, or the default where there is none.
 fn status_or(list: &[ConnectionStatus], at: usize) -> ConnectionStatus
@@ -26,12 +27,12 @@ fn packed(
     d: ConnectionStatus,
     n: usize,
 ) -> Statuses
-    ensures { λ r. ⌜ HeldAs (take n (a ∷ b ∷ c ∷ d ∷ [])) (min n 4) r ⌝ }
+    ensures { λ r. ⌜ HeldAs (take n (a ∷ b ∷ c ∷ d ∷ [])) (min n mostPlayers) r ⌝ }
 {
     let list = [a, b, c, d];
     Statuses {
         list,
-        count: at_most_four(n),
+        count: numbers::least(n, MOST_PLAYERS),
     }
 }
 
@@ -49,8 +50,8 @@ pub fn copied(list: &[ConnectionStatus]) -> Statuses
 }
 
 // What lends an array of structs has its proof by hand: this alone does, and it is called by value.
-fn lend(list: [ConnectionStatus; 4], n: usize) -> Statuses
-    requires { ⌜ n ≤ 4 ⌝ }
+fn lend(list: [ConnectionStatus; MOST_PLAYERS], n: usize) -> Statuses
+    requires { ⌜ n ≤ mostPlayers ⌝ }
     ensures { λ r. ⌜ CopiedAs (take n list) r ⌝ }
 {
     copied(&list[..n])
@@ -59,7 +60,7 @@ fn lend(list: [ConnectionStatus; 4], n: usize) -> Statuses
 impl Statuses {
     // The copy of the list of those held, one record per player, which is lent for it.
     pub fn lent(self) -> Statuses
-        ensures { λ r. ⌜ HeldAs (held self) (length (held self)) r ⌝ }
+        ensures { λ r. ⌜ HeldAs (heldStatuses self) (length (heldStatuses self)) r ⌝ }
     {
         let list = self.list;
         lend(list, self.count())

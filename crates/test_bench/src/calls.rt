@@ -125,7 +125,7 @@ pub(crate) fn input_ack(count: u32) -> u64 {
             now,
             &mut out,
         );
-        let ack = ends::plain(
+        let ack = ends::body_only(
             OTHER,
             MessageBody::InputAck {
                 ack_frame: frame_of(i),
@@ -146,7 +146,7 @@ pub(crate) fn keep_alive(count: u32) -> u64 {
     let mut end = ends::ready(ends::small(), OTHER);
     let mut i = 0u32;
     while i < count {
-        let message = ends::plain(OTHER, MessageBody::KeepAlive);
+        let message = ends::body_only(OTHER, MessageBody::KeepAlive);
         let ended = end.message(PEER, message, b"", START + (i as u64), START, 0, &mut out);
         end = ended.endpoint;
         i += 1;

@@ -35,7 +35,7 @@ pub(crate) fn large() -> Setup {
 }
 
 // A message without statuses and payload.
-pub(crate) fn plain(magic: u16, body: MessageBody) -> Message {
+pub(crate) fn body_only(magic: u16, body: MessageBody) -> Message {
     let reports = codec::no_reports();
     Message {
         magic,

@@ -5,6 +5,7 @@ use crate::ends::OTHER;
 use crate::ends::PEER;
 use crate::ends::START;
 use crate::wide;
+use ceilings::MOST_EVENTS;
 use endpoint::Endpoint;
 use events::Event;
 use events::Events;
@@ -106,7 +107,7 @@ fn deliver(queue: &[u8], to: Endpoint, now: u64, out: &mut [u8]) -> Endpoint {
 fn event_sum(events: Events) -> u64 {
     let mut sum = 0u64;
     let mut i = 0;
-    while i < 640 {
+    while i < MOST_EVENTS {
         if events.used <= i {
             return sum;
         }

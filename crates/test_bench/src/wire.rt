@@ -1,5 +1,6 @@
 // The codec on an Input that comes from standard input, so that nothing of it is known beforehand.
 use crate::wide;
+use ceilings::MOST_PLAYERS;
 use codec::Message;
 use codec::MessageBody;
 use codec::StatusReports;
@@ -70,7 +71,7 @@ fn reported(reports: StatusReports) -> u64 {
     let n = reports.count;
     let mut sum = 0u64;
     let mut i = 0;
-    while i < 4 {
+    while i < MOST_PLAYERS {
         if i < n {
             let report = reports.list[i];
             sum = wrapping_add_u64(sum, frame_sum(report.disconnected, report.last_frame));

@@ -1,5 +1,6 @@
 // Little-endian numbers at a fixed place of a slice, where what lies past its end reads as 0.
-ghost use Prim.Native.Nat.{_<_, _≤_};
+use numbers::WORD;
+ghost use Prim.Native.Nat.{_<_};
 
 fn wide(byte: u8) -> u64
     ensures { λ r. ⌜ r < 256 ⌝ }
@@ -36,7 +37,7 @@ pub(crate) fn u32_at(bytes: &[u8], at: usize) -> u32
 pub(crate) fn u64_at(bytes: &[u8], at: usize) -> u64
     requires { ⌜ at < 128 ⌝ }
 {
-    u32_at(bytes, at) as u64 + 0x1_0000_0000 * (u32_at(bytes, at + 4) as u64)
+    u32_at(bytes, at) as u64 + WORD * (u32_at(bytes, at + 4) as u64)
 }
 
 // A frame from the bits of its i32.
@@ -44,10 +45,4 @@ pub(crate) fn frame_at(bytes: &[u8], at: usize) -> u32
     requires { ⌜ at < 256 ⌝ }
 {
     frame::bits_of(u32_at(bytes, at))
-}
-
-pub(crate) fn least(a: usize, b: usize) -> usize
-    ensures { λ r. ⌜ (r ≤ a) × (r ≤ b) ⌝ }
-{
-    if a < b { a } else { b }
 }

@@ -4,6 +4,7 @@ use crate::crc::sum_of;
 use crate::crc::with_bytes;
 use crate::record::Record;
 use libc::STDOUT_FILENO;
+use numbers::WORD;
 
 pub struct Out {
     digest: bool,
@@ -25,7 +26,7 @@ fn four(n: u32) -> [u8; 4] {
 }
 
 fn sum_of_lengths(length: u32, more: usize) -> u32 {
-    ((length as u64 + (more % 0x1_0000_0000) as u64) % 0x1_0000_0000) as u32
+    ((length as u64 + more as u64 % WORD) % WORD) as u32
 }
 
 impl Out {
@@ -75,13 +76,12 @@ impl Out {
     }
 
     pub(crate) fn u64(self, n: u64) -> Out {
-        self.u32((n % 0x1_0000_0000) as u32)
-            .u32((n / 0x1_0000_0000) as u32)
+        self.u32((n % WORD) as u32).u32((n / WORD) as u32)
     }
 
     // A count, as four bytes.
     pub(crate) fn count(self, n: usize) -> Out {
-        self.u32((n % 0x1_0000_0000) as u32)
+        self.u32((n as u64 % WORD) as u32)
     }
 
     pub(crate) fn frame(self, frame: u32) -> Out {

@@ -12,7 +12,7 @@ const PAYLOAD_MAX: usize = 16384;
 
 const BUFFER_MAX: usize = 65536;
 
-// The calls that are told apart outside the tables of calls.
+// The calls that are distinguished outside the tables of calls.
 const NEW: u8 = 0;
 
 pub const CARRY: u8 = 3;

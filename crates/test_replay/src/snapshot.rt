@@ -1,6 +1,10 @@
 // The state of an endpoint in canonical form: docs/REPLAY.md has the order.
-use crate::little::least;
 use crate::out::Out;
+use ceilings::MOST_CHECKSUMS;
+use ceilings::MOST_EVENTS;
+use ceilings::MOST_INPUT_SIZE;
+use ceilings::MOST_PENDING;
+use ceilings::MOST_RECEIVED;
 use checksums::Checksum;
 use checksums::Checksums;
 use endpoint::Endpoint;
@@ -11,6 +15,7 @@ use events::Event;
 use events::Events;
 use history::History;
 use nonces::Nonces;
+use numbers::WORD;
 use packing::InputBytes;
 use pending::Pending;
 use quality::Quality;
@@ -62,7 +67,7 @@ fn phase_number(phase: Phase) -> u8 {
 
 // The first n numbers of a list, or all, their count before them.
 fn put_list(out: Out, list: &[u32], n: usize) -> Out {
-    let most = least(n, list.len());
+    let most = numbers::least(n, list.len());
     let mut to = out.count(most);
     let mut i = 0;
     while i < most {
@@ -153,7 +158,7 @@ fn put_input(out: Out, input: InputBytes, width: usize) -> Out {
 }
 
 fn put_pending(out: Out, pending: Pending, width: usize) -> Out {
-    let n = least(pending.count(), 129);
+    let n = numbers::least(pending.count(), MOST_PENDING);
     let mut to = out.count(n);
     let mut i = 0;
     while i < n {
@@ -166,7 +171,7 @@ fn put_pending(out: Out, pending: Pending, width: usize) -> Out {
 
 // Ascending as it stands: only frames above its newest are taken in, and they go to its end.
 fn put_history(out: Out, history: History, width: usize) -> Out {
-    let n = least(history.used, 33);
+    let n = numbers::least(history.used, MOST_RECEIVED);
     let mut to = out.count(n);
     let mut i = 0;
     while i < n {
@@ -179,9 +184,9 @@ fn put_history(out: Out, history: History, width: usize) -> Out {
 
 // The checksum of the least frame from a number on; where there is none, the first.
 fn least_from(checksums: Checksums, from: u64) -> Checksum {
-    let n = least(checksums.count(), 64);
+    let n = numbers::least(checksums.count(), MOST_CHECKSUMS);
     let mut least = checksums.entry(0);
-    let mut least_frame = 0x1_0000_0000;
+    let mut least_frame = WORD;
     let mut i = 0;
     while i < n {
         let x = checksums.entries[i];
@@ -203,7 +208,7 @@ fn put_checksum(out: Out, checksum: Checksum) -> Out {
 
 // Ascending by frame, while they are held in the order of their arrival.
 fn put_checksums(out: Out, checksums: Checksums) -> Out {
-    let n = least(checksums.count(), 64);
+    let n = numbers::least(checksums.count(), MOST_CHECKSUMS);
     let mut to = out.count(n);
     let mut from = 0;
     let mut i = 0;
@@ -216,7 +221,7 @@ fn put_checksums(out: Out, checksums: Checksums) -> Out {
     to
 }
 
-pub(crate) fn put_event(out: Out, event: Event, input: [u8; 16], size: u32) -> Out {
+pub(crate) fn put_event(out: Out, event: Event, input: [u8; MOST_INPUT_SIZE], size: u32) -> Out {
     match event {
         Event::Synchronizing { total, count } => out.u8(0).u32(total).u32(count),
         Event::Synchronized => out.u8(1),
@@ -237,7 +242,7 @@ fn put_bytes(out: Out, input: &[u8], size: u32) -> Out {
 }
 
 pub(crate) fn put_events(out: Out, events: Events, size: u32) -> Out {
-    let n = least(events.count(), 640);
+    let n = numbers::least(events.count(), MOST_EVENTS);
     let mut to = out.count(n);
     let mut i = 0;
     while i < n {

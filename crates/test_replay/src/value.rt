@@ -133,7 +133,7 @@ fn reports_of(bytes: &[u8]) -> StatusReports {
     }
 }
 
-// A kind above 7 is no message: `is_message` tells.
+// A kind above 7 is no message (`is_message`).
 fn body_of(bytes: &[u8]) -> MessageBody {
     match u32_at(bytes, 4) {
         0 => MessageBody::SyncRequest {

@@ -2,14 +2,16 @@
 use crate::crc::crc32;
 use crate::given::put_all;
 use crate::given::put_stats;
-use crate::little::least;
 use crate::out::Out;
 use crate::record::Record;
 use crate::snapshot::put_endpoint;
 use crate::snapshot::put_event;
 use crate::snapshot::put_statuses;
 use crate::watch::Watcher;
+use ceilings::MOST_PLACES;
+use ceilings::MOST_PLAYERS;
 use events::Event;
+use events::NO_INPUT;
 use spectator::FramesBehind;
 use spectator::Inputs;
 use spectator::Request;
@@ -147,12 +149,12 @@ fn put_state(out: Out, state: SessionState) -> Out {
 
 // Four places a slot; those above the players are none.
 fn put_inputs(out: Out, inputs: Inputs, players: u32, size: u32) -> Out {
-    let n = least(inputs.used, 256);
+    let n = numbers::least(inputs.used, MOST_PLACES);
     let mut to = out;
     let mut i = 0;
     while i < n {
         let input = inputs.entries[i];
-        to = put_place(to, input, i % 4 < players as usize, size);
+        to = put_place(to, input, i % MOST_PLAYERS < players as usize, size);
         i += 1;
     }
     to
@@ -174,7 +176,7 @@ fn put_events(out: Out, events: SessionEvents) -> Out {
     while i < n {
         let entry = events.entry(i);
         let event = entry.event;
-        to = put_event(to, event_of(event), [0; 16], 0);
+        to = put_event(to, event_of(event), NO_INPUT, 0);
         i += 1;
     }
     to

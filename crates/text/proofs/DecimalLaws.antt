@@ -12,7 +12,7 @@ use lib.ListN.{length, getD, length-append, List·getD-append}
 use lib.Seq.{getD-at}
 use Rattle.base.specs.Pick.{pick}
 use Rattle.base.proofs.Digits.{below-or-not, div-below}
-use Rattle.text.specs.Decimal.{digits, decimalOf, signedOf, valueFrom, valueOf, AllDigits}
+use Rattle.text.specs.Decimal.{digits, decimalOf, signedOf, valueFrom, decimalValue, AllDigits}
 
 -- a number of one digit, and one of more
 pub digits-one : (k n : ℕ) → n < 10 → digits (suc k) n ≡ (48 + n) ∷ []
@@ -38,12 +38,12 @@ value-digits (suc k) n h =
     (λ g. rw (digits-more k n g, value-last 0 (digits k (n / 10)) (48 + n % 10), value-digits k (n / 10) (div-below 10 k n (lit≤ tt) h)) (omega arith))
     (below-or-not n 10)
 
-pub decimal-value : (n : ℕ) → n < 10 ^ 39 → valueOf (decimalOf n) ≡ n
-unfolding decimalOf valueOf
+pub decimal-value : (n : ℕ) → n < 10 ^ 39 → decimalValue (decimalOf n) ≡ n
+unfolding decimalOf decimalValue
 decimal-value n h = value-digits 39 n h
 
 pub decimal-one-to-one : (m n : ℕ) → m < 10 ^ 39 → n < 10 ^ 39 → decimalOf m ≡ decimalOf n → m ≡ n
-decimal-one-to-one m n hm hn e = sym (decimal-value m hm) ∙ ap valueOf e ∙ decimal-value n hn
+decimal-one-to-one m n hm hn e = sym (decimal-value m hm) ∙ ap decimalValue e ∙ decimal-value n hn
 
 -- there is a digit, and there are no more than it takes
 digits-some : (k n : ℕ) → 1 ≤ length (digits (suc k) n)

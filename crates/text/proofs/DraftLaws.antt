@@ -3,7 +3,7 @@ use borrow.Author.Tests.{not-false, ltb-true, le-leb, lt-leb}
 use mathlib.Core.Path.{_≡_, refl, sym, _∙_}
 use mathlib.Core.Bool.{Bool, true, false}
 use mathlib.Core.List.{List, [], _++_}
-use Prim.Native.Nat.{ℕ, _+_, _<_, _≤_}
+use Prim.Native.Nat.{ℕ, _+_, _≤_, min}
 use native.Mathlib.Omega.{arith}
 use lib.ListN.{length, take, length-append, length-take}
 use Rattle.base.specs.Lay.{noRoom}
@@ -24,13 +24,9 @@ opened bytes n = refl
 
 module _ (d : Draft) (long : length (d .bytes) ≡ 256) where
   -- a count beyond the array is the array's length
-  pub counted : d .used < 256 → d .used ≡ length (drafted d)
+  pub counted : min (d .used) 256 ≡ length (drafted d)
   unfolding drafted
-  counted h = simp length-take (omega arith)
-
-  pub counted-all : 256 ≤ d .used → 256 ≡ length (drafted d)
-  unfolding drafted
-  counted-all h = simp length-take (omega arith)
+  counted = simp length-take (omega arith)
 
   pub drafted-le : length (drafted d) ≤ 256
   unfolding drafted

@@ -68,9 +68,9 @@ one-word r n e = rw add-zero at e
 
 -- a number that is not below 0 is its digits; of one below 0 there is a place before them, which takes the sign
 module _ (bias n : ℕ) (r : Numeral) where
-  pub plain : bias ≤ n → textOf r ≡ decimalOf (n - bias) → textOf r ≡ signedOf bias n
+  pub not-negative : bias ≤ n → textOf r ≡ decimalOf (n - bias) → textOf r ≡ signedOf bias n
   unfolding signedOf
-  plain h e = rw (le-leb bias n h) e
+  not-negative h e = rw (le-leb bias n h) e
 
   module _ (long : length (r .bytes) ≡ 40) (small : bias < 2 ^ 32) (e : textOf r ≡ decimalOf (bias - n)) where
     pub sign-place : (1 ≤ r .start) × (r .start ≤ 39)

@@ -8,8 +8,8 @@ use lib.ListN.{length, length-append, length-take}
 use Rattle.text.specs.Draft.{drafted, added, DraftedAs, Holds, Adds}
 use Rattle.text.specs.declared.draft.Draft.{Draft}
 
-pub fresh : (r : Draft) → DraftedAs [] r → Holds [] 0 r
-fresh r a = record { text = a .text; used = omega (arith, a .used) }
+pub empty-holds : (r : Draft) → DraftedAs [] r → Holds [] 0 r
+empty-holds r a = record { text = a .text; used = omega (arith, a .used) }
 
 used-le : (d : Draft) → length (drafted d) ≤ d .used
 unfolding drafted

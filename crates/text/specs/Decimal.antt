@@ -25,8 +25,8 @@ unfoldable pub valueFrom : ℕ → List ℕ → ℕ
 valueFrom m [] = m
 valueFrom m (d ∷ ds) = valueFrom (m * 10 + (d - 48)) ds
 
-unfoldable pub valueOf : List ℕ → ℕ
-valueOf ds = valueFrom 0 ds
+unfoldable pub decimalValue : List ℕ → ℕ
+decimalValue ds = valueFrom 0 ds
 
 -- every element is a digit
 abbrev pub AllDigits : List ℕ → Type 0
@@ -57,6 +57,6 @@ signed-example : signedOf (2 ^ 31) (2 ^ 31 - 1) ≡ 45 ∷ 49 ∷ []
 unfolding signedOf decimalOf digits
 signed-example = refl
 
-value-example : valueOf (52 ∷ 54 ∷ 54 ∷ 48 ∷ []) ≡ 4660
-unfolding valueOf valueFrom
+value-example : decimalValue (52 ∷ 54 ∷ 54 ∷ 48 ∷ []) ≡ 4660
+unfolding decimalValue valueFrom
 value-example = refl

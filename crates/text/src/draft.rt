@@ -32,8 +32,7 @@ impl Draft {
     fn count(self) -> usize
         ensures { λ r. ⌜ r ≡ length (drafted self) ⌝ }
     {
-        let used = self.used;
-        if used < 256 { used } else { 256 }
+        numbers::least(self.used, 256)
     }
 
     pub fn put(self, piece: &[u8]) -> Draft

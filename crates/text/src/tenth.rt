@@ -1,4 +1,5 @@
 // One step of long division by 10, of a number of two words, by halves of words: a remainder and a half word fit a word.
+use numbers::WORD;
 ghost use Prim.Native.Nat.{_+_, _*_, _^_};
 ghost use Rattle.text.specs.Tenth.{TenthOf};
 
@@ -12,10 +13,10 @@ pub(crate) struct Tenth {
 pub(crate) fn divided(low: u64, high: u64) -> Tenth
     ensures { λ r. ⌜ TenthOf (low + 2 ^ 64 * high) r ⌝ }
 {
-    let middle = high % 10 * 4294967296 + low / 4294967296;
-    let last = middle % 10 * 4294967296 + low % 4294967296;
+    let middle = high % 10 * WORD + low / WORD;
+    let last = middle % 10 * WORD + low % WORD;
     Tenth {
-        low: middle / 10 * 4294967296 + last / 10,
+        low: middle / 10 * WORD + last / 10,
         high: high / 10,
         digit: (last % 10) as u8,
     }

@@ -6,7 +6,7 @@ use Rattle.codec.specs.Message.{Wire}
 use Rattle.codec.proofs.Bouts.{P1, P2-short, P2-extra}
 use Rattle.message_line.proofs.Bouts.{P1-printed}
 use Rattle.endpoint_rules.proofs.Bouts.{bouts}
-use Rattle.worked_bouts.specs.Table.{Holds, table}
+use Rattle.worked_bouts.specs.Table.{AllHold, table}
 
 pair : {A B : Type 0} {a a′ : A} {b b′ : B} → a ≡ a′ → b ≡ b′ → _≡_ {A = A × B} (a, b) (a′, b′)
 pair e f = rw (e, f)
@@ -14,7 +14,7 @@ pair e f = rw (e, f)
 triple : {A B C : Type 0} {a a′ : A} {b b′ : B} {c c′ : C} → a ≡ a′ → b ≡ b′ → c ≡ c′ → _≡_ {A = A × B × C} (a, b, c) (a′, b′, c′)
 triple e f g = rw (e, f, g)
 
-pub worked-bouts : (more : ℕ) → Holds (table more)
+pub worked-bouts : (more : ℕ) → AllHold (table more)
 worked-bouts more = (
   pair P1 P1-printed,
   (

@@ -9,7 +9,7 @@ use lib.ListN.{take}
 use Rattle.frame.specs.Bias.{bias32, bias16, nullFrame}
 use Rattle.status.specs.declared.ConnectionStatus.{ConnectionStatus}
 use Rattle.codec.specs.Bytes.{bytes}
-use Rattle.codec.specs.Read.{plain, datagram, numberIn}
+use Rattle.codec.specs.Read.{bodyOnly, datagram, numberIn}
 use Rattle.codec.specs.declared.MessageBody.{MessageBody}
 use Rattle.codec.specs.declared.MessageBody.the-variants.{SyncRequest, InputAck, QualityReport}
 use Rattle.text.specs.Ascii.{ascii}
@@ -30,9 +30,9 @@ pub record Row : Type 1 where
   pub must : Shown
 
 -- every row is as it must be
-abbrev pub Holds : List Row → Type 0
-Holds [] = Unit {0}
-Holds (r ∷ rs) = (r .given ≡ r .must) × Holds rs
+abbrev pub AllHold : List Row → Type 0
+AllHold [] = Unit {0}
+AllHold (r ∷ rs) = (r .given ≡ r .must) × AllHold rs
 
 -- ---- what is shown of a call
 
@@ -52,7 +52,7 @@ table more =
     record {
       name = "P1: InputAck, magic 0x1234, ack -1: its bytes, and its line with a newline";
       Shown = List ℕ × List ℕ;
-      given = (bytes (plain 0x1234 (InputAck nullFrame)), lineOf ackBytes ++ 10 ∷ []);
+      given = (bytes (bodyOnly 0x1234 (InputAck nullFrame)), lineOf ackBytes ++ 10 ∷ []);
       must = (ackBytes, ascii "InputAck magic 4660 ack -1\n");
     }
     ∷ record {

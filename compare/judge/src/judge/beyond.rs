@@ -69,11 +69,11 @@ fn send(end: &mut End, frame: i32, bytes: &[u8], count: usize) {
 }
 
 fn frames(end: &End) -> Vec<i32> {
-    let told = |e: &Event<_>| match e {
+    let announced = |e: &Event<_>| match e {
         Event::Input { input, .. } => Some(input.frame),
         _ => None,
     };
-    end.snapshot().events.iter().filter_map(told).collect()
+    end.snapshot().events.iter().filter_map(announced).collect()
 }
 
 fn advantage(newest: i32, rtt: u64, local_frame: i32) -> String {
@@ -110,7 +110,7 @@ fn setup(edit: fn(&mut Setup)) -> String {
     edit(&mut setup);
     let mut end = End::new(&setup, NOW);
     hand(&mut end, packet(0, 2));
-    format!("accepted; a packet of 2 bytes tells {} events", end.snapshot().events.len())
+    format!("accepted; a packet of 2 bytes announces {} events", end.snapshot().events.len())
 }
 
 fn watching(edit: fn(&mut Setup)) -> Watcher {
@@ -146,7 +146,7 @@ const CASES: [Case; 32] = [
         run: || {
             let mut end = fresh();
             hand(&mut end, packet(i32::MAX, 2));
-            format!("tells frames {:?}; the wrapped one is skipped as old", frames(&end))
+            format!("announces frames {:?}; the wrapped one is skipped as old", frames(&end))
         },
     },
     Case {
@@ -251,7 +251,7 @@ const CASES: [Case; 32] = [
                 send(&mut end, frame, &[1], 2);
             }
             let s = end.snapshot();
-            format!("{} pending, {} Disconnected told", s.pending.len(), s.events.len())
+            format!("{} pending, {} Disconnected announced", s.pending.len(), s.events.len())
         },
     },
     Case {
@@ -260,7 +260,7 @@ const CASES: [Case; 32] = [
         run: || {
             let mut end = fresh();
             hand(&mut end, packet(0, 130));
-            format!("tells {} frames", frames(&end).len())
+            format!("announces {} frames", frames(&end).len())
         },
     },
     Case {

@@ -81,7 +81,7 @@ fn session_event(out: &mut Vec<u8>, event: &GgrsEvent<Cfg>) {
         }
         GgrsEvent::NetworkResumed { .. } => out.push(5),
         GgrsEvent::WaitRecommendation { .. } | GgrsEvent::DesyncDetected { .. } => {
-            panic!("a spectator tells no such event")
+            panic!("a spectator announces no such event")
         }
     }
 }

@@ -22,7 +22,7 @@ fn scripts(dir: &str) -> Result<Vec<PathBuf>, String> {
     Ok(scripts)
 }
 
-/// For a planted fault: tells the first difference and fails if there is none.
+/// For a planted fault: prints the first difference and fails if there is none.
 pub fn find(dir: &str) -> Result<(), String> {
     for path in scripts(dir)? {
         if let Some(text) = difference(&path)? {

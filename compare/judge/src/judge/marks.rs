@@ -146,7 +146,7 @@ pub const SPECTATOR_ALL: [&str; 20] = [
     "spectator: poll takes queued messages",
     "spectator: interrupted",
     "spectator: slot overwritten",
-    "spectator: disconnect told",
+    "spectator: disconnect announced",
 ];
 
 /// Collects marks; a name that stands on no list is a slip.
@@ -179,7 +179,7 @@ impl Seen<'_> {
     }
 
     /// The events that the call added.
-    fn told(&self) -> &[Event<super::config::Cfg>] {
+    fn announced(&self) -> &[Event<super::config::Cfg>] {
         let held = self.before.events.len();
         if self.after.events.len() > held {
             &self.after.events[held..]
@@ -266,7 +266,7 @@ fn message_marks(m: &mut Marks, c: &Seen, body: &MessageBody) {
     if silent {
         return;
     }
-    let resumed = c.told().contains(&Event::NetworkResumed);
+    let resumed = c.announced().contains(&Event::NetworkResumed);
     m.when(resumed, "message: resumed");
     let idle = c.before.notify_sent && c.before.phase != Phase::Running;
     m.when(c.went() && idle, "message: interrupted, but not Running, resumes nothing");
@@ -332,7 +332,7 @@ fn input(m: &mut Marks, c: &Seen, body: &Input) {
         m.when(c.went() && wrong, "input: discarded, wrong count");
         m.when(c.went() && wrong && count > 4, "input: discarded, count above 4");
         m.when(c.went() && !wrong, "input: discarded, negative start");
-        m.when(c.told().contains(&Event::NetworkResumed), "input: discarded and resumed");
+        m.when(c.announced().contains(&Event::NetworkResumed), "input: discarded and resumed");
         m.when(c.went() && body.bytes.len() > 129 * width, "input: discarded though too long");
         return;
     }
@@ -367,10 +367,10 @@ fn disconnect_requested(m: &mut Marks, c: &Seen, body: &Input) {
     if !body.disconnect_requested {
         return;
     }
-    let told = c.told().contains(&Event::Disconnected);
+    let announced = c.announced().contains(&Event::Disconnected);
     let wrong = body.peer_connect_status.len() != c.before.num_players;
     m.when(wrong, "input: disconnect requested with a wrong count");
-    m.when(told, "input: disconnect requested, announced");
+    m.when(announced, "input: disconnect requested, announced");
     let left = c.before.phase == Phase::Disconnected;
     m.when(c.before.event_sent && !left, "input: disconnect requested, announced before");
     m.when(!c.before.event_sent && left, "input: disconnect requested in Disconnected");
@@ -380,9 +380,9 @@ fn merge(m: &mut Marks, c: &Seen, body: &Input) {
     if body.disconnect_requested {
         return;
     }
-    for (told, had) in body.peer_connect_status.iter().zip(&c.before.statuses) {
-        m.when(had.disconnected && !told.disconnected, "input: flag stays though the report clears it");
-        m.when(had.last_frame > told.last_frame, "input: last frame stays though the report is lower");
+    for (report, had) in body.peer_connect_status.iter().zip(&c.before.statuses) {
+        m.when(had.disconnected && !report.disconnected, "input: flag stays though the report clears it");
+        m.when(had.last_frame > report.last_frame, "input: last frame stays though the report is lower");
     }
 }
 
@@ -391,7 +391,7 @@ fn taken(m: &mut Marks, c: &Seen, body: &Input) {
     let s = c.before;
     let none = s.newest() == -1;
     let frames = body.bytes.len() / s.receiving_width();
-    let new = c.told().iter().filter(|e| matches!(e, Event::Input { .. })).count() / s.handles.len();
+    let new = c.announced().iter().filter(|e| matches!(e, Event::Input { .. })).count() / s.handles.len();
     m.when(none && frames > 0 && body.start_frame > 0, "input: none received yet, start above 0");
     m.when(none && frames == 0, "input: empty, none received yet");
     m.when(!none && frames == 0, "input: empty, newest acknowledged");
@@ -461,10 +461,10 @@ fn running(m: &mut Marks, c: &Seen) {
     m.when(c.queued() == 6, "act: keepalive alone");
     m.when(quiet && report, "act: keepalive spared by a report");
     m.when(quiet && resent && !report, "act: keepalive spared by a resend alone");
-    let told = c.told();
-    let interrupted = told.iter().any(|e| matches!(e, Event::NetworkInterrupted { .. }));
-    let spent = told.iter().any(|e| matches!(e, Event::NetworkInterrupted { disconnect_timeout: 0 }));
-    let disconnected = told.contains(&Event::Disconnected);
+    let announced = c.announced();
+    let interrupted = announced.iter().any(|e| matches!(e, Event::NetworkInterrupted { .. }));
+    let spent = announced.iter().any(|e| matches!(e, Event::NetworkInterrupted { disconnect_timeout: 0 }));
+    let disconnected = announced.contains(&Event::Disconnected);
     m.when(interrupted, "act: interruption");
     m.when(spent, "act: interruption with a remaining time of 0");
     m.when(disconnected, "act: disconnect by timeout");
@@ -574,11 +574,11 @@ fn polled(m: &mut Marks, c: &Watched) {
     let s = c.before;
     m.when(s.host.events.len() == refusals::EVENTS_MAX, "spectator: poll with 640 host events");
     m.when(!s.host.queued.is_empty(), "spectator: poll takes queued messages");
-    let told = |want: fn(&GgrsEvent<super::config::Cfg>) -> bool| {
+    let announced = |want: fn(&GgrsEvent<super::config::Cfg>) -> bool| {
         c.after.events.iter().any(want) && !s.events.iter().any(want)
     };
-    m.when(told(|e| matches!(e, GgrsEvent::NetworkInterrupted { .. })), "spectator: interrupted");
-    m.when(told(|e| matches!(e, GgrsEvent::Disconnected { .. })), "spectator: disconnect told");
+    m.when(announced(|e| matches!(e, GgrsEvent::NetworkInterrupted { .. })), "spectator: interrupted");
+    m.when(announced(|e| matches!(e, GgrsEvent::Disconnected { .. })), "spectator: disconnect announced");
     let other = s.host.events.iter().filter(|e| !matches!(e, Event::Input { .. })).count();
     m.when(s.events.len() + other > c.session_events, "spectator: oldest event dropped at M");
     let frames: Vec<i32> = s

@@ -1,5 +1,5 @@
-//! A second reading of the datagrams' rules: field by field, the first fault wins, 12 as
-//! soon as a count is read, 13 last. It says only what is wrong; bincode gives the message.
+//! A second reading of the datagrams' rules (W-8 to W-10): the first field that is wrong
+//! decides. It says only what is wrong; bincode gives the message.
 
 use super::refusals::{BAD_BOOL, BAD_KIND, EXTRA, SHORT, TOO_LONG};
 

@@ -193,7 +193,7 @@ pub(crate) fn message(s: &Snapshot, h: &Handed) -> Verdict {
     }
 }
 
-/// A message in Shutdown, from another peer, or stopped by the filter.
+/// The message is ignored (E-11).
 pub(crate) fn stopped(s: &Snapshot, h: &Handed) -> bool {
     let filtered = s.remote_magic != 0 && h.message.header.magic != s.remote_magic;
     s.phase == Phase::Shutdown || h.from != s.peer || filtered
@@ -361,7 +361,7 @@ pub(crate) fn send_input(s: &Snapshot, a: &Sending) -> Verdict {
     first_of(&[(bad_frame(s, a.frame), BAD_FRAME), (adds.full(s, a.buffer), FULL)])
 }
 
-/// Negative, or not one above the last accepted frame where there is one.
+/// Rule N-4.
 fn bad_frame(s: &Snapshot, frame: i32) -> bool {
     match s.last_accepted() {
         Some(last) => frame < 0 || i64::from(frame) != i64::from(last) + 1,
@@ -385,7 +385,7 @@ pub(crate) fn disconnect(s: &Snapshot, now: u64) -> Verdict {
 
 // ---- advantage, statistics, status ----
 
-/// newest + (min(rtt / 2, i32 max) x fps) / 1000 - local frame, each step within i32.
+/// Rule E-40: a step of the local advantage leaves i32.
 pub fn advantage_overflow(newest: i32, rtt: u64, fps: usize, local_frame: i32) -> bool {
     if local_frame == -1 || newest == -1 {
         return false;
@@ -403,7 +403,7 @@ pub(crate) fn update_local_frame_advantage(s: &Snapshot, local_frame: i32) -> Ve
     first_of(&[(overflow, OVERFLOW)])
 }
 
-/// As in the crate; 15 also when the epoch clock is before the start.
+/// Rules N-14 and N-15.
 pub(crate) fn network_stats(s: &Snapshot, epoch: u64) -> Verdict {
     let known = matches!(s.phase, Phase::Synchronizing | Phase::Running);
     first_of(&[

@@ -105,7 +105,7 @@ impl Snapshot {
         self.phase == Phase::Running && self.notify_sent
     }
 
-    /// The last accepted frame, where there is one.
+    /// The frame that `send_input` accepted last (N-4).
     pub fn last_accepted(&self) -> Option<Frame> {
         match self.pending.last() {
             Some(input) => Some(input.frame),

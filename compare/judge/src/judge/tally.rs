@@ -48,13 +48,13 @@ impl Tally {
         *self.sizes.entry((before.input_size, before.num_players)).or_default() += 1;
     }
 
-    pub(crate) fn told(&mut self, watching: bool, events: &[Event<super::config::Cfg>]) {
+    pub(crate) fn announced(&mut self, watching: bool, events: &[Event<super::config::Cfg>]) {
         for event in events {
             *self.events.entry((watching, event_number(event))).or_default() += 1;
         }
     }
 
-    pub(crate) fn session_told(&mut self, event: &GgrsEvent<super::config::Cfg>) {
+    pub(crate) fn session_announced(&mut self, event: &GgrsEvent<super::config::Cfg>) {
         *self.session_events.entry(session_event_number(event)).or_default() += 1;
     }
 
@@ -163,7 +163,7 @@ fn kind_row(watching: bool, phase: Phase, kind: usize) -> String {
 }
 
 fn event_row(who: &str, number: usize) -> String {
-    format!("{who} told {}", EVENTS[number])
+    format!("{who} announced {}", EVENTS[number])
 }
 
 fn size_row(size: usize, players: usize) -> String {
@@ -181,8 +181,8 @@ pub fn required() -> Vec<String> {
             rows.extend((0..KINDS.len()).map(|kind| kind_row(watching, *phase, kind)));
         }
         // a poll hands an interruption straight on to the session
-        let told = (0..EVENTS.len()).filter(|n| !(watching && *n == 4));
-        rows.extend(told.map(|n| event_row(who(watching), n)));
+        let announced = (0..EVENTS.len()).filter(|n| !(watching && *n == 4));
+        rows.extend(announced.map(|n| event_row(who(watching), n)));
     }
     rows.extend([0, 1, 3, 4, 5].map(|n| event_row("session", n)));
     for size in 1..=16 {
@@ -203,7 +203,7 @@ fn event_number(event: &Event<super::config::Cfg>) -> usize {
     }
 }
 
-/// The session tells all of them but Input.
+/// The session announces all of them but Input.
 fn session_event_number(event: &GgrsEvent<super::config::Cfg>) -> usize {
     match event {
         GgrsEvent::Synchronizing { .. } => 0,
@@ -211,7 +211,7 @@ fn session_event_number(event: &GgrsEvent<super::config::Cfg>) -> usize {
         GgrsEvent::Disconnected { .. } => 3,
         GgrsEvent::NetworkInterrupted { .. } => 4,
         GgrsEvent::NetworkResumed { .. } => 5,
-        _ => unreachable!("a spectator tells no such event"),
+        _ => unreachable!("a spectator announces no such event"),
     }
 }
 

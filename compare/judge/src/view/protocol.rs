@@ -57,7 +57,7 @@ impl<T: Config> UdpProtocol<T> {
         &self.sync_random_requests
     }
 
-    /// The crate's `poll` is act, then take events: this puts the taken ones back.
+    /// `poll` of ggrs takes the events too: this puts them back.
     pub(crate) fn act(&mut self, connect_status: &[ConnectionStatus]) {
         let events: Vec<_> = self.poll(connect_status).collect();
         self.event_queue.extend(events);

@@ -1,5 +1,5 @@
 //! Stands in for src/network/compression.rs: the packing of the rules.
-//! Each frame XOR the one reference, end to end; decodable exactly when the length is a multiple of W.
+//! (P-1 to P-3: every frame XOR the same reference; W must divide the length.)
 
 pub(crate) fn encode<'a>(reference: &[u8], pending_input: impl Iterator<Item = &'a Vec<u8>>) -> Vec<u8> {
     let mut packed = Vec::new();

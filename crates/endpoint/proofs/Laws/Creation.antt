@@ -12,17 +12,17 @@ use Rattle.packing.specs.Pad.{zeros}
 use Rattle.pending.specs.declared.Pending.{Pending}
 use Rattle.pending.specs.Pending.{waiting}
 use Rattle.history.specs.declared.History.{History}
-use Rattle.history.specs.History.{received, blank}
+use Rattle.history.specs.History.{received, blankFrame}
 use Rattle.nonces.specs.declared.Nonces.{Nonces}
 use Rattle.nonces.specs.Nonces.{outstanding}
 use Rattle.status.specs.declared.list.Statuses.{Statuses}
-use Rattle.status.specs.Statuses.{held as heldStatuses, fresh as freshStatuses}
+use Rattle.status.specs.Statuses.{heldStatuses, defaultStatuses}
 use Rattle.checksums.specs.declared.Checksums.{Checksums}
 use Rattle.checksums.specs.Checksums.{stored}
 use Rattle.events.specs.declared.Events.{Events}
-use Rattle.events.specs.Events.{held as heldEvents}
+use Rattle.events.specs.Events.{heldEvents}
 use Rattle.setup.specs.declared.Setup.{Setup}
-use Rattle.setup.specs.Setup.{badSetup, termsOf, termsWith, sorted, listed}
+use Rattle.setup.specs.Setup.{badSetup, termsOf, termsWith, sorted, handleList}
 use Rattle.timers.specs.declared.Clocks.{Clocks}
 use Rattle.timers.specs.Timers.{badClock, madeAt}
 use Rattle.quality.specs.declared.Quality.{Quality}
@@ -51,13 +51,13 @@ module _ (g : Setup) (now : ℕ) where
 
   -- what each part of it is made to be
   pub makes : (s : Setup) (p : Pending) (h : History) (n : Nonces) (c : Clocks) (q : Quality) (st : Statuses) (cs : Checksums) (ev : Events)
-      → termsOf s ≡ termsWith (sorted (listed (g .handles))) g
+      → termsOf s ≡ termsWith (sorted (handleList (g .handles))) g
       → waiting p ≡ []
-      → received h ≡ blank ∷ []
+      → received h ≡ blankFrame ∷ []
       → outstanding n ≡ []
       → c ≡ madeAt now
       → q ≡ freshQuality
-      → heldStatuses st ≡ freshStatuses (g .«num_players»)
+      → heldStatuses st ≡ defaultStatuses (g .«num_players»)
       → stored cs ≡ []
       → heldEvents ev ≡ []
       → seen (record {
@@ -76,7 +76,7 @@ module _ (g : Setup) (now : ℕ) where
         queued = 0;
       })
       ≡ made g now
-  unfolding seen made blank zeros
+  unfolding seen made blankFrame zeros
   makes s p h n c q st cs ev es ep eh en ec eq est ecs eev = rw (es, ep, eh, en, ec, eq, est, ecs, eev)
 
   pub made-as : (a : Answer) (e : Endpoint) → numberOf a ≡ fresh g now .0 → seen e ≡ made g now → MadeAs g now (record { answer = a; endpoint = e })

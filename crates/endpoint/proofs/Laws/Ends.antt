@@ -22,12 +22,12 @@ use Rattle.endpoint_rules.specs.declared.Phase.{Phase}
 use Rattle.endpoint.specs.declared.Sync.{Sync}
 use Rattle.codec.specs.Message.{Wire}
 use Rattle.outbox.specs.declared.Queued.{Queued}
-use Rattle.outbox.specs.Outbox.{sizes, QueuedAs}
+use Rattle.outbox.specs.Outbox.{queueSize, QueuedAs}
 use Rattle.endpoint_rules.specs.Seen.{withEvents, withQueued}
 use Rattle.endpoint_rules.specs.Did.{Did, Effect, refused, done}
 use Rattle.endpoint.specs.declared.Endpoint.{Endpoint}
 use Rattle.endpoint.specs.Endpoint.{seen, DidAs, DoneAs}
-use Rattle.endpoint.specs.Inside.Batch.{WrittenAs}
+use Rattle.endpoint.specs.Inside.Batch.{BatchWrittenAs}
 
 -- the same in another phase
 abbrev pub inPhase : Phase → Sync → Sync
@@ -71,14 +71,14 @@ module _ (e : Endpoint) (n : Endpoint) (f : Effect) (d : Did) (h : d ≡ done f)
   -- nothing is queued
   module _ (o : f .out ≡ []) (after : seen n ≡ withEvents (f .state .events ++ f .events) (f .state)) where
     pub done-done : DoneAs e d (record { answer = Done; endpoint = n })
-    unfolding done sizes
+    unfolding done queueSize
     done-done = rw h (record { answer = refl; after = after ∙ rw (o, add-zero); same = λ x. absurd (x refl) })
 
   -- one message is
   module _ (w : Wire) (o : f .out ≡ w ∷ []) (buffer buffer′ : List ℕ) (q : Queued) (eq : QueuedAs buffer (e .queued) w q buffer′) (ok : q .ok ≡ true) where
     pub queued-did : f .state .queued ≡ e .queued → seen n ≡ withEvents (f .state .events ++ f .events) (withQueued (q .end) (f .state))
         → DidAs e d buffer (record { answer = Done; endpoint = n }) buffer′
-    unfolding done sizes flatten
+    unfolding done queueSize flatten
     queued-did k after =
         rw h (record {
           answer = refl;
@@ -89,7 +89,7 @@ module _ (e : Endpoint) (n : Endpoint) (f : Effect) (d : Did) (h : d ≡ done f)
 
 -- done, with several messages queued or none
 pub batch-did : (e n : Endpoint) (f : Effect) (d : Did) (buffer buffer′ : List ℕ) (stop : ℕ) → d ≡ done f → f .state .queued ≡ e .queued
-    → WrittenAs buffer (e .queued) (f .out) stop buffer′ → seen n ≡ withEvents (f .state .events ++ f .events) (withQueued stop (f .state))
+    → BatchWrittenAs buffer (e .queued) (f .out) stop buffer′ → seen n ≡ withEvents (f .state .events ++ f .events) (withQueued stop (f .state))
     → DidAs e d buffer (record { answer = Done; endpoint = n }) buffer′
 unfolding done
 batch-did e n f d buffer buffer′ stop h k w after =

@@ -12,11 +12,11 @@ use Rattle.pending.specs.Pending.{waiting}
 use Rattle.history.specs.History.{received, newestOf}
 use Rattle.status.specs.declared.ConnectionStatus.{ConnectionStatus}
 use Rattle.status.specs.Status.{defaultStatus}
-use Rattle.status.specs.Statuses.{held as heldStatuses}
+use Rattle.status.specs.Statuses.{heldStatuses}
 use Rattle.checksums.specs.declared.Checksums.{Checksums}
 use Rattle.checksums.specs.Checksums.{stored}
 use Rattle.setup.specs.declared.Handles.{Handles}
-use Rattle.setup.specs.Setup.{listed, termsWith}
+use Rattle.setup.specs.Setup.{handleList, termsWith}
 use Rattle.timers.specs.Timers.{badClock}
 use Rattle.endpoint_rules.specs.declared.Phase.{Phase}
 use Rattle.endpoint_rules.specs.Seen.{isSynchronizing, isRunning}
@@ -34,10 +34,10 @@ use Rattle.endpoint.specs.Endpoint.{seen}
 use Rattle.endpoint.specs.Shown.{shown, HandlesAs, shownStatus, shownStats}
 
 module _ (e : Endpoint) where
-  pub shows-handles : (n : ℕ) → n ≡ length (listed (e .setup .handles)) → HandlesAs (seen e) (record { list = e .setup .handles .list; count = n })
+  pub shows-handles : (n : ℕ) → n ≡ length (handleList (e .setup .handles)) → HandlesAs (seen e) (record { list = e .setup .handles .list; count = n })
   unfolding valueOf seen termsWith
   shows-handles n h =
-      let same : take n (e .setup .handles .list) ≡ listed (e .setup .handles) = rw h (sym (take-count (e .setup .handles .count) (e .setup .handles .list))) in
+      let same : take n (e .setup .handles .list) ≡ handleList (e .setup .handles) = rw h (sym (take-count (e .setup .handles .count) (e .setup .handles .list))) in
       (ap Value.numbers same, h ∙ ap length (sym same))
 
   pub shows-synchronized : (b : Bool) → b ≡ synchronizedIn (e .sync .phase) → Value.flag b ≡ valueOf (Call.ask Question.isSynchronized) (seen e)
@@ -115,8 +115,8 @@ same-stats (Refused a) (Stats b) h = let v : Value.nothing ≡ Value.stats b = a
 same-stats (Refused a) (Refused b) h = ap Refused (number-determines a b (ap (λ (t : ℕ × Value). t .0) h))
 
 module _ (e : Endpoint) where
-  pub handles-settled : (r s : Handles) → HandlesAs (seen e) r → HandlesAs (seen e) s → (listed r ≡ listed s) × (r .count ≡ s .count)
-  handles-settled r s a b = let same : listed r ≡ listed s = let n : Value.numbers (listed r) ≡ Value.numbers (listed s) = a .0 ∙ sym (b .0) in cc in (same, a .1 ∙ ap length same ∙ sym (b .1))
+  pub handles-settled : (r s : Handles) → HandlesAs (seen e) r → HandlesAs (seen e) s → (handleList r ≡ handleList s) × (r .count ≡ s .count)
+  handles-settled r s a b = let same : handleList r ≡ handleList s = let n : Value.numbers (handleList r) ≡ Value.numbers (handleList s) = a .0 ∙ sym (b .0) in cc in (same, a .1 ∙ ap length same ∙ sym (b .1))
 
   pub is-synchronized-settled : (r s : Bool) → Value.flag r ≡ valueOf (Call.ask Question.isSynchronized) (seen e) → Value.flag s ≡ valueOf (Call.ask Question.isSynchronized) (seen e) → r ≡ s
   is-synchronized-settled r s a b = cc

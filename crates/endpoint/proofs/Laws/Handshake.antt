@@ -19,7 +19,7 @@ use Rattle.quality.specs.Quality.{startedAt}
 use Rattle.nonces.specs.declared.Issued.{Issued}
 use Rattle.nonces.specs.declared.Nonces.{Nonces}
 use Rattle.nonces.specs.Nonces.{outstanding, fits, issued, IssuedAs}
-use Rattle.events.specs.Events.{held, hasRoom}
+use Rattle.events.specs.Events.{heldEvents, hasRoom}
 use Rattle.outbox.specs.declared.Queued.{Queued}
 use Rattle.outbox.specs.Outbox.{QueuedAs}
 use Rattle.endpoint_rules.specs.declared.Phase.the-variants.{Synchronizing}
@@ -109,7 +109,7 @@ module _ (e : Endpoint) (buffer : List ℕ) (now epoch nonce : ℕ) where
           rw (er .same k) (refused-did e Full _
           (rw (good, first, request-full buffer (e .setup .magic) nonce (outstanding (e .nonces)) Starting refl (r .ok) (rw (ei .ok) at (er .ok)) k)) buffer)
 
-      pub synchronize-done : r .ok ≡ true → hasRoom (held (e .events)) 0 ≡ true → (q : Quality) → q ≡ startedAt epoch (e .quality)
+      pub synchronize-done : r .ok ≡ true → hasRoom (heldEvents (e .events)) 0 ≡ true → (q : Quality) → q ≡ startedAt epoch (e .quality)
           → Starts (remade e (e .pending) (e .acked) (e .history) (record { phase = Synchronizing; remaining = 5; «remote_magic» = e .sync .«remote_magic» }) (i .nonces) (r .clocks) (e .flags) q (e .statuses) (e .checksums) (e .events) (r .end)) Done buffer′
       unfolding step synchronizeStep synchronized started request nonceIssued queueWire decided seen termsWith
       synchronize-done k room q eq =

@@ -11,7 +11,7 @@ use Prim.Native.Nat.{_+_}
 use lib.ListN.{length}
 use Rattle.base.proofs.Arrays.{unmap, view-le}
 use Rattle.events.specs.declared.Events.{Events}
-use Rattle.events.specs.Events.{held, hasRoom}
+use Rattle.events.specs.Events.{heldEvents, hasRoom}
 use Rattle.events.proofs.Events as Events
 use Rattle.endpoint.specs.declared.Endpoint.{Endpoint}
 use Rattle.endpoint.proofs.Endpoint as Endpoint
@@ -23,9 +23,9 @@ events-long e vs h = search (unmap, needs)
 pub entries-long : (e : Endpoint) (vs : List Val) → shadow (Endpoint.the-field .row .own (Endpoint.the-type .to e) vs) → length (e .events .entries) ≡ 640
 entries-long e vs h = events-long (e .events) _ (h .1 .1 .1 .1 .1 .1 .1 .1 .1 .1 .1 .1 .1 .0)
 
-pub no-event-fits : (e : Endpoint) (vs : List Val) → shadow (Endpoint.the-field .row .own (Endpoint.the-type .to e) vs) → hasRoom (held (e .events)) 0 ≡ true
-unfolding hasRoom held
-no-event-fits e vs h = le-leb (length (held (e .events)) + 0) 640 (omega (arith, entries-long e vs h, view-le (e .events .used) (e .events .entries)))
+pub no-event-fits : (e : Endpoint) (vs : List Val) → shadow (Endpoint.the-field .row .own (Endpoint.the-type .to e) vs) → hasRoom (heldEvents (e .events)) 0 ≡ true
+unfolding hasRoom heldEvents
+no-event-fits e vs h = le-leb (length (heldEvents (e .events)) + 0) 640 (omega (arith, entries-long e vs h, view-le (e .events .used) (e .events .entries)))
 
 pub acked-long : (e : Endpoint) (vs : List Val) → shadow (Endpoint.the-field .row .own (Endpoint.the-type .to e) vs) → length (e .acked .bytes) ≡ 64
 acked-long e vs h = search needs

@@ -8,8 +8,8 @@ use Prim.Native.Nat.{ℕ, _<_, _+_}
 use lib.ListN.{length}
 use Rattle.base.specs.Lay.{noRoom}
 use Rattle.codec.specs.Message.{Wire, tableSize}
-use Rattle.events.specs.Events.{hasRoom, held, PushedAs}
-use Rattle.outbox.specs.Outbox.{sizes}
+use Rattle.events.specs.Events.{hasRoom, heldEvents, PushedAs}
+use Rattle.outbox.specs.Outbox.{queueSize}
 use Rattle.endpoint_rules.specs.Seen.{Seen}
 use Rattle.endpoint_rules.specs.Did.{Effect, refused, decided, done}
 use Rattle.endpoint_rules.specs.Room.{bufferFull, isFull}
@@ -32,16 +32,16 @@ module _ (buffer : List ℕ) (f : Effect) where
   full-events h = rw h
 
   pub room-none : f .out ≡ [] → hasRoom (f .state .events) (length (f .events)) ≡ true → isFull (length buffer) f ≡ false
-  unfolding isFull bufferFull sizes
+  unfolding isFull bufferFull queueSize
   room-none o h = rw (h, o)
 
   module _ (w : Wire) (some : 0 < tableSize w) (o : f .out ≡ w ∷ []) where
     pub full-buffer : noRoom buffer (f .state .queued) (tableSize w) ≡ true → isFull (length buffer) f ≡ true
-    unfolding isFull bufferFull sizes
+    unfolding isFull bufferFull queueSize
     full-buffer h = rw (o, add-zero, lt-ltb 0 (tableSize w) some, h, or-true)
 
     pub room-one : hasRoom (f .state .events) (length (f .events)) ≡ true → noRoom buffer (f .state .queued) (tableSize w) ≡ false → isFull (length buffer) f ≡ false
-    unfolding isFull bufferFull sizes
+    unfolding isFull bufferFull queueSize
     room-one e h = rw (e, o, add-zero, lt-ltb 0 (tableSize w) some, h)
 
 -- a reaction that is tested for neither 12 nor 6, or meets neither
@@ -60,34 +60,34 @@ module _ (n : ℕ) (s : Seen) (r : Reaction) (short : r .tooLong ≡ false) (wit
 
 -- several messages, or none
 module _ (buffer : List ℕ) (f : Effect) where
-  pub full-bytes : bufferFull (length buffer) (f .state .queued) (sizes (f .out)) ≡ true → isFull (length buffer) f ≡ true
+  pub full-bytes : bufferFull (length buffer) (f .state .queued) (queueSize (f .out)) ≡ true → isFull (length buffer) f ≡ true
   unfolding isFull
   full-bytes h = rw (h, or-true)
 
-  pub room-bytes : hasRoom (f .state .events) (length (f .events)) ≡ true → bufferFull (length buffer) (f .state .queued) (sizes (f .out)) ≡ false → isFull (length buffer) f ≡ false
+  pub room-bytes : hasRoom (f .state .events) (length (f .events)) ≡ true → bufferFull (length buffer) (f .state .queued) (queueSize (f .out)) ≡ false → isFull (length buffer) f ≡ false
   unfolding isFull
   room-bytes e h = rw (e, h)
 
 -- An event that is announced only where there is one: what the events are then, as if they had been asked to push it in any case.
 
 -- n: how many there are
-module _ (e : Events) (n : ℕ) (en : n ≡ length (held e)) where
-  pub one-crowds : leb 640 n ≡ true → hasRoom (held e) 1 ≡ false
+module _ (e : Events) (n : ℕ) (en : n ≡ length (heldEvents e)) where
+  pub one-crowds : leb 640 n ≡ true → hasRoom (heldEvents e) 1 ≡ false
   unfolding hasRoom
-  one-crowds h = lt-leb (length (held e) + 1) 640 (omega (arith, leb-true 640 n h))
+  one-crowds h = lt-leb (length (heldEvents e) + 1) 640 (omega (arith, leb-true 640 n h))
 
-  pub one-fits : leb 640 n ≡ false → hasRoom (held e) 1 ≡ true
+  pub one-fits : leb 640 n ≡ false → hasRoom (heldEvents e) 1 ≡ true
   unfolding hasRoom
-  one-fits h = le-leb (length (held e) + 1) 640 (omega (arith, leb-false 640 n h))
+  one-fits h = le-leb (length (heldEvents e) + 1) 640 (omega (arith, leb-false 640 n h))
 
-module _ (e : Events) (x : Entry) (n : ℕ) (en : n ≡ length (held e)) where
+module _ (e : Events) (x : Entry) (n : ℕ) (en : n ≡ length (heldEvents e)) where
   abbrev pub PushedIf : Bool → Pushed → Type 0
-  PushedIf announces p = PushedAs e (hasRoom (held e) (length (pick announces (x ∷ []) []))) (pick announces (x ∷ []) []) p
+  PushedIf announces p = PushedAs e (hasRoom (heldEvents e) (length (pick announces (x ∷ []) []))) (pick announces (x ∷ []) []) p
 
   pub crowded : (announces : Bool) → (announces && leb 640 n) ≡ true → PushedIf announces (record { ok = false; events = e })
-  crowded true h = let f : hasRoom (held e) 1 ≡ false = one-crowds e n en h in record { ok = sym f; view = rw f; same = λ _. refl }
+  crowded true h = let f : hasRoom (heldEvents e) 1 ≡ false = one-crowds e n en h in record { ok = sym f; view = rw f; same = λ _. refl }
   crowded false h = record { ok = cc; view = cc; same = λ _. refl }
 
-  pub roomy : (announces : Bool) (p : Pushed) → (announces && leb 640 n) ≡ false → announces ≡ true → PushedAs e (hasRoom (held e) 1) (x ∷ []) p → p .ok ≡ true
+  pub roomy : (announces : Bool) (p : Pushed) → (announces && leb 640 n) ≡ false → announces ≡ true → PushedAs e (hasRoom (heldEvents e) 1) (x ∷ []) p → p .ok ≡ true
   roomy true p h t ep = ep .ok ∙ one-fits e n en h
   roomy false p h t ep = cc

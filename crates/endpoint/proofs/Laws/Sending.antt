@@ -21,9 +21,9 @@ use Rattle.pending.specs.declared.Pushed.{Pushed}
 use Rattle.history.specs.History.{received, newestOf}
 use Rattle.status.specs.declared.ConnectionStatus.{ConnectionStatus}
 use Rattle.status.specs.declared.list.Statuses.{Statuses}
-use Rattle.status.specs.Statuses.{held as heldStatuses}
+use Rattle.status.specs.Statuses.{heldStatuses}
 use Rattle.events.specs.Events as Events
-use Rattle.events.specs.Events.{held, hasRoom}
+use Rattle.events.specs.Events.{heldEvents, hasRoom, withoutInput}
 use Rattle.events.specs.declared.Entry.{Entry}
 use Rattle.events.specs.declared.Event.the-variants.{Disconnected}
 use Rattle.events.specs.declared.Pushed.{Pushed as PushedEvents}
@@ -32,7 +32,7 @@ use Rattle.setup.specs.Setup.{termsOf, termsWith, sendingWidth}
 use Rattle.timers.specs.Timers as Timers
 use Rattle.timers.specs.Timers.{badClock}
 use Rattle.outbox.specs.declared.Queued.{Queued}
-use Rattle.outbox.specs.Outbox.{sizes, pendingInput, QueuedAs, InputSizedAs}
+use Rattle.outbox.specs.Outbox.{queueSize, pendingInput, QueuedAs, InputSizedAs}
 use Rattle.endpoint_rules.specs.Seen.{Seen, isRunning, sentAt}
 use Rattle.endpoint_rules.specs.Did.{Did, Effect, decided, begin, change, queueWire, announceEvent, done}
 use Rattle.endpoint_rules.specs.Room.{isFull, bufferFull}
@@ -42,18 +42,17 @@ use Rattle.endpoint_rules.specs.Step.{step, sendStep}
 use Rattle.endpoint.specs.declared.Endpoint.{Endpoint}
 use Rattle.endpoint.specs.declared.Ended.{Ended}
 use Rattle.endpoint.specs.Endpoint.{seen, DidAs}
-use Rattle.endpoint.proofs.Laws.Room.{crowded, roomy}
+use Rattle.endpoint.proofs.Laws.Room.{crowded, roomy, full-events, full-bytes, room-bytes}
 use Rattle.endpoint.proofs.Laws.Ends.{remade, refused-did, batch-did}
 use Rattle.endpoint.proofs.Laws.Act.Batch.{written-one}
 use Rattle.endpoint.proofs.Laws.Announced.{withEventsOf, AnnouncedAs, announced-all, announced-nothing}
 use Rattle.endpoint.proofs.Laws.Settled.{did-settled}
-use Rattle.endpoint.proofs.Laws.Room.{full-events, full-bytes, room-bytes}
 use native.Mathlib.Omega.{arith}
 use Rattle.frame.specs.Bias.{bias32}
 
 -- what sending an input does
 abbrev disconnection : Entry
-disconnection = record { event = Disconnected; input = replicate 16 0 }
+disconnection = withoutInput Disconnected
 
 abbrev announcedIf : Bool → List Entry
 announcedIf b = pick b (disconnection ∷ []) []
@@ -66,12 +65,12 @@ abbrev pub Announcing : Endpoint → ℕ → Endpoint → Type 0
 Announcing e n s = AnnouncedAs e (announcedIf (leb 129 n)) s
 
 module _ (e : Endpoint) (n : ℕ) where
-  pub announces-one : (m : ℕ) → m ≡ length (held (e .events)) → (t : PushedEvents) → (leb 129 n && leb 640 m) ≡ false → leb 129 n ≡ true
-      → Events.PushedAs (e .events) (hasRoom (held (e .events)) 1) (disconnection ∷ []) t → (s : Endpoint) → s ≡ withEventsOf e (t .events) → Announcing e n s
+  pub announces-one : (m : ℕ) → m ≡ length (heldEvents (e .events)) → (t : PushedEvents) → (leb 129 n && leb 640 m) ≡ false → leb 129 n ≡ true
+      → Events.PushedAs (e .events) (hasRoom (heldEvents (e .events)) 1) (disconnection ∷ []) t → (s : Endpoint) → s ≡ withEventsOf e (t .events) → Announcing e n s
   announces-one m em t h k et s es =
       announced-all e _ s t (pushed-if (e .events) (leb 129 n) disconnection t k et) (roomy (e .events) disconnection m em (leb 129 n) t h k et) es
 
-  pub announces-none : leb 129 n ≡ false → hasRoom (held (e .events)) 0 ≡ true → (s : Endpoint) → s ≡ e → Announcing e n s
+  pub announces-none : leb 129 n ≡ false → hasRoom (heldEvents (e .events)) 0 ≡ true → (s : Endpoint) → s ≡ e → Announcing e n s
   announces-none k room s es = announced-nothing e _ s (rw k) room es
 
 some-queued : (now : ℕ) (statuses : List ConnectionStatus) (l : List InputBytes) (x : InputBytes) (f : Effect)
@@ -169,15 +168,15 @@ module _ (e : Endpoint) (frame : ℕ) (bytes : List ℕ) (st : Statuses) (now : 
               announcing : announcedIf (leb 129 n) ≡ announcedWith (before ++ taken ∷ [])
               announcing = rw (en, pends)
 
-              pub send-unannounced : (m : ℕ) → m ≡ length (held (e .events)) → (leb 129 n && leb 640 m) ≡ true → Sends e Full buffer
+              pub send-unannounced : (m : ℕ) → m ≡ length (heldEvents (e .events)) → (leb 129 n && leb 640 m) ≡ true → Sends e Full buffer
               unfolding seen accepted
               send-unannounced m em k = send-full (sym (ep .ok) ∙ ok) (full-events buffer Sending (rw (← announcing) (sym (crowded (e .events) disconnection m em (leb 129 n) k .ok))))
 
               -- size: the bytes that the Input takes, f: whether they have no room
               module _ (size : ℕ) (sized : InputSizedAs (heldStatuses st) (waiting (p .pending)) w size) (long : length (e .acked .bytes) ≡ 64) (f : Bool)
                   (ef : f ≡ bufferFull (length buffer) (e .queued) size) where
-                whole : sizes (Sending .out) ≡ size
-                unfolding seen accepted termsWith sizes
+                whole : queueSize (Sending .out) ≡ size
+                unfolding seen accepted termsWith queueSize
                 whole = rw (← ew, ← pends, add-zero, sized .sized (e .setup .magic) (newestOf (received (e .history))) (e .acked) long)
 
                 pub send-choked : f ≡ true → Sends e Full buffer
@@ -190,7 +189,7 @@ module _ (e : Endpoint) (frame : ℕ) (bytes : List ℕ) (st : Statuses) (now : 
                     → Sends (remade s (p .pending) (s .acked) (s .history) (s .sync) (s .nonces) (Timers.sentAt now (s .clocks)) (s .flags) (s .quality) (s .statuses) (s .checksums) (s .events) (q .end)) Done b′
                 unfolding seen accepted termsWith
                 send-done k s es =
-                    let fit : bufferFull (length buffer) (e .queued) (sizes (Sending .out)) ≡ false = rw (whole, ← ef, k) in
+                    let fit : bufferFull (length buffer) (e .queued) (queueSize (Sending .out)) ≡ false = rw (whole, ← ef, k) in
                     rw (es .rest) (λ a ea q b′ eq.
                     batch-did e _ Sending Does buffer b′ (q .end)
                     (send-fits (sym (ep .ok) ∙ ok) (room-bytes buffer Sending (rw (← announcing) (es .room)) fit))

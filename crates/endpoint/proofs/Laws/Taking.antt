@@ -1,17 +1,19 @@
--- Taking events, and taking messages: refused, done, and the part of the buffer that is handed back.
+-- Taking events, and taking messages: refused, done, the part of the buffer that is handed back, and its copy.
 use borrow.Author.Tests.{ltb-false}
 use mathlib.Core.Bool.{Bool, true, false, not, _&&_}
-use mathlib.Core.List.{List}
-use mathlib.Core.Path.{_≡_, refl, sym, _∙_}
+use mathlib.Core.List.{List, _++_}
+use mathlib.Core.Path.{_≡_, refl, sym, _∙_, ap}
 use native.Mathlib.Omega.{arith}
 use Prim.Native.Nat.{ℕ, _≤_}
 use lib.Dec.{ltb}
-use lib.ListN.{length, take}
+use lib.ListN.{length, take, drop}
 use lib.Seq.{length-take-le}
 use Rattle.base.specs.Pick.{pick}
+use Rattle.base.specs.Lay.{laidAt}
+use Rattle.base.proofs.Lay.{laid-none, laid-first}
 use Rattle.base.proofs.Settled.{settled}
 use Rattle.answer.specs.declared.Answer.the-variants.{Done, Full}
-use Rattle.events.specs.Events.{held}
+use Rattle.events.specs.Events.{heldEvents}
 use Rattle.events.proofs.Laws.{held-none}
 use Rattle.endpoint_rules.specs.Seen.{isShutdown}
 use Rattle.endpoint_rules.specs.Did.{Did, refused, decided}
@@ -21,9 +23,11 @@ use Rattle.endpoint_rules.specs.Value.{Value, valueOf, filledPart, handedBack}
 use Rattle.endpoint.specs.declared.Endpoint.{Endpoint}
 use Rattle.endpoint.specs.declared.Ended.{Ended}
 use Rattle.endpoint.specs.declared.taking.TakenEvents.{TakenEvents}
+use Rattle.endpoint.specs.declared.taking.TakenMessages.{TakenMessages}
 use Rattle.endpoint.specs.Endpoint.{seen, DoneAs}
-use Rattle.endpoint.specs.Taken.{TakenAs}
+use Rattle.endpoint.specs.Taken.{TakenAs, shorter, TakenIntoAs}
 use Rattle.endpoint.proofs.Laws.Settled.{done-settled}
+use Rattle.endpoint.proofs.Laws.Handshake.{false-true}
 use Rattle.endpoint.proofs.Laws.Ends.{remade, refused-done}
 
 -- no more than the room is handed back
@@ -66,13 +70,44 @@ module _ (e : Endpoint) where
         go false eb true et = rw (eb, et)
         go false eb false et = rw (eb, et)
 
+-- nothing is handed back where the buffer is too short
+none-filled : (shut short : Bool) (queued : ℕ) → not shut && short ≡ true → 0 ≡ pick shut 0 (pick short 0 queued)
+none-filled true short queued h = refl
+none-filled false true queued h = refl
+none-filled false false queued h = absurd (false-true h)
+
+module _ (e : Endpoint) (queue into : List ℕ) where
+  pub into-short : not (isShutdown (e .sync .phase)) && ltb (shorter queue into) (e .queued) ≡ true
+      → TakenIntoAs e queue into (record { endpoint = e; answer = Full; count = 0 }) into
+  into-short h =
+      record {
+        taken = take-short e (shorter queue into) h;
+        count = none-filled (isShutdown (e .sync .phase)) (ltb (shorter queue into) (e .queued)) (e .queued) h ∙ handed-is e (shorter queue into);
+        lent = sym (laid-none into 0);
+      }
+
+  pub into-done : not (isShutdown (e .sync .phase)) && ltb (shorter queue into) (e .queued) ≡ false
+      → (n : ℕ) → n ≡ pick (isShutdown (e .sync .phase)) 0 (pick (ltb (shorter queue into) (e .queued)) 0 (e .queued))
+      → (into′ : List ℕ) → into′ ≡ take (length (take n queue)) (take n queue) ++ drop (length (take n queue)) into
+      → TakenIntoAs e queue into (record { answer = Done; count = n; endpoint = remade e (e .pending) (e .acked) (e .history) (e .sync) (e .nonces) (e .clocks) (e .flags) (e .quality) (e .statuses) (e .checksums) (e .events) 0 }) into′
+  into-done h n en into′ copied =
+      record {
+        taken = take-done e (shorter queue into) h;
+        count = en ∙ handed-is e (shorter queue into);
+        lent = copied ∙ laid-first into (take n queue);
+      }
+
+  -- what is copied has room in both
+  pub into-fits : (n : ℕ) → n ≡ pick (isShutdown (e .sync .phase)) 0 (pick (ltb (shorter queue into) (e .queued)) 0 (e .queued)) → n ≤ shorter queue into
+  into-fits n h = rw h (filled-fits (isShutdown (e .sync .phase)) (e .queued) (shorter queue into))
+
 -- ---- two answers that a contract allows are equal: stores up to what their array holds past the count
 
 module _ (e : Endpoint) where
-  pub take-events-settled : (r s : TakenEvents) → TakenAs e r → TakenAs e s → (held (r .events) ≡ held (s .events)) × (seen (r .endpoint) ≡ seen (s .endpoint))
+  pub take-events-settled : (r s : TakenEvents) → TakenAs e r → TakenAs e s → (heldEvents (r .events) ≡ heldEvents (s .events)) × (seen (r .endpoint) ≡ seen (s .endpoint))
   take-events-settled r s a b = (same (a .events) (b .events), a .after ∙ sym (b .after))
     where
-      same : Value.events (held (r .events)) ≡ valueOf Call.takeEvents (seen e) → Value.events (held (s .events)) ≡ valueOf Call.takeEvents (seen e) → held (r .events) ≡ held (s .events)
+      same : Value.events (heldEvents (r .events)) ≡ valueOf Call.takeEvents (seen e) → Value.events (heldEvents (s .events)) ≡ valueOf Call.takeEvents (seen e) → heldEvents (r .events) ≡ heldEvents (s .events)
       same x y = cc
 
   module _ (buffer : List ℕ) where
@@ -81,6 +116,13 @@ module _ (e : Endpoint) where
 
     pub take-messages-settled : (r s : Ended) → DoneAs e Took r → DoneAs e Took s → (r .answer ≡ s .answer) × (seen (r .endpoint) ≡ seen (s .endpoint))
     take-messages-settled = done-settled e Took
+
+    pub take-messages-into-settled : (into : List ℕ) (r s : TakenMessages) (b c : List ℕ) → TakenIntoAs e buffer into r b → TakenIntoAs e buffer into s c
+        → (r .answer ≡ s .answer) × (seen (r .endpoint) ≡ seen (s .endpoint)) × (r .count ≡ s .count) × (b ≡ c)
+    take-messages-into-settled into r s b c x y =
+        let same : r .count ≡ s .count = x .count ∙ sym (y .count) in
+        let t = done-settled e (step (Call.takeMessages (shorter buffer into)) (seen e)) _ _ (x .taken) (y .taken) in
+        (t .0, t .1, same, x .lent ∙ ap (λ n. laidAt into 0 (take n buffer)) same ∙ sym (y .lent))
 
     pub messages-settled : (r s : List ℕ) → r ≡ take (handedBack (length buffer) (seen e)) buffer → s ≡ take (handedBack (length buffer) (seen e)) buffer → r ≡ s
     messages-settled = settled (λ r. r) (take (handedBack (length buffer) (seen e)) buffer)

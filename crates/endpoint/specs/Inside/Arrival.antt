@@ -10,9 +10,9 @@ use Rattle.codec.specs.declared.Message.{Message}
 use Rattle.codec.specs.declared.Received.{Received}
 use Rattle.endpoint_rules.specs.Call.{Call}
 
-unfoldable pub callOf : (isDatagram : Bool) → (from : ℕ) → (given : Message) → (bytes : List ℕ) → (now epoch nonce room : ℕ) → Call
-callOf false from given bytes now epoch nonce room = Call.message from (given .reports .count) (meant given bytes) now epoch nonce room
-callOf true from given bytes now epoch nonce room = Call.datagram from bytes now epoch nonce room
+unfoldable pub arrivalCall : (isDatagram : Bool) → (from : ℕ) → (given : Message) → (bytes : List ℕ) → (now epoch nonce room : ℕ) → Call
+arrivalCall false from given bytes now epoch nonce room = Call.message from (given .reports .count) (meant given bytes) now epoch nonce room
+arrivalCall true from given bytes now epoch nonce room = Call.datagram from bytes now epoch nonce room
 
 -- a message was read before
 unfoldable pub ArrivedAs : (isDatagram : Bool) → (given : Message) → (bytes : List ℕ) → Received → Type 0

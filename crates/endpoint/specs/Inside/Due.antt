@@ -9,19 +9,19 @@ use Rattle.events.specs.declared.Entry.{Entry}
 use Rattle.events.specs.declared.Event.the-variants.{NetworkInterrupted, Disconnected}
 use Rattle.events.specs.Events.{withoutInput}
 use Rattle.endpoint_rules.specs.declared.Flags.{Flags}
-use Rattle.endpoint_rules.specs.Act.{interval}
+use Rattle.endpoint_rules.specs.Act.{actInterval}
 use Rattle.endpoint.specs.declared.act.due.Due.{Due}
 
 -- an Input goes out where something is pending; the keepalive looks at the send time as the messages before it leave it
 unfoldable pub dueOf : (now : ℕ) → Clocks → Flags → (pending : Bool) → (notifyStart disconnectTimeout : ℕ) → Due
 dueOf now c f pending notifyStart disconnectTimeout =
-    let resend : Bool = passed (c .«running_last_input_recv») interval now in
-    let report : Bool = passed (c .«running_last_quality_report») interval now in
+    let resend : Bool = passed (c .«running_last_input_recv») actInterval now in
+    let report : Bool = passed (c .«running_last_quality_report») actInterval now in
     record {
       resend = resend;
       input = resend && pending;
       report = report;
-      «keep_alive» = passed (pick ((resend && pending) || report) now (c .«last_send_time»)) interval now;
+      «keep_alive» = passed (pick ((resend && pending) || report) now (c .«last_send_time»)) actInterval now;
       interruption = not (f .«disconnect_notify_sent») && passed (c .«last_recv_time») notifyStart now;
       disconnect = not (f .«disconnect_event_sent») && passed (c .«last_recv_time») disconnectTimeout now;
     }

@@ -9,7 +9,7 @@ use Rattle.base.specs.Pick.{pick}
 use Rattle.timers.specs.declared.Clocks.{Clocks}
 use Rattle.timers.specs.Timers.{heardAt, sentAt, requestAt}
 use Rattle.codec.specs.Message.{Wire, tableSize}
-use Rattle.codec.specs.Read.{plain}
+use Rattle.codec.specs.Read.{bodyOnly}
 use Rattle.codec.specs.declared.MessageBody.the-variants.{SyncRequest}
 use Rattle.events.specs.declared.Event.{Event}
 use Rattle.events.specs.declared.Event.the-variants.{Synchronizing, Synchronized}
@@ -20,7 +20,7 @@ use Rattle.endpoint.specs.declared.handshake.Requested.{Requested}
 use Rattle.endpoint.specs.declared.handshake.Counted.{Counted}
 
 abbrev pub requestWire : (magic nonce : ℕ) → Wire
-requestWire magic nonce = plain magic (SyncRequest nonce)
+requestWire magic nonce = bodyOnly magic (SyncRequest nonce)
 
 -- it fits where what goes with it does, and its bytes do
 pub record RequestedAs (roomy : Bool) (c : Clocks) (magic now nonce : ℕ) (buffer : List ℕ) (at : ℕ) (r : Requested) (buffer′ : List ℕ) : Type 0 where

@@ -1,18 +1,18 @@
 -- The plain parts of an endpoint that have heard an Input, whatever inputs it brings: what it reports and requests.
-use mathlib.Core.Bool.{Bool, true, not, _&&_}
+use mathlib.Core.Bool.{Bool, true, _&&_}
 use mathlib.Core.List.{List, map}
 use mathlib.Core.Path.{_≡_}
 use Prim.Native.Nat.{ℕ}
 use Rattle.base.specs.Pick.{pick}
 use Rattle.status.specs.declared.ConnectionStatus.{ConnectionStatus}
 use Rattle.status.specs.Status.{reported}
-use Rattle.status.specs.Statuses.{mergedAll, held as heldStatuses}
+use Rattle.status.specs.Statuses.{mergedAll, heldStatuses}
 use Rattle.codec.specs.declared.StatusReport.{StatusReport}
 use Rattle.timers.specs.declared.Clocks.{Clocks}
 use Rattle.timers.specs.Timers.{heardAt}
 use Rattle.endpoint_rules.specs.declared.Phase.{Phase}
 use Rattle.endpoint_rules.specs.declared.Flags.{Flags}
-use Rattle.endpoint_rules.specs.Seen.{isDisconnected}
+use Rattle.endpoint_rules.specs.Receiving.{announcesBy}
 use Rattle.endpoint.specs.declared.message.informing.Informed.{Informed}
 use Rattle.endpoint.specs.Inside.Hearing.{heardBy}
 
@@ -26,7 +26,7 @@ statusesOf l = map (λ (x : StatusReport). reported (x .disconnected) (x .«last
 
 pub record InformedAs (phase : Phase) (c : Clocks) (f : Flags) (l : List ConnectionStatus) (requested : Bool) (reports : List StatusReport) (now : ℕ) (r : Informed) : Type 0 where
   pub resumes : r .resumes ≡ heardBy phase c f now .resumes
-  pub tells : r .tells ≡ (requested && (not (isDisconnected phase) && not (heardBy phase c f now .flags .«disconnect_event_sent»)))
+  pub disconnects : r .disconnects ≡ (requested && announcesBy phase (heardBy phase c f now .flags))
   pub clocks : r .clocks ≡ heardAt now c
-  pub flags : r .flags ≡ announcedFlags (r .tells) (heardBy phase c f now .flags)
+  pub flags : r .flags ≡ announcedFlags (r .disconnects) (heardBy phase c f now .flags)
   pub statuses : heldStatuses (r .statuses) ≡ pick requested l (mergedAll l (statusesOf reports))

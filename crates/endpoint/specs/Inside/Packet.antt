@@ -3,17 +3,17 @@ use mathlib.Core.Bool.{Bool, _&&_, true, false}
 use mathlib.Core.Path.{_≡_}
 use Prim.Native.Nat.{ℕ, _+_, _*_, _^_, suc, _-_, min, _≤_}
 use lib.Dec.{ltb}
-use Rattle.ceilings.specs.Ceilings.{mostPending}
 use Rattle.packing.specs.Packing.{frameCount, decodableLength, decodable}
 use Rattle.history.specs.declared.History.{History}
 use Rattle.history.specs.History.{received, newestOf, Found, foundIn, referenceFrame, above, packetOf}
 use Rattle.setup.specs.declared.Setup.{Setup}
-use Rattle.setup.specs.Setup.{termsOf, receivingWidth, listed}
+use Rattle.setup.specs.Setup.{termsOf, receivingWidth, handleList}
 use Rattle.endpoint.specs.declared.message.packet.Opened.{Opened}
 use mathlib.Core.List.{List}
 use Rattle.base.specs.Pick.{pick}
 use Rattle.events.specs.declared.Entry.{Entry}
-use Rattle.endpoint_rules.specs.Receiving.{announcedEach, discardedBy, reference}
+use Rattle.events.specs.Events.{announcedEach}
+use Rattle.endpoint_rules.specs.Receiving.{discardedBy, tooLongBy, overflowsBy, reference}
 use Rattle.endpoint.specs.declared.message.packet.News.{News}
 use lib.ListN.{length}
 use Rattle.packing.specs.declared.input_bytes.InputBytes.{InputBytes}
@@ -27,15 +27,15 @@ pub record OpenedAs (h : History) (g : Setup) (requested : Bool) (start count le
   pub found : foundOf r ≡ foundIn (referenceFrame start (received h)) (received h)
   pub newest : r .newest ≡ newestOf (received h)
   pub discarded : r .discarded ≡ discardedBy requested count (g .«num_players») start
-  pub long : r .«too_long» ≡ ltb (mostPending * receivingWidth (termsOf g)) length
+  pub long : r .«too_long» ≡ tooLongBy (receivingWidth (termsOf g)) length
   pub readable : r .readable ≡ (r .held && decodableLength (receivingWidth (termsOf g)) length)
-  pub overflows : r .overflows ≡ ltb (2 ^ 32) (start + frameCount (receivingWidth (termsOf g)) length)
+  pub overflows : r .overflows ≡ overflowsBy start (frameCount (receivingWidth (termsOf g)) length)
 
 -- What a packet announces (E-26, E-27).
 
 abbrev pub news : Setup → (newest start : ℕ) → (reference payload : List ℕ) → List Entry
 news g newest start reference payload =
-    announcedEach (g .«input_size») (listed (g .handles)) (above newest (packetOf start (receivingWidth (termsOf g)) reference payload))
+    announcedEach (g .«input_size») (handleList (g .handles)) (above newest (packetOf start (receivingWidth (termsOf g)) reference payload))
 
 -- how many frames are not above the newest
 abbrev pub skipped : (newest start width length : ℕ) → ℕ

@@ -1,24 +1,22 @@
 // The messages of one act, written one after another where there is room for all of them.
-ghost use mathlib.Core.Path.{_≡_};
 ghost use mathlib.Core.List.{[], _∷_};
 ghost use Rattle.base.specs.Pick.{pick};
-ghost use Rattle.status.specs.Statuses.{held};
-ghost use Rattle.codec.specs.Read.{plain};
+ghost use Rattle.status.specs.Statuses.{heldStatuses};
+ghost use Rattle.codec.specs.Read.{bodyOnly};
 ghost use Rattle.pending.specs.Pending.{waiting};
-ghost use Rattle.endpoint_rules.specs.Room.{bufferFull};
-ghost use Rattle.endpoint.specs.Inside.Batch.{reports, SizedWith, WrittenWhere};
+ghost use Rattle.endpoint.specs.Inside.Batch.{dueReports, SizedWith, WrittenWhere};
 use crate::act::due::Due;
+use codec::FIXED_SIZES;
 use codec::MessageBody;
-use codec::SIZES;
 use codec::Wide;
 use pending::Pending;
 use status::Statuses;
 
-fn plain_if(due: bool, out: &mut [u8], at: usize, magic: u16, body: MessageBody) -> usize
-    ensures { λ r. ⌜ WrittenWhere (now (out .entry)) at (pick due (plain magic body ∷ []) []) r (now (out .exit)) ⌝ }
+fn body_only_if(due: bool, out: &mut [u8], at: usize, magic: u16, body: MessageBody) -> usize
+    ensures { λ r. ⌜ WrittenWhere (now (out .entry)) at (pick due (bodyOnly magic body ∷ []) []) r (now (out .exit)) ⌝ }
 {
     if due {
-        let queued = outbox::plain(out, at, magic, body);
+        let queued = outbox::body_only(out, at, magic, body);
         return queued.end;
     }
     at
@@ -26,12 +24,12 @@ fn plain_if(due: bool, out: &mut [u8], at: usize, magic: u16, body: MessageBody)
 
 // The bytes that are due, whatever they are.
 pub(crate) fn size(due: Due, statuses: Statuses, pending: Pending, width: usize) -> usize
-    ensures { λ r. ⌜ SizedWith due (held statuses) (waiting pending) width r ⌝ }
+    ensures { λ r. ⌜ SizedWith due (heldStatuses statuses) (waiting pending) width r ⌝ }
 {
     let input = outbox::input_size(statuses, pending, width);
     numbers::count_if(due.input, input)
-        + numbers::count_if(due.report, SIZES[4])
-        + numbers::count_if(due.keep_alive, SIZES[7])
+        + numbers::count_if(due.report, FIXED_SIZES[4])
+        + numbers::count_if(due.keep_alive, FIXED_SIZES[7])
 }
 
 // Quality report and keepalive, each where it is due; where the queue then ends.
@@ -43,10 +41,10 @@ pub(crate) fn write_reports(
     advantage: u32,
     epoch: u64,
 ) -> usize
-    ensures { λ r. ⌜ WrittenWhere (now (out .entry)) at (reports due magic advantage epoch) r (now (out .exit)) ⌝ }
+    ensures { λ r. ⌜ WrittenWhere (now (out .entry)) at (dueReports due magic advantage epoch) r (now (out .exit)) ⌝ }
 {
     let frame_advantage = quality::clamped(advantage);
-    let reported = plain_if(
+    let reported = body_only_if(
         due.report,
         out,
         at,
@@ -59,5 +57,5 @@ pub(crate) fn write_reports(
             },
         },
     );
-    plain_if(due.keep_alive, out, reported, magic, MessageBody::KeepAlive)
+    body_only_if(due.keep_alive, out, reported, magic, MessageBody::KeepAlive)
 }

@@ -1,11 +1,11 @@
-// What is due in Running, told before any of it is done; and what it does to the clocks, the flags and the events.
+// What is due in Running, found out before any of it is done; and what it does to the clocks, the flags and the events.
 ghost use mathlib.Core.Path.{_≡_};
 ghost use mathlib.Core.Bool.{_||_};
 ghost use Prim.Native.Nat.{_+_, _-_};
 ghost use lib.Dec.{ltb};
 ghost use lib.ListN.{length};
 ghost use Rattle.base.specs.Pick.{pick};
-ghost use Rattle.events.specs.Events.{held, hasRoom, PushedAs};
+ghost use Rattle.events.specs.Events.{heldEvents, hasRoom, PushedAs};
 ghost use Rattle.endpoint.specs.Inside.Due.{dueOf, clocksBy, flagsBy, dueEvents};
 use endpoint_rules::Flags;
 use events::DISCONNECTED;
@@ -65,7 +65,7 @@ pub(crate) fn due_at(
 }
 
 // How many events are due.
-pub(crate) fn told(due: Due) -> usize
+pub(crate) fn event_count(due: Due) -> usize
     ensures { λ r. ⌜ r ≡ pick (due .interruption) 1 0 + pick (due .disconnect) 1 0 ⌝ }
 {
     numbers::count_if(due.interruption, 1) + numbers::count_if(due.disconnect, 1)
@@ -94,8 +94,13 @@ pub(crate) fn flags_after(due: Due, flags: Flags) -> Flags
 }
 
 // Both events in their order; where not all that is due fits, unchanged. What is left of the timeout is announced with an interruption.
-pub(crate) fn tell(events: Events, due: Due, disconnect_timeout: u64, notify_start: u64) -> Pushed
-    ensures { λ r. ⌜ PushedAs events (hasRoom (held events) (length (dueEvents due («disconnect_timeout» - «notify_start»)))) (dueEvents due («disconnect_timeout» - «notify_start»)) r ⌝ }
+pub(crate) fn announce(
+    events: Events,
+    due: Due,
+    disconnect_timeout: u64,
+    notify_start: u64,
+) -> Pushed
+    ensures { λ r. ⌜ PushedAs events (hasRoom (heldEvents events) (length (dueEvents due («disconnect_timeout» - «notify_start»)))) (dueEvents due («disconnect_timeout» - «notify_start»)) r ⌝ }
 {
     let left = numbers::minus(disconnect_timeout, notify_start);
     events.push_both(

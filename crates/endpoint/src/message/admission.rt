@@ -13,7 +13,7 @@ pub struct Door {
     pub answer: Answer,
 }
 
-// Ignored: in Shutdown, from another peer, or stopped by the filter (E-11).
+// Whether a message is ignored (E-11).
 pub(crate) fn is_ignored(phase: Phase, peer: u32, remote_magic: u16, from: u32, magic: u16) -> bool
     ensures { λ r. ⌜ r ≡ ignoredBy phase peer «remote_magic» from magic ⌝ }
 {

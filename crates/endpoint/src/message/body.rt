@@ -1,4 +1,4 @@
-// The fields of a message's body, for a step that goes by the number of its kind: the number tells the body. What a body of another kind gives here is
+// The fields of a message's body, for a step that goes by the number of its kind: the number determines the body. What a body of another kind gives here is
 // looked at by nobody.
 ghost use mathlib.Core.Path.{_≡_};
 ghost use Rattle.codec.specs.Message.{kindOf};

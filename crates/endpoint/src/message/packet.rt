@@ -1,23 +1,21 @@
 // The packet of an Input: the reference that it is packed against, whether it can be read, and its frames that are news.
 ghost use mathlib.Core.Path.{_≡_};
 ghost use mathlib.Core.Bool.{true, _&&_};
-ghost use Prim.Native.Nat.{suc, _+_, _-_, _*_, _^_, _<_, _≤_, min};
+ghost use Prim.Native.Nat.{suc, _+_, _-_, _^_, _<_, _≤_, min};
 ghost use lib.Dec.{ltb};
 ghost use Rattle.base.specs.Pick.{pick};
-ghost use Rattle.ceilings.specs.Ceilings.{mostPending};
 ghost use Rattle.timers.specs.Timers.{inputAt, sentAt};
 ghost use Rattle.packing.specs.Packing.{frameCount, decodableLength};
 ghost use Rattle.setup.specs.Setup.{termsOf, receivingWidth};
-ghost use Rattle.endpoint_rules.specs.Receiving.{discardedBy};
+ghost use Rattle.endpoint_rules.specs.Receiving.{discardedBy, tooLongBy, overflowsBy};
 ghost use Rattle.endpoint_rules.specs.Room.{bufferFull};
 ghost use Rattle.endpoint.specs.Inside.Admission.{WeighedAs};
-ghost use Rattle.endpoint.specs.Inside.Packet.{NewsIf};
-ghost use Rattle.endpoint.specs.Inside.Packet.{OpenedAs};
+ghost use Rattle.endpoint.specs.Inside.Packet.{NewsIf, OpenedAs};
 use crate::message::admission;
 use crate::message::admission::Door;
 use crate::room;
 use ceilings::MOST_PENDING;
-use codec::SIZES;
+use codec::FIXED_SIZES;
 use frame::BIAS32;
 use frame::FRAMES;
 use history::History;
@@ -52,7 +50,7 @@ fn is_discarded(disconnect_requested: bool, count: usize, players: u32, start_fr
 
 // Whether a payload has more frames than may be pending at the other end.
 fn is_too_long(setup: Setup, length: usize) -> bool
-    ensures { λ r. ⌜ r ≡ ltb (mostPending * receivingWidth (termsOf setup)) length ⌝ }
+    ensures { λ r. ⌜ r ≡ tooLongBy (receivingWidth (termsOf setup)) length ⌝ }
 {
     MOST_PENDING * setup.receiving_width() < length
 }
@@ -69,7 +67,7 @@ fn is_readable(held: bool, length: usize, width: usize) -> bool
 
 // Whether the last of some frames would have no number.
 fn overflows(start_frame: u32, count: usize) -> bool
-    ensures { λ r. ⌜ r ≡ ltb (2 ^ 32) («start_frame» + count) ⌝ }
+    ensures { λ r. ⌜ r ≡ overflowsBy «start_frame» count ⌝ }
 {
     FRAMES - (start_frame as usize) < count
 }
@@ -152,7 +150,7 @@ pub(crate) fn news_of(
 pub(crate) fn admit(opened: Opened, len: usize, queued: usize) -> Door
     ensures { λ r. ⌜ WeighedAs (opened .«too_long») (opened .readable && opened .overflows) (bufferFull len queued (pick (opened .readable) 10 0)) r ⌝ }
 {
-    let size = numbers::count_if(opened.readable, SIZES[3]);
+    let size = numbers::count_if(opened.readable, FIXED_SIZES[3]);
     let full = room::buffer_full(len, queued, size);
     admission::weigh(opened.too_long, opened.readable & opened.overflows, full)
 }

@@ -3,7 +3,7 @@ ghost use Rattle.endpoint.specs.Inside.Reaction.{ReactedAs};
 use codec::MessageBody;
 use quality::Quality;
 
-// The plain parts of an endpoint that such a message may change; where not all that it brings has room, told so.
+// The plain parts of an endpoint that such a message may change; `ok` says whether all that it brings has room.
 pub struct Reacted {
     pub quality: Quality,
     pub last_send_time: u64,
@@ -11,7 +11,7 @@ pub struct Reacted {
     pub ok: bool,
 }
 
-// By the number of its kind. `full`: what it tells has no room.
+// By the number of its kind. `full`: what it announces has no room.
 pub(crate) fn react(
     body: MessageBody,
     full: bool,
@@ -39,7 +39,7 @@ pub(crate) fn react(
             let MessageBody::SyncRequest { random_request } = body else {
                 return noted;
             };
-            let replied = outbox::plain(
+            let replied = outbox::body_only(
                 out,
                 queued,
                 magic,
@@ -62,7 +62,7 @@ pub(crate) fn react(
             else {
                 return noted;
             };
-            let replied = outbox::plain(
+            let replied = outbox::body_only(
                 out,
                 queued,
                 magic,
@@ -85,6 +85,7 @@ pub(crate) fn react(
                 ..noted
             }
         }
+        // KeepAlive; no other kind comes here.
         _ => noted,
     }
 }

@@ -4,7 +4,7 @@ use Prim.Native.Nat.{_-_}
 use native.Mathlib.Omega.{arith}
 use lib.ListN.{length, drop}
 use Rattle.text.specs.Page.{page, writtenAll}
-use Rattle.events.specs.Events.{held, blankEntry}
+use Rattle.events.specs.Events.{heldEvents, blankEntry}
 use Rattle.event_line.specs.Lines.{eachOf}
 use Rattle.event_line.proofs.EachLaws.{turn, all-laid}
 use Rattle.event_line.proofs.each.Statement.{statement}
@@ -13,7 +13,7 @@ use Rattle.event_line.proofs.each.Tie as tie
 abbrev Inv-loop : tie.InvT-loop
 Inv-loop out₀ at name events size n end₀ i₀ out end i =
     (length out ≡ length out₀)
-    × (writtenAll (eachOf name size (drop i (held events))) (page out end) ≡ writtenAll (eachOf name size (held events)) (page out₀ at))
+    × (writtenAll (eachOf name size (drop i (heldEvents events))) (page out end) ≡ writtenAll (eachOf name size (heldEvents events)) (page out₀ at))
 
 abbrev μ-loop : tie.MeasureT-loop
 μ-loop out₀ at name events size n end₀ i₀ out end i = n - i
@@ -52,7 +52,7 @@ loop-again c =
     let after-entry : tie.After-entry Inv-loop μ-loop = search in
     let e = after-entry .entry .ensures in
     let line = rw (after-named .named .ensures .text, e) at (after-lay-into .lay-into .ensures) in
-    (after-lay-into .lay-into .kept .1 .0 ∙ l .inv .0, turn (a .name) (a .size) (held (a .events)) (l .i) blankEntry _ _ (omega arith) line ∙ l .inv .1)
+    (after-lay-into .lay-into .kept .1 .0 ∙ l .inv .0, turn (a .name) (a .size) (heldEvents (a .events)) (l .i) blankEntry _ _ (omega arith) line ∙ l .inv .1)
 
 same-length : tie.Need-same-length Inv-loop μ-loop
 same-length c = c .before .loop .inv .0
@@ -64,7 +64,7 @@ returns c =
     let n = after-count .count .ensures in
     let start : tie.Start Inv-loop μ-loop = search in
     let a = start .args in
-    sym (all-laid (a .name) (a .size) (held (a .events)) (l .i) (page (l .out) (l .end)) (omega arith)) ∙ l .inv .1
+    sym (all-laid (a .name) (a .size) (heldEvents (a .events)) (l .i) (page (l .out) (l .end)) (omega arith)) ∙ l .inv .1
 
 pub each-spec : {M : Type 1} → statement M
 each-spec =

@@ -1,7 +1,7 @@
 -- `lines` lays one line where there is no event, and else each.
 use borrow.Author.Needs.{needs}
 use mathlib.Core.Path.{sym, _∙_}
-use Rattle.events.specs.Events.{held}
+use Rattle.events.specs.Events.{heldEvents}
 use Rattle.event_line.proofs.EachLaws.{none-lines, some-lines}
 use Rattle.event_line.proofs.lines.Statement.{statement}
 use Rattle.event_line.proofs.lines.Tie as tie
@@ -27,7 +27,7 @@ returns c =
     let a = start .args in
     let after-count : tie.After-count = search in
     let n = after-count .count .ensures in
-    none-lines (a .name) (a .size) (held (a .events)) _ _ (sym n ∙ then1 .if1 .taken)
+    none-lines (a .name) (a .size) (heldEvents (a .events)) _ _ (sym n ∙ then1 .if1 .taken)
     (rw (after-none .none .ensures .text) at (after-lay-into .lay-into .ensures))
 
 each-requires : tie.Need-each-requires
@@ -44,7 +44,7 @@ returns-2 c =
     let a = start .args in
     let after-count : tie.After-count = search in
     let n = after-count .count .ensures in
-    rw (some-lines (a .name) (a .size) (held (a .events)) (λ e. else1 .if1 .left (n ∙ e))) at (after-each .each .ensures)
+    rw (some-lines (a .name) (a .size) (heldEvents (a .events)) (λ e. else1 .if1 .left (n ∙ e))) at (after-each .each .ensures)
 
 pub lines-spec : {M : Type 1} → statement M
 lines-spec =

@@ -6,13 +6,13 @@ use Prim.Native.Nat.{_-_, _≤_}
 use native.Mathlib.Omega.{arith}
 use lib.ListN.{length, take, drop}
 use Rattle.base.proofs.Arrays.{lay-turn}
-use Rattle.events.proofs.Laws.{zeros, zeros-length, part-length, part-at, entry-is}
+use Rattle.events.proofs.Laws.{noInput, no-input-length, part-length, part-at, entry-is}
 use Rattle.events.proofs.input_entry.Statement.{statement}
 use Rattle.events.proofs.input_entry.Tie as tie
 
 abbrev Inv-loop : tie.InvT-loop
 Inv-loop frame player at size bytes n input₀ i₀ input i =
-    (i ≤ n) × (n ≤ 16) × (n ≤ size) × (n ≤ 64 - at) × (length bytes ≡ 64) × (input ≡ take i (take size (drop at bytes)) ++ drop i zeros)
+    (i ≤ n) × (n ≤ 16) × (n ≤ size) × (n ≤ 64 - at) × (length bytes ≡ 64) × (input ≡ take i (take size (drop at bytes)) ++ drop i noInput)
 
 abbrev μ-loop : tie.MeasureT-loop
 μ-loop frame player at size bytes n input₀ i₀ input i = n - i
@@ -27,7 +27,7 @@ least-requires-2 : tie.Need-least-requires-2 Inv-loop μ-loop
 least-requires-2 c κs = search needs
 
 loop-holds : tie.Need-loop-holds Inv-loop μ-loop
-unfolding zeros
+unfolding noInput
 loop-holds c = (omega arith, omega arith, omega arith, omega arith, search needs, refl)
 
 add-input : tie.Need-add-input Inv-loop μ-loop
@@ -49,7 +49,7 @@ loop-again : tie.Need-loop-again Inv-loop μ-loop
 loop-again c =
     let l = c .before .loop in
     let a = c .before .before .before .before .args in
-    let z = zeros-length in
+    let z = no-input-length in
     let p = part-length (a .t3) (a .at) (a .size) in
     let e = part-at (a .t3) (a .at) (a .size) (l .i) (omega arith) in (
       omega arith,
@@ -57,7 +57,7 @@ loop-again c =
       l .inv .2,
       l .inv .3,
       l .inv .4,
-      rw (l .inv .5, ← e, lay-turn (take (a .size) (drop (a .at) (a .t3))) zeros (l .i) 0 (omega arith) (omega arith)),
+      rw (l .inv .5, ← e, lay-turn (take (a .size) (drop (a .at) (a .t3))) noInput (l .i) 0 (omega arith) (omega arith)),
     )
 
 returns : tie.Need-returns Inv-loop μ-loop

@@ -13,7 +13,7 @@ use Rattle.base.specs.First.{firstOf}
 use Rattle.answer.specs.Number.{numberOf}
 use Rattle.answer.specs.declared.Answer.{Answer}
 use Rattle.answer.specs.declared.Answer.the-variants.{Done}
-use Rattle.status.specs.Statuses.{held as heldStatuses}
+use Rattle.status.specs.Statuses.{heldStatuses}
 use Rattle.setup.specs.Setup.{termsWith}
 use Rattle.endpoint.specs.Endpoint.{seen as seenHost}
 use Rattle.spectator_rules.specs.declared.Limits.{Limits}
@@ -24,7 +24,7 @@ use Rattle.spectator_rules.specs.Step.{step, advanceStep, decided, refused, cha
 use Rattle.spectator.specs.declared.SpectatorSession.{SpectatorSession}
 use Rattle.spectator.specs.declared.advancing.Advanced.{Advanced}
 use Rattle.spectator.specs.declared.requests.Requests.{Requests}
-use Rattle.spectator.specs.Stores.{inputsOf, framesOf}
+use Rattle.spectator.specs.Stores.{inputsOf, requestFrames}
 use Rattle.spectator.specs.Session.{seen}
 use Rattle.spectator.specs.Inside.Requests.{requestsIn, refusalsIn, framesFor}
 use Rattle.spectator.specs.Answers.{AdvancedAs}
@@ -85,7 +85,7 @@ module _ (s : SpectatorSession) where
   step-done h = rw (eq-eqb (advanceRefusal (seen s)) 0 h)
 
   refused-by : (a : Answer) → numberOf a ≡ advanceRefusal (seen s) → (numberOf a ≡ 0 → ⊥)
-      → (r : Advanced) → (r .answer ≡ a) × (framesOf (r .requests) ≡ []) × (r .session ≡ s) → AdvancedAs s r
+      → (r : Advanced) → (r .answer ≡ a) × (requestFrames (r .requests) ≡ []) × (r .session ≡ s) → AdvancedAs s r
   unfolding refused
   refused-by a h n r er =
       let k : advanceRefusal (seen s) ≡ 0 → ⊥ = λ e. n (h ∙ e) in
@@ -97,7 +97,7 @@ module _ (s : SpectatorSession) where
       }
 
   pub refused-early : (a : Answer) → numberOf a ≡ firstOf (advanceRefusals (seen s)) → (numberOf a ≡ 0 → ⊥)
-      → (r : Advanced) → (r .answer ≡ a) × (framesOf (r .requests) ≡ []) × (r .session ≡ s) → AdvancedAs s r
+      → (r : Advanced) → (r .answer ≡ a) × (requestFrames (r .requests) ≡ []) × (r .session ≡ s) → AdvancedAs s r
   unfolding advanceRefusal
   refused-early a h n = refused-by a (h ∙ rw (ne-eqb (firstOf (advanceRefusals (seen s))) 0 (λ e. n (h ∙ e)))) n
 
@@ -107,11 +107,11 @@ module _ (s : SpectatorSession) where
     past = rw (eq-eqb (firstOf (advanceRefusals (seen s))) 0 free)
 
     pub refused-late : (a : Answer) → numberOf a ≡ framesRefusal (framesToAdvance (seen s)) (suc (seen s .current)) (seen s) → (numberOf a ≡ 0 → ⊥)
-        → (r : Advanced) → (r .answer ≡ a) × (framesOf (r .requests) ≡ []) × (r .session ≡ s) → AdvancedAs s r
+        → (r : Advanced) → (r .answer ≡ a) × (requestFrames (r .requests) ≡ []) × (r .session ≡ s) → AdvancedAs s r
     refused-late a h n = refused-by a (h ∙ sym past) n
 
     pub advances : (a : Answer) → a ≡ Done → numberOf a ≡ framesRefusal (framesToAdvance (seen s)) (suc (seen s .current)) (seen s)
-        → (n : ℕ) → n ≡ framesToAdvance (seen s) → (q : Requests) → framesOf q ≡ requestsOf (seen s)
+        → (n : ℕ) → n ≡ framesToAdvance (seen s) → (q : Requests) → requestFrames q ≡ requestsOf (seen s)
         → AdvancedAs s (record {
           answer = a;
           requests = q;

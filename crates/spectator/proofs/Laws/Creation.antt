@@ -10,7 +10,7 @@ use Rattle.frame.specs.Bias.{nullFrame}
 use Rattle.answer.specs.Number.{numberOf}
 use Rattle.answer.specs.declared.Answer.{Answer}
 use Rattle.status.specs.declared.list.Statuses.{Statuses}
-use Rattle.status.specs.Statuses.{held as heldStatuses, fresh as freshStatuses}
+use Rattle.status.specs.Statuses.{heldStatuses, defaultStatuses}
 use Rattle.setup.specs.Setup.{badSetup}
 use Rattle.timers.specs.Timers.{badClock}
 use Rattle.endpoint_rules.specs.Step.{fresh as hostFresh}
@@ -38,7 +38,7 @@ module _ (g : SessionSetup) (now : ℕ) where
   pub makes : (e : HostEnded) → HostMadeAs (hostSetup g) now e
       → (a : Answer) → numberOf a ≡ pick (eqb (numberOf (e .answer)) 0) (pick (badLimits (g .limits)) 1 0) (numberOf (e .answer))
       → (inputs : Inputs) → inputsOf inputs ≡ freshInputs (g .limits .slots)
-      → (statuses : Statuses) → heldStatuses statuses ≡ freshStatuses (g .«num_players»)
+      → (statuses : Statuses) → heldStatuses statuses ≡ defaultStatuses (g .«num_players»)
       → (events : SessionEvents) → eventsOf events ≡ []
       → MadeAs g now (record {
         answer = a;

@@ -1,6 +1,5 @@
 -- What the getters show, and what taking the events leaves.
 use mathlib.Core.Bool.{Bool, true, false}
-use mathlib.Core.List.{[]}
 use mathlib.Core.Path.{_≡_, refl, ap, _∙_}
 use Prim.Native.Nat.{ℕ, _-_}
 use lib.Dec.{eqb}
@@ -20,11 +19,10 @@ use Rattle.spectator_rules.specs.Call.{Call}
 use Rattle.spectator_rules.specs.Step.{step, byHost, decided, refused, framesBehindStep}
 use Rattle.spectator_rules.specs.Value.{Value, valueOf}
 use Rattle.spectator.specs.declared.SpectatorSession.{SpectatorSession}
-use Rattle.spectator.specs.declared.session_events.SessionEvents.{SessionEvents}
 use Rattle.spectator.specs.declared.getters.FramesBehind.the-variants.{Frames, Overflow}
 use Rattle.spectator.specs.Stores.{eventsOf}
 use Rattle.spectator.specs.Session.{seen}
-use Rattle.spectator.specs.Answers.{told, shownStats, shownBehind, TakenAs}
+use Rattle.spectator.specs.Answers.{shown, shownStats, shownBehind, TakenAs}
 
 -- the host's values that its statistics are shown as, as the session's
 abbrev carriedOver : HostValue → Value
@@ -39,29 +37,29 @@ carriedOver (HostValue.frame x) = Value.nothing
 carriedOver (HostValue.phase x) = Value.nothing
 carriedOver (HostValue.checksums x) = Value.nothing
 
-abbrev toldOver : ℕ × HostValue → ℕ × Value
-toldOver x = (x .0, carriedOver (x .1))
+abbrev shownOver : ℕ × HostValue → ℕ × Value
+shownOver x = (x .0, carriedOver (x .1))
 
-shown-over : (r : StatsResult) → shownStats r ≡ toldOver (shownHostStats r)
+shown-over : (r : StatsResult) → shownStats r ≡ shownOver (shownHostStats r)
 shown-over (Stats x) = refl
 shown-over (Refused a) = refl
 
-told-over : (b : Bool) (n : ℕ) (x : NetworkStats) → toldOver (n, pick b (HostValue.stats x) HostValue.nothing) ≡ (n, pick b (Value.stats x) Value.nothing)
-told-over true n x = refl
-told-over false n x = refl
+picked-over : (b : Bool) (n : ℕ) (x : NetworkStats) → shownOver (n, pick b (HostValue.stats x) HostValue.nothing) ≡ (n, pick b (Value.stats x) Value.nothing)
+picked-over true n x = refl
+picked-over false n x = refl
 
 module _ (s : SpectatorSession) where
-  pub tells-state : Value.state (s .state) ≡ valueOf Call.currentState (seen s)
+  pub shows-state : Value.state (s .state) ≡ valueOf Call.currentState (seen s)
   unfolding valueOf seen
-  tells-state = refl
+  shows-state = refl
 
-  pub tells-frame : Value.frame (s .«current_frame») ≡ valueOf Call.currentFrame (seen s)
+  pub shows-frame : Value.frame (s .«current_frame») ≡ valueOf Call.currentFrame (seen s)
   unfolding valueOf seen
-  tells-frame = refl
+  shows-frame = refl
 
-  pub tells-players : Value.count (s .host .setup .«num_players») ≡ valueOf Call.numPlayers (seen s)
+  pub shows-players : Value.count (s .host .setup .«num_players») ≡ valueOf Call.numPlayers (seen s)
   unfolding valueOf seen seenHost termsWith
-  tells-players = refl
+  shows-players = refl
 
   pub takes-events : TakenAs s (record {
     session = record { host = s .host; limits = s .limits; state = s .state; inputs = s .inputs; statuses = s .statuses; events = record { entries = s .events .entries; used = 0 }; «current_frame» = s .«current_frame»; «last_recv_frame» = s .«last_recv_frame» };
@@ -71,17 +69,17 @@ module _ (s : SpectatorSession) where
   takes-events = record { events = refl; after = refl }
 
   -- how far behind
-  pub behind-overflow : differenceOverflows (s .«last_recv_frame») (s .«current_frame») ≡ true → shownBehind Overflow ≡ told Call.framesBehindHost (seen s)
-  unfolding told step framesBehindStep decided refused seen
+  pub behind-overflow : differenceOverflows (s .«last_recv_frame») (s .«current_frame») ≡ true → shownBehind Overflow ≡ shown Call.framesBehindHost (seen s)
+  unfolding shown step framesBehindStep decided refused seen
   behind-overflow h = rw h
 
-  pub behind-told : (n : ℕ) → differenceOverflows (s .«last_recv_frame») (s .«current_frame») ≡ false → n ≡ s .«last_recv_frame» - s .«current_frame»
-      → shownBehind (Frames n) ≡ told Call.framesBehindHost (seen s)
-  unfolding told step framesBehindStep decided valueOf seen
-  behind-told n h e = rw (h, e)
+  pub behind-shown : (n : ℕ) → differenceOverflows (s .«last_recv_frame») (s .«current_frame») ≡ false → n ≡ s .«last_recv_frame» - s .«current_frame»
+      → shownBehind (Frames n) ≡ shown Call.framesBehindHost (seen s)
+  unfolding shown step framesBehindStep decided valueOf seen
+  behind-shown n h e = rw (h, e)
 
-  pub tells-stats : (epoch : ℕ) (r : StatsResult) → shownHostStats r ≡ hostShown (HostCall.networkStats epoch) (seenHost (s .host))
-      → shownStats r ≡ told (Call.networkStats epoch) (seen s)
-  unfolding told step byHost valueOf seen hostShown hostStep hostValueOf
-  tells-stats epoch r h =
-      shown-over r ∙ ap toldOver h ∙ told-over (eqb (statsStep epoch (seenHost (s .host)) .answer) 0) (statsStep epoch (seenHost (s .host)) .answer) (statsOf (seenHost (s .host)))
+  pub shows-stats : (epoch : ℕ) (r : StatsResult) → shownHostStats r ≡ hostShown (HostCall.networkStats epoch) (seenHost (s .host))
+      → shownStats r ≡ shown (Call.networkStats epoch) (seen s)
+  unfolding shown step byHost valueOf seen hostShown hostStep hostValueOf
+  shows-stats epoch r h =
+      shown-over r ∙ ap shownOver h ∙ picked-over (eqb (statsStep epoch (seenHost (s .host)) .answer) 0) (statsStep epoch (seenHost (s .host)) .answer) (statsOf (seenHost (s .host)))

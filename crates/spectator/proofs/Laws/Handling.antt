@@ -20,7 +20,7 @@ use Rattle.quality.specs.declared.Advantage.the-variants.{Frames, Overflow}
 use Rattle.quality.specs.Quality.{localSet}
 use Rattle.quality.specs.Advantage.{advantageOf, advantageOverflows, shownAdvantage}
 use Rattle.status.specs.declared.list.Statuses.{Statuses}
-use Rattle.status.specs.Statuses.{held as heldStatuses}
+use Rattle.status.specs.Statuses.{heldStatuses}
 use Rattle.endpoint_rules.specs.Seen.{Seen, withQuality}
 use Rattle.endpoint_rules.specs.Did.{refused, decided}
 use Rattle.endpoint_rules.specs.Sending.{newest}
@@ -30,7 +30,7 @@ use Rattle.spectator_rules.specs.declared.SessionEvent.{SessionEvent}
 use Rattle.spectator_rules.specs.declared.SessionEvent.the-variants as SessionEvent
 use Rattle.spectator_rules.specs.Inputs.{inputStored}
 use Rattle.spectator_rules.specs.Watch.{Watch}
-use Rattle.spectator_rules.specs.Handling.{toldTo, tell, inputHandled, onEvent, handled, handledAll}
+use Rattle.spectator_rules.specs.Handling.{eventAdded, announce, inputHandled, onEvent, handled, handledAll}
 use Rattle.spectator.specs.declared.handling.Terms.{Terms}
 use Rattle.spectator.specs.declared.handling.Parts.{Parts}
 use Rattle.spectator.specs.declared.inputs.Inputs.{Inputs}
@@ -55,22 +55,22 @@ module _ (n fps frame : ℕ) (q : Quality) where
   abbrev Ahead : ℕ
   Ahead = advantageOf n (q .«round_trip_time») fps frame
 
-  overflow-told : (b : Bool) (m : ℕ) → _≡_ {A = ℕ × ℕ} (6, 0) (pick b (6, 0) (0, m)) → b ≡ true
-  overflow-told true m e = refl
-  overflow-told false m e = absurd (omega (arith, ap (λ (x : ℕ × ℕ). x .0) e))
+  overflow-known : (b : Bool) (m : ℕ) → _≡_ {A = ℕ × ℕ} (6, 0) (pick b (6, 0) (0, m)) → b ≡ true
+  overflow-known true m e = refl
+  overflow-known false m e = absurd (omega (arith, ap (λ (x : ℕ × ℕ). x .0) e))
 
-  frames-told : (b : Bool) (m k : ℕ) → _≡_ {A = ℕ × ℕ} (0, k) (pick b (6, 0) (0, m)) → (b ≡ false) × (k ≡ m)
-  frames-told true m k e = absurd (omega (arith, ap (λ (x : ℕ × ℕ). x .0) e))
-  frames-told false m k e = (refl, ap (λ (x : ℕ × ℕ). x .1) e)
+  frames-known : (b : Bool) (m k : ℕ) → _≡_ {A = ℕ × ℕ} (0, k) (pick b (6, 0) (0, m)) → (b ≡ false) × (k ≡ m)
+  frames-known true m k e = absurd (omega (arith, ap (λ (x : ℕ × ℕ). x .0) e))
+  frames-known false m k e = (refl, ap (λ (x : ℕ × ℕ). x .1) e)
 
   module _ (known : frame ≡ nullFrame → ⊥) (some : n ≡ nullFrame → ⊥) where
     pub quality-kept : shownAdvantage Overflow ≡ pick Overflows (6, 0) (0, Ahead) → q ≡ qualityAfter n fps frame q
     unfolding qualityAfter
-    quality-kept h = rw (ne-eqb frame nullFrame known, ne-eqb n nullFrame some, overflow-told Overflows Ahead h)
+    quality-kept h = rw (ne-eqb frame nullFrame known, ne-eqb n nullFrame some, overflow-known Overflows Ahead h)
 
     pub quality-set : (m : ℕ) (y : Quality) → shownAdvantage (Frames m) ≡ pick Overflows (6, 0) (0, Ahead) → y ≡ localSet m q → y ≡ qualityAfter n fps frame q
     unfolding qualityAfter
-    quality-set m y h e = rw (ne-eqb frame nullFrame known, ne-eqb n nullFrame some, frames-told Overflows Ahead m h .0, e, frames-told Overflows Ahead m h .1)
+    quality-set m y h e = rw (ne-eqb frame nullFrame known, ne-eqb n nullFrame some, frames-known Overflows Ahead m h .0, e, frames-known Overflows Ahead m h .1)
 
 -- a refusal 6 leaves the host as it was
 taken-by : (known overflows : Bool) (s : Seen) (q : Quality)
@@ -89,9 +89,9 @@ advantage-after frame s =
 -- ---- one event
 
 module _ (t : Terms) (p : Parts) where
-  pub announce-changes : (x : SessionEvent) (events : SessionEvents) → eventsOf events ≡ toldTo (t .limits .«session_events») (record { addr = t .addr; event = x }) (eventsOf (p .events))
-      → ChangedAs t (tell x) p (record { state = p .state; inputs = p .inputs; statuses = p .statuses; events = events; «last_recv_frame» = p .«last_recv_frame»; quality = p .quality })
-  unfolding tell
+  pub announce-changes : (x : SessionEvent) (events : SessionEvents) → eventsOf events ≡ eventAdded (t .limits .«session_events») (record { addr = t .addr; event = x }) (eventsOf (p .events))
+      → ChangedAs t (announce x) p (record { state = p .state; inputs = p .inputs; statuses = p .statuses; events = events; «last_recv_frame» = p .«last_recv_frame»; quality = p .quality })
+  unfolding announce
   announce-changes x events h = record { each = λ w k. rw (h, k .limits, k .addr) }
 
   pub store-changes : (frame player : ℕ) (input : List ℕ) (inputs : Inputs) (quality : Quality) (statuses : Statuses)
@@ -108,7 +108,7 @@ module _ (t : Terms) (p r : Parts) where
   unfolding handled
   by-kind x v e h = record { each = λ w k. rw e (h .each w k) }
 
-  pub by-running : (q : Parts) (input : List ℕ) → q ≡ runningParts p → ChangedAs t (tell SessionEvent.Synchronized) q r → ChangedAs t (onEvent Event.Synchronized input) p r
+  pub by-running : (q : Parts) (input : List ℕ) → q ≡ runningParts p → ChangedAs t (announce SessionEvent.Synchronized) q r → ChangedAs t (onEvent Event.Synchronized input) p r
   by-running q input e h = record { each = λ w k. h .each w k ∙ rw e }
 
 -- ---- all events

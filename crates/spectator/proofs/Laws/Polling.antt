@@ -20,8 +20,8 @@ use Rattle.codec.specs.Bytes.{queueOf}
 use Rattle.codec.specs.declared.MessageBody.{MessageBody}
 use Rattle.codec.specs.declared.MessageBody.the-variants.{SyncRequest, SyncReply, Input, InputAck, QualityReport, QualityReply, ChecksumReport, KeepAlive}
 use Rattle.events.specs.declared.Events.{Events}
-use Rattle.events.specs.Events.{held}
-use Rattle.outbox.specs.Outbox.{sizes}
+use Rattle.events.specs.Events.{heldEvents}
+use Rattle.outbox.specs.Outbox.{queueSize}
 use Rattle.endpoint_rules.specs.Seen.{Seen, isShutdown, withEvents, withQueued}
 use Rattle.endpoint_rules.specs.Did.{Did as HostDid, Effect, begin, done, refused as hostRefused, decided as hostDecided}
 use Rattle.endpoint_rules.specs.Room.{eventsFull, bufferFull, isFull}
@@ -41,17 +41,17 @@ use Rattle.spectator_rules.specs.Handling.{handledAll}
 use Rattle.spectator_rules.specs.Call.{Call}
 use Rattle.spectator_rules.specs.Step.{step, refused, decided, hostActs, hostTakes, pollRefusal, polled, pollStep}
 use Rattle.status.specs.declared.list.Statuses.{Statuses}
-use Rattle.status.specs.Statuses.{held as heldStatuses, HeldAs}
+use Rattle.status.specs.Statuses.{heldStatuses, HeldAs}
 use Rattle.spectator.specs.declared.SpectatorSession.{SpectatorSession}
 use Rattle.spectator.specs.declared.polling.Polled.{Polled}
 use Rattle.spectator.specs.Session.{seen, hosted}
 use Rattle.spectator.specs.Answers.{polledPart, PolledAs, TakenInAs}
 use Rattle.spectator.proofs.Laws.Handling.{handled-append}
 
--- the frame that `last_recv_frame` tells
-pub newest-told : (e : Endpoint) (n : ℕ) → HostValue.frame n ≡ hostValueOf (HostCall.ask HostQuestion.newestFrame) (seenHost e) → n ≡ newest (seenHost e)
+-- the frame that `last_recv_frame` gives
+pub newest-shown : (e : Endpoint) (n : ℕ) → HostValue.frame n ≡ hostValueOf (HostCall.ask HostQuestion.newestFrame) (seenHost e) → n ≡ newest (seenHost e)
 unfolding hostValueOf
-newest-told e n h = cc
+newest-shown e n h = cc
 
 -- ---- taking messages does not look at events
 
@@ -95,7 +95,7 @@ module _ (s : SpectatorSession) (old : Events) (acted : Endpoint) (buffer : List
   unfolding hostStep
   apart = en .after
 
-  news : held (new .events) ≡ seenHost acted .events
+  news : heldEvents (new .events) ≡ seenHost acted .events
   unfolding hostValueOf
   news = let e = en .events in cc
 
@@ -105,7 +105,7 @@ module _ (s : SpectatorSession) (old : Events) (acted : Endpoint) (buffer : List
     number = et .answer ∙ rw apart (take-answer (length buffer) (seenHost acted))
 
     pub take-in-refused : (r : Polled) → (r .answer ≡ taken .answer) × (r .session ≡ s) × (r .filled ≡ 0) → (numberOf (taken .answer) ≡ 0 → ⊥)
-        → TakenInAs s (held old) (seenHost acted) (length buffer) r
+        → TakenInAs s (heldEvents old) (seenHost acted) (length buffer) r
     take-in-refused r er n =
         let k : takeStep (length buffer) (seenHost acted) .answer ≡ 0 → ⊥ = λ z. n (number ∙ z) in
         record {
@@ -116,15 +116,15 @@ module _ (s : SpectatorSession) (old : Events) (acted : Endpoint) (buffer : List
         }
 
     pub take-in-done : (part : List ℕ) → part ≡ take (handedBack (length buffer) (seenHost (new .endpoint))) buffer → taken .answer ≡ Done
-        → (mid last : SpectatorSession) → seen mid ≡ handledAll (held old) (seen (hosted s (taken .endpoint))) → seen last ≡ handledAll (held (new .events)) (seen mid)
-        → TakenInAs s (held old) (seenHost acted) (length buffer) (record { answer = taken .answer; session = last; filled = length part })
+        → (mid last : SpectatorSession) → seen mid ≡ handledAll (heldEvents old) (seen (hosted s (taken .endpoint))) → seen last ≡ handledAll (heldEvents (new .events)) (seen mid)
+        → TakenInAs s (heldEvents old) (seenHost acted) (length buffer) (record { answer = taken .answer; session = last; filled = length part })
     unfolding seen hostStep handedBack filledPart
     take-in-done part ep d mid last em el =
         let z : takeStep (length buffer) (seenHost acted) .answer ≡ 0 = sym number ∙ ap numberOf d in
         let f : handedBack (length buffer) (seenHost (new .endpoint)) ≤ length buffer = handed-fits (length buffer) (seenHost (new .endpoint)) in
         record {
           answer = number;
-          done = λ _. el ∙ rw (em, news, et .after, apart, take-after (length buffer) (seenHost acted)) (sym (handled-append (held old) (seenHost acted .events) _));
+          done = λ _. el ∙ rw (em, news, et .after, apart, take-after (length buffer) (seenHost acted)) (sym (handled-append (heldEvents old) (seenHost acted .events) _));
           filled = ap length ep ∙ length-take-le _ buffer f ∙ rw (apart, take-answer (length buffer) (seenHost acted), z);
           same = λ n. absurd (n z);
         }
@@ -142,8 +142,8 @@ some-bytes (QualityReply x) n p = omega arith
 some-bytes (ChecksumReport x y) n p = omega arith
 some-bytes KeepAlive n p = omega arith
 
-no-bytes : (ws : List Wire) → sizes ws ≡ 0 → ws ≡ []
-unfolding sizes
+no-bytes : (ws : List Wire) → queueSize ws ≡ 0 → ws ≡ []
+unfolding queueSize
 no-bytes [] e = refl
 no-bytes (w ∷ ws) e = absurd (omega (arith, some-bytes (w .body) (length (w .reports)) (length (w .payload))))
 
@@ -212,9 +212,9 @@ module _ (now epoch nonce : ℕ) (buffer : ℕ) (w : Watch) where
   unfolding hostActs actStep
   act-done h = not-refused buffer Apart Effects (badClocks now epoch) (badStatuses (length (w .statuses)) Apart) (requestChoked (w .host .phase) now nonce Apart) (isFull buffer Effects) h
 
-  room : isFull buffer Effects ≡ false → bufferFull buffer (Effects .state .queued) (sizes (Effects .out)) ≡ false
+  room : isFull buffer Effects ≡ false → bufferFull buffer (Effects .state .queued) (queueSize (Effects .out)) ≡ false
   unfolding isFull
-  room h = or-right (eventsFull (Effects .state .events) (Effects .events)) (bufferFull buffer (Effects .state .queued) (sizes (Effects .out))) h
+  room h = or-right (eventsFull (Effects .state .events) (Effects .events)) (bufferFull buffer (Effects .state .queued) (queueSize (Effects .out))) h
 
   nothing-taken : Acts .answer ≡ 0 → (takeStep buffer (Acts .after) .answer ≡ 0 → ⊥) → Acts .out ≡ []
   unfolding done
@@ -222,7 +222,7 @@ module _ (now epoch nonce : ℕ) (buffer : ℕ) (w : Watch) where
       let e = act-done h in
       let k : takeStep buffer (done Effects .after) .answer ≡ 0 → ⊥ = λ z. n (rw (e .0) z) in
       let l = take-short buffer (done Effects .after) k in
-      let m : sizes (Effects .out) ≡ 0 = none-left buffer (Effects .state .queued) (sizes (Effects .out)) (room (e .1)) l in
+      let m : queueSize (Effects .out) ≡ 0 = none-left buffer (Effects .state .queued) (queueSize (Effects .out)) (room (e .1)) l in
       rw (e .0) (no-bytes (Effects .out) m)
 
 -- ---- the poll's ways out
@@ -258,7 +258,7 @@ module _ (s : SpectatorSession) (now epoch nonce : ℕ) (buffer buffer′ : List
 
   module _ (old : TakenEvents) (eo : TakenAs (s .host) old) (c : Statuses) (ec : HeldAs (heldStatuses (s .statuses)) (length (heldStatuses (s .statuses))) c) (acts : HostEnded)
       (ea : HostDidAs (old .endpoint) (hostStep (HostCall.act (c .count) (heldStatuses c) now epoch nonce (length buffer)) (seenHost (old .endpoint))) buffer acts buffer′) where
-    olds : held (old .events) ≡ seen s .host .events
+    olds : heldEvents (old .events) ≡ seen s .host .events
     unfolding hostValueOf seen
     olds = let e = eo .events in cc
 
@@ -293,7 +293,7 @@ module _ (s : SpectatorSession) (now epoch nonce : ℕ) (buffer buffer′ : List
         let f : Refusal ≡ Acted .answer = rw (ne-eqb (Acted .answer) 0 k) in
         refused-poll r (ap numberOf (er .0) ∙ number-is ∙ sym f) (λ z. k (sym f ∙ z)) (er .1) (er .2) (kept (act-refused now epoch nonce (length buffer) (seen s) k))
 
-    module _ (d : acts .answer ≡ Done) (el : length buffer′ ≡ length buffer) (r : Polled) (et : TakenInAs s (held (old .events)) (seenHost (acts .endpoint)) (length buffer′) r) where
+    module _ (d : acts .answer ≡ Done) (el : length buffer′ ≡ length buffer) (r : Polled) (et : TakenInAs s (heldEvents (old .events)) (seenHost (acts .endpoint)) (length buffer′) r) where
       acted-is : Acted .answer ≡ 0
       acted-is = sym number-is ∙ ap numberOf d
 

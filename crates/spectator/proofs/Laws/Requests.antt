@@ -15,10 +15,10 @@ use Rattle.spectator_rules.specs.declared.InputStatus.the-variants.{Confirmed, 
 use Rattle.spectator_rules.specs.declared.PlayerInput.{PlayerInput}
 use Rattle.spectator_rules.specs.declared.SyncedInput.{SyncedInput}
 use Rattle.spectator_rules.specs.Watch.{Watch, playersOf}
-use Rattle.spectator_rules.specs.Advance.{framesToAdvance, framesRefusal, syncedAt, requestAt, requestsFrom}
+use Rattle.spectator_rules.specs.Advance.{framesToAdvance, framesRefusal, syncedAt, frameInputs, requestsFrom}
 use Rattle.spectator.specs.declared.requests.Request.{Request}
 use Rattle.spectator.specs.declared.requests.Requests.{Requests}
-use Rattle.spectator.specs.Stores.{requestOf, framesOf}
+use Rattle.spectator.specs.Stores.{requestOf, requestFrames}
 use Rattle.spectator.specs.Inside.Requests.{syncedOf, requestIn, requestsIn, refusalIn, refusalsIn, framesFor}
 
 -- ---- one player
@@ -64,12 +64,12 @@ module _ (slots players frame k : ℕ) (l : List PlayerInput) (s : List Connecti
 -- ---- a frame, read from those advanced
 
 module _ (q : Requests) where
-  pub frames-fit : length (framesOf q) ≤ length (q .frames)
-  unfolding framesOf
+  pub frames-fit : length (requestFrames q) ≤ length (q .frames)
+  unfolding requestFrames
   frames-fit = rw length-map (view-le (q .used) (q .frames))
 
-  pub frame-at : (i : ℕ) (d : Request) → i < length (framesOf q) → requestOf (getD (q .frames) i d) ≡ getD (framesOf q) i []
-  unfolding framesOf
+  pub frame-at : (i : ℕ) (d : Request) → i < length (requestFrames q) → requestOf (getD (q .frames) i d) ≡ getD (requestFrames q) i []
+  unfolding requestFrames
   frame-at i d h =
       let held : List Request = take (q .used) (q .frames) in
       let k : i < length held = rw length-map at h in
@@ -84,9 +84,9 @@ module _ (w : Watch) where
   refusals-are (suc n) frame = rw (refusals-are n (suc frame))
 
   pub requests-are : (n frame : ℕ) → requestsIn (w .limits .slots) n frame (playersOf w) (w .inputs) (w .statuses) ≡ requestsFrom n frame w
-  unfolding requestsIn requestIn requestsFrom requestAt syncedAt
+  unfolding requestsIn requestIn requestsFrom frameInputs syncedAt
   requests-are zero frame = refl
-  requests-are (suc n) frame = ap (λ (r : List (List SyncedInput)). requestAt frame w ∷ r) (requests-are n (suc frame))
+  requests-are (suc n) frame = ap (λ (r : List (List SyncedInput)). frameInputs frame w ∷ r) (requests-are n (suc frame))
 
   pub frames-are : framesFor (w .limits) (w .newest - w .current) ≡ framesToAdvance w
   unfolding framesFor framesToAdvance

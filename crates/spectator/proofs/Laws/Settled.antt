@@ -3,10 +3,12 @@ use mathlib.Core.List.{List, []}
 use mathlib.Core.Path.{_≡_, refl, sym, _∙_, ap}
 use Prim.Native.Nat.{ℕ}
 use lib.ListN.{length, take, getD}
+use Rattle.base.specs.Lay.{laidAt}
 use Rattle.base.proofs.Settled.{settled}
 use Rattle.answer.specs.Number.{number-determines}
 use Rattle.codec.specs.Message.{Wire}
 use Rattle.endpoint_rules.specs.Value.{handedBack}
+use Rattle.endpoint.specs.Taken.{shorter}
 use Rattle.endpoint.specs.declared.getters.StatsResult.{StatsResult}
 use Rattle.endpoint.specs.declared.getters.StatsResult.the-variants.{Stats, Refused}
 use Rattle.spectator_rules.specs.declared.SessionEntry.{SessionEntry}
@@ -22,13 +24,14 @@ use Rattle.spectator.specs.declared.advancing.Advanced.{Advanced}
 use Rattle.spectator.specs.declared.getters.FramesBehind.{FramesBehind}
 use Rattle.spectator.specs.declared.getters.FramesBehind.the-variants.{Frames, Overflow}
 use Rattle.spectator.specs.declared.getters.TakenEvents.{TakenEvents}
+use Rattle.spectator.specs.declared.hosting.TakenMessages.{TakenMessages}
 use Rattle.spectator.specs.declared.polling.Polled.{Polled}
 use Rattle.spectator.specs.declared.session_events.SessionEvents.{SessionEvents}
 use Rattle.spectator.specs.declared.requests.Request.{Request}
 use Rattle.spectator.specs.declared.requests.Requests.{Requests}
-use Rattle.spectator.specs.Stores.{eventsOf, requestOf, framesOf, blankEntry, blankSynced}
+use Rattle.spectator.specs.Stores.{eventsOf, requestOf, requestFrames, blankSessionEntry, blankSynced}
 use Rattle.spectator.specs.Session.{seen, DidAs, DoneAs}
-use Rattle.spectator.specs.Answers.{told, shownStats, shownBehind, MadeAs, TakenAs, polledPart, PolledAs, AdvancedAs}
+use Rattle.spectator.specs.Answers.{shown, shownStats, shownBehind, MadeAs, TakenAs, TakenIntoAs, polledPart, PolledAs, AdvancedAs}
 
 pub new-settled : (g : SessionSetup) (now : ℕ) (r s : Ended) → MadeAs g now r → MadeAs g now s → (r .answer ≡ s .answer) × (seen (r .session) ≡ seen (s .session))
 new-settled g now r s a b = (number-determines (r .answer) (s .answer) (a .answer ∙ sym (b .answer)), a .made ∙ sym (b .made))
@@ -37,15 +40,15 @@ module _ (e : SessionEvents) where
   pub session-events-count-settled : (m n : ℕ) → m ≡ length (eventsOf e) → n ≡ length (eventsOf e) → m ≡ n
   session-events-count-settled = settled (λ x. x) (length (eventsOf e))
 
-  pub entry-settled : (i : ℕ) (r s : SessionEntry) → r ≡ getD (eventsOf e) i blankEntry → s ≡ getD (eventsOf e) i blankEntry → r ≡ s
-  entry-settled i = settled (λ x. x) (getD (eventsOf e) i blankEntry)
+  pub entry-settled : (i : ℕ) (r s : SessionEntry) → r ≡ getD (eventsOf e) i blankSessionEntry → s ≡ getD (eventsOf e) i blankSessionEntry → r ≡ s
+  entry-settled i = settled (λ x. x) (getD (eventsOf e) i blankSessionEntry)
 
 module _ (q : Requests) where
-  pub requests-count-settled : (m n : ℕ) → m ≡ length (framesOf q) → n ≡ length (framesOf q) → m ≡ n
-  requests-count-settled = settled (λ x. x) (length (framesOf q))
+  pub requests-count-settled : (m n : ℕ) → m ≡ length (requestFrames q) → n ≡ length (requestFrames q) → m ≡ n
+  requests-count-settled = settled (λ x. x) (length (requestFrames q))
 
-  pub frame-settled : (i : ℕ) (r s : Request) → requestOf r ≡ getD (framesOf q) i [] → requestOf s ≡ getD (framesOf q) i [] → requestOf r ≡ requestOf s
-  frame-settled i = settled requestOf (getD (framesOf q) i [])
+  pub frame-settled : (i : ℕ) (r s : Request) → requestOf r ≡ getD (requestFrames q) i [] → requestOf s ≡ getD (requestFrames q) i [] → requestOf r ≡ requestOf s
+  frame-settled i = settled requestOf (getD (requestFrames q) i [])
 
 module _ (q : Request) where
   pub request-count-settled : (m n : ℕ) → m ≡ length (requestOf q) → n ≡ length (requestOf q) → m ≡ n
@@ -100,12 +103,19 @@ module _ (e : SpectatorSession) where
         (number-determines (r .answer) (s .answer) (x .answer ∙ sym (y .answer)), x .after ∙ sym (y .after), x .filled ∙ sym (y .filled), x .lent ∙ sym (y .lent))
 
   pub advance-frame-settled : (r s : Advanced) → AdvancedAs e r → AdvancedAs e s
-      → (r .answer ≡ s .answer) × (seen (r .session) ≡ seen (s .session)) × (framesOf (r .requests) ≡ framesOf (s .requests))
+      → (r .answer ≡ s .answer) × (seen (r .session) ≡ seen (s .session)) × (requestFrames (r .requests) ≡ requestFrames (s .requests))
   advance-frame-settled r s x y = (number-determines (r .answer) (s .answer) (x .answer ∙ sym (y .answer)), x .after ∙ sym (y .after), x .requests ∙ sym (y .requests))
 
   pub take-messages-settled : (buffer : ℕ) (r s : Ended) → DoneAs e (step (Call.takeMessages buffer) (seen e)) r → DoneAs e (step (Call.takeMessages buffer) (seen e)) s
       → (r .answer ≡ s .answer) × (seen (r .session) ≡ seen (s .session))
   take-messages-settled buffer = done-settled (step (Call.takeMessages buffer) (seen e))
+
+  pub take-messages-into-settled : (buffer into : List ℕ) (r s : TakenMessages) (b c : List ℕ) → TakenIntoAs e buffer into r b → TakenIntoAs e buffer into s c
+      → (r .answer ≡ s .answer) × (seen (r .session) ≡ seen (s .session)) × (r .count ≡ s .count) × (b ≡ c)
+  take-messages-into-settled buffer into r s b c x y =
+      let same : r .count ≡ s .count = x .count ∙ sym (y .count) in
+      let t = done-settled (step (Call.takeMessages (shorter buffer into)) (seen e)) _ _ (x .taken) (y .taken) in
+      (t .0, t .1, same, x .lent ∙ ap (λ n. laidAt into 0 (take n buffer)) same ∙ sym (y .lent))
 
   pub messages-settled : (buffer a b : List ℕ) → a ≡ take (handedBack (length buffer) (seen e .host)) buffer → b ≡ take (handedBack (length buffer) (seen e .host)) buffer → a ≡ b
   messages-settled buffer a b = settled (λ x. x) (take (handedBack (length buffer) (seen e .host)) buffer) a b
@@ -115,10 +125,10 @@ module _ (e : SpectatorSession) where
       let z : Value.events (eventsOf (r .events)) ≡ Value.events (eventsOf (s .events)) = x .events ∙ sym (y .events) in
       (cc, x .after ∙ sym (y .after))
 
-  pub network-stats-settled : (epoch : ℕ) (r s : StatsResult) → shownStats r ≡ told (Call.networkStats epoch) (seen e) → shownStats s ≡ told (Call.networkStats epoch) (seen e) → r ≡ s
+  pub network-stats-settled : (epoch : ℕ) (r s : StatsResult) → shownStats r ≡ shown (Call.networkStats epoch) (seen e) → shownStats s ≡ shown (Call.networkStats epoch) (seen e) → r ≡ s
   network-stats-settled epoch r s a b = same-stats r s (a ∙ sym b)
 
-  pub frames-behind-host-settled : (r s : FramesBehind) → shownBehind r ≡ told Call.framesBehindHost (seen e) → shownBehind s ≡ told Call.framesBehindHost (seen e) → r ≡ s
+  pub frames-behind-host-settled : (r s : FramesBehind) → shownBehind r ≡ shown Call.framesBehindHost (seen e) → shownBehind s ≡ shown Call.framesBehindHost (seen e) → r ≡ s
   frames-behind-host-settled r s a b = same-behind r s (a ∙ sym b)
 
   pub current-state-settled : (r s : SessionState) → Value.state r ≡ valueOf Call.currentState (seen e) → Value.state s ≡ valueOf Call.currentState (seen e) → r ≡ s

@@ -4,7 +4,7 @@ use mathlib.Core.Path.{_≡_}
 use Prim.Native.Nat.{ℕ}
 use lib.Dec.{eqb}
 use Rattle.base.specs.Pick.{pick}
-use Rattle.status.specs.Statuses.{held as heldStatuses}
+use Rattle.status.specs.Statuses.{heldStatuses}
 use Rattle.quality.specs.declared.Quality.{Quality}
 use Rattle.quality.specs.Quality.{localSet}
 use Rattle.quality.specs.Advantage.{advantageOf, advantageOverflows}

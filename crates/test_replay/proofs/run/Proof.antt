@@ -12,6 +12,19 @@ Inv-loop digest a₀ b₀ c₀ payload₀ first₀ second₀ third₀ left₀ a 
 abbrev μ-loop : tie.MeasureT-loop
 μ-loop digest a₀ b₀ c₀ payload₀ first₀ second₀ third₀ left₀ a b c payload first second third left = left
 
+-- where each buffer is back from its last call in a turn, and the turn's beginning, each from the one after it
+abbrev b-of : tie.After-c Inv-loop μ-loop → tie.After-b Inv-loop μ-loop
+b-of c = c .before .before .before .before .before
+
+abbrev a-of : tie.After-b Inv-loop μ-loop → tie.After-a Inv-loop μ-loop
+a-of c = c .before .before .before .before .before
+
+abbrev payload-of : tie.After-a Inv-loop μ-loop → tie.After-payload Inv-loop μ-loop
+payload-of c = c .before .before .before .before .before .before .before
+
+abbrev turn-of : tie.After-c Inv-loop μ-loop → tie.In-loop Inv-loop μ-loop
+turn-of c = payload-of (a-of (b-of c)) .before .before .before .before .before .before
+
 absent-requires : tie.Need-absent-requires Inv-loop μ-loop
 absent-requires c κs = search needs
 
@@ -49,18 +62,18 @@ answered-by-watcher-requires : tie.Need-answered-by-watcher-requires Inv-loop μ
 answered-by-watcher-requires c κs = search needs
 
 sub-left : tie.Need-sub-left Inv-loop μ-loop
-sub-left c = omega (arith, c .before .before .before .before .before .before .before .before .before .before .before .before .before .before .before .before .before .before .before .before .before .before .before .before .loop-test .taken)
+sub-left c = omega (arith, turn-of (c .before) .loop-test .taken)
 
 loop-less : tie.Need-loop-less Inv-loop μ-loop
-loop-less c = omega (arith, c .before .before .before .before .before .before .before .before .before .before .before .before .before .before .before .before .before .before .before .before .before .before .before .before .loop-test .taken)
+loop-less c = omega (arith, turn-of (c .before) .loop-test .taken)
 
 loop-again : tie.Need-loop-again Inv-loop μ-loop
 loop-again c =
-    let l = c .before .before .before .before .before .before .before .before .before .before .before .before .before .before .before .before .before .before .before .before .before .before .before .before .before .loop in (
-      omega (arith, l .inv .0, c .before .before .before .before .before .before .before .before .before .before .before .a .given),
-      omega (arith, l .inv .1, c .before .before .before .before .before .before .b .given),
+    let l = turn-of (c .before) .before .loop in (
+      omega (arith, l .inv .0, a-of (b-of (c .before)) .a .given),
+      omega (arith, l .inv .1, b-of (c .before) .b .given),
       omega (arith, l .inv .2, c .before .c .given),
-      omega (arith, l .inv .3, c .before .before .before .before .before .before .before .before .before .before .before .before .before .before .before .before .before .before .payload .given),
+      omega (arith, l .inv .3, payload-of (a-of (b-of (c .before))) .payload .given),
     )
 
 same-length-5 : tie.Need-same-length-5 Inv-loop μ-loop

@@ -44,10 +44,10 @@ pub fn read(count: u32, players: usize, payload: usize) -> Result<(), String> {
 fn fields(message: &Message) -> u64 {
     let MessageBody::Input(body) = &message.body else { unreachable!("an Input was written") };
     let statuses = body.peer_connect_status.iter();
-    let told: u64 = statuses.map(|s| u64::from(s.disconnected) + s.last_frame as u64).sum();
+    let seen: u64 = statuses.map(|s| u64::from(s.disconnected) + s.last_frame as u64).sum();
     let (first, last) = (body.bytes[0], body.bytes[body.bytes.len() - 1]);
     u64::from(message.header.magic)
-        + told
+        + seen
         + u64::from(body.disconnect_requested)
         + body.start_frame as u64
         + body.ack_frame as u64

@@ -35,7 +35,7 @@ fn packet(start_frame: i32, bytes: &[u8]) -> Message {
 }
 
 /// The frames announced by the calls since the last look, and the acknowledgements queued.
-fn told(g: &mut Gen, object: u8) -> (Vec<(i32, Vec<u8>)>, Vec<i32>) {
+fn announced(g: &mut Gen, object: u8) -> (Vec<(i32, Vec<u8>)>, Vec<i32>) {
     let s = g.host(object).clone();
     let frames = s.events.iter().filter_map(|e| match e {
         Event::Input { input, .. } => Some((input.frame, input.input.as_slice().to_vec())),
@@ -59,7 +59,7 @@ fn given(g: &mut Gen, object: u8, start: i32, bytes: &[u8]) -> (Vec<(i32, Vec<u8
     r.number = g.host(object).peer;
     r.payload = bincode::serialize(&packet(start, bytes)).expect("messages serialize");
     assert_eq!(g.issue(r).answer, 0);
-    told(g, object)
+    announced(g, object)
 }
 
 fn p1_p2(g: &mut Gen) {

@@ -109,7 +109,7 @@ fn ends_of_i32(g: &mut Gen, object: u8, connected: bool) {
     empty(g, object);
 }
 
-/// Takes what is told and queued.
+/// Takes what is announced and queued.
 fn empty(g: &mut Gen, object: u8) {
     if object == SPECTATOR {
         g.act(object);

@@ -116,7 +116,7 @@ fn fill_events(g: &mut Gen, own: u8, count: usize) {
     }
 }
 
-/// An interruption as the 640th event; then whatever would end it, or tell a disconnect, is 5.
+/// An interruption as the 640th event; then whatever would end it, or announce a disconnect, is 5.
 fn interrupted_when_full(g: &mut Gen) {
     g.make(B, &plain());
     g.connect(B, 6);

@@ -101,7 +101,7 @@ impl<'a> Gen<'a> {
         let after = self.world.seen(r.object);
         self.tally.message(r, done, before);
         if after.events.len() > before.events.len() {
-            self.tally.told(false, &after.events[before.events.len()..]);
+            self.tally.announced(false, &after.events[before.events.len()..]);
         }
         self.tally.mark(&marks::endpoint(&marks::Seen { r, done, before, after }));
     }
@@ -112,11 +112,11 @@ impl<'a> Gen<'a> {
         self.tally.message(r, done, &before.host);
         let held = before.host.events.len();
         if after.host.events.len() > held {
-            self.tally.told(true, &after.host.events[held..]);
+            self.tally.announced(true, &after.host.events[held..]);
         }
         if r.call == Call::Act && after.events.len() > before.events.len() {
             for event in &after.events[before.events.len()..] {
-                self.tally.session_told(event);
+                self.tally.session_announced(event);
             }
         }
         let session_events = self.session_events;

@@ -1,4 +1,4 @@
--- `number` goes by the variant, and each arm is told which it is.
+-- `number` goes by the variant, and each arm knows which it is.
 use borrow.Author.Needs.{needs}
 use Rattle.answer.proofs.Answer.number.Statement.{statement}
 use Rattle.answer.proofs.Answer.number.Tie as tie

@@ -11,13 +11,12 @@ use Rattle.checksums.proofs.Checksums.count.Tie as tie
 long : (c : tie.Start) → length (c .args .self .entries) ≡ 64
 long c = search (unmap, needs)
 
+least-requires : tie.Need-least-requires
+least-requires c κs = search needs
+
 returns : tie.Need-returns
 unfolding stored
-returns c = simp length-take (omega (arith, long (c .before)))
-
-returns-2 : tie.Need-returns-2
-unfolding stored
-returns-2 c = simp length-take (omega (arith, long (c .before)))
+returns c = simp length-take (omega (arith, c .least .ensures, long (c .before)))
 
 pub count-spec : {M : Type 1} → statement M
-count-spec = tie.close (tie.spec returns returns-2)
+count-spec = tie.close (tie.spec least-requires returns)

@@ -4,7 +4,7 @@ use mathlib.Core.Path.{_≡_, sym}
 use native.Mathlib.Omega.{arith}
 use lib.ListN.{length, List·getD-eq-default}
 use Rattle.base.proofs.Arrays.{unmap, view-at, view-le}
-use Rattle.checksums.specs.Checksums.{stored, blank}
+use Rattle.checksums.specs.Checksums.{stored, blankChecksum}
 use Rattle.checksums.proofs.Checksums.entry.Statement.{statement}
 use Rattle.checksums.proofs.Checksums.entry.Tie as tie
 
@@ -26,11 +26,11 @@ returns : tie.Need-returns
 unfolding stored
 returns c =
     let a = c .before .before .before .args in
-    sym (view-at (a .t1 .used) (a .t1 .entries) (a .i) blank (omega (arith, c .before .before .count .ensures)))
+    sym (view-at (a .t1 .used) (a .t1 .entries) (a .i) blankChecksum (omega (arith, c .before .before .count .ensures)))
 
 returns-2 : tie.Need-returns-2
 unfolding stored
-returns-2 c = sym (List·getD-eq-default (stored (c .before .before .args .t1)) blank (omega (arith, c .before .count .ensures)))
+returns-2 c = sym (List·getD-eq-default (stored (c .before .before .args .t1)) blankChecksum (omega (arith, c .before .count .ensures)))
 
 pub entry-spec : {M : Type 1} → statement M
 entry-spec = tie.close (tie.spec count-requires mul-result element-copy-out-result returns returns-2)

@@ -2,7 +2,7 @@
 use borrow.Author.Needs.{needs}
 use mathlib.Core.Path.{_∙_}
 use Rattle.base.proofs.Removal.{has-place, first-place}
-use Rattle.checksums.specs.Checksums.{stored, frameOf, blank}
+use Rattle.checksums.specs.Checksums.{stored, checksumFrame, blankChecksum}
 use Rattle.checksums.proofs.Checksums.find.Statement.{statement}
 use Rattle.checksums.proofs.Checksums.find.Tie as tie
 
@@ -21,8 +21,8 @@ returns c =
     let n = c .before .before .count .ensures in
     let i = c .before .place .ensures in
     record {
-      found = rw (n, i, has-place frameOf (a .frame) (stored (a .self)));
-      checksum = c .entry .ensures ∙ rw (i, first-place frameOf (a .frame) blank (stored (a .self)));
+      found = rw (n, i, has-place checksumFrame (a .frame) (stored (a .self)));
+      checksum = c .entry .ensures ∙ rw (i, first-place checksumFrame (a .frame) blankChecksum (stored (a .self)));
     }
 
 pub find-spec : {M : Type 1} → statement M

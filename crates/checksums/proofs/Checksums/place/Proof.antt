@@ -7,13 +7,13 @@ use lib.ListN.{length, drop}
 use Rattle.base.specs.Keyed.{place}
 use Rattle.base.proofs.Arrays.{unmap, view-le}
 use Rattle.base.proofs.Removal.{place-here, place-later, place-end}
-use Rattle.checksums.specs.Checksums.{stored, frameOf, blank}
+use Rattle.checksums.specs.Checksums.{stored, checksumFrame, blankChecksum}
 use Rattle.checksums.proofs.Checksums.place.Statement.{statement}
 use Rattle.checksums.proofs.Checksums.place.Tie as tie
 
 abbrev Inv-loop : tie.InvT-loop
 Inv-loop frame self n i₀ i =
-    (i ≤ n) × (n ≤ 64) × (n ≡ length (stored self)) × (place frameOf frame (stored self) ≡ i + place frameOf frame (drop i (stored self)))
+    (i ≤ n) × (n ≤ 64) × (n ≡ length (stored self)) × (place checksumFrame frame (stored self) ≡ i + place checksumFrame frame (drop i (stored self)))
 
 abbrev μ-loop : tie.MeasureT-loop
 μ-loop frame self n i₀ i = n - i
@@ -41,7 +41,7 @@ unfolding stored
 returns c =
     let a = c .before .before .before .before .before .before .args in
     let i = c .before .before .before .before .loop .i in
-    omega (arith, place-here frameOf (a .frame) (a .t1 .used) (a .t1 .entries) i blank (omega arith) (c .if1 .taken))
+    omega (arith, place-here checksumFrame (a .frame) (a .t1 .used) (a .t1 .entries) i blankChecksum (omega arith) (c .if1 .taken))
 
 add-i : tie.Need-add-i Inv-loop μ-loop
 add-i c = omega arith
@@ -54,13 +54,13 @@ unfolding stored
 loop-again c =
     let a = c .before .before .before .before .before .before .args in
     let l = c .before .before .before .before .loop in
-    (omega arith, l .inv .1, l .inv .2, omega (arith, place-later frameOf (a .frame) (a .t1 .used) (a .t1 .entries) (l .i) blank (omega arith) (c .if1 .left)))
+    (omega arith, l .inv .1, l .inv .2, omega (arith, place-later checksumFrame (a .frame) (a .t1 .used) (a .t1 .entries) (l .i) blankChecksum (omega arith) (c .if1 .left)))
 
 returns-2 : tie.Need-returns-2 Inv-loop μ-loop
 unfolding stored
 returns-2 c =
     let a = c .before .before .before .args in
-    omega (arith, place-end frameOf (a .frame) (a .t1 .used) (a .t1 .entries) (c .before .loop .i) (omega arith))
+    omega (arith, place-end checksumFrame (a .frame) (a .t1 .used) (a .t1 .entries) (c .before .loop .i) (omega arith))
 
 pub place-spec : {M : Type 1} → statement M
 place-spec =

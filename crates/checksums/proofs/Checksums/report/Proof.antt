@@ -12,7 +12,7 @@ use lib.ListN.{length, length-set, take, set, getD}
 use Rattle.base.specs.Keyed.{place}
 use Rattle.base.proofs.Arrays.{unmap, view-le}
 use Rattle.base.proofs.InPlace.{Keeping, keeping-start, keeping-took, keeping-left}
-use Rattle.checksums.specs.Checksums.{stored, frameOf, blank, overflows}
+use Rattle.checksums.specs.Checksums.{stored, checksumFrame, blankChecksum, overflows}
 use Rattle.checksums.proofs.Report.{place-stays, place-meets, place-passes, Swept, swept, gives-6, gives-5, gives-over, gives-end}
 use Rattle.checksums.proofs.Checksums.report.Statement.{statement}
 use Rattle.checksums.proofs.Checksums.report.Tie as tie
@@ -21,7 +21,7 @@ abbrev Inv-loop : tie.InvT-loop
 Inv-loop frame low high interval self₀ n line kept₀ at₀ i₀ self kept at i =
     (i ≤ n) × (kept ≤ i) × (at ≤ kept) × (n ≤ 64) × (n ≡ length (stored self₀)) × (length (self .entries) ≡ 64) × (self .used ≡ self₀ .used)
     × Keeping (λ x. leb line (x .frame)) (self₀ .used) (self₀ .entries) (self .entries) kept i
-    × (at ≡ place frameOf frame (take kept (self .entries)))
+    × (at ≡ place checksumFrame frame (take kept (self .entries)))
 
 abbrev μ-loop : tie.MeasureT-loop
 μ-loop frame low high interval self₀ n line kept₀ at₀ i₀ self kept at i = n - i
@@ -89,20 +89,20 @@ loop-less c = omega arith
 placed : (c : tie.Joined3-2 Inv-loop μ-loop) →
     let l = c .before .before .before .before .before .loop in
     let frame = c .before .before .before .before .before .before .before .before .before .before .args .frame in
-    (c .if3 .at ≤ l .kept + 1) × (c .if3 .at ≡ place frameOf frame (take (l .kept + 1) (set (l .self .entries) (l .kept) (getD (l .self .entries) (l .i) blank))))
+    (c .if3 .at ≤ l .kept + 1) × (c .if3 .at ≡ place checksumFrame frame (take (l .kept + 1) (set (l .self .entries) (l .kept) (getD (l .self .entries) (l .i) blankChecksum))))
 placed c =
     let l = c .before .before .before .before .before .loop in
     let frame = c .before .before .before .before .before .before .before .before .before .before .args .frame in
     let e = l .self .entries in
-    let x = getD e (l .i) blank in
+    let x = getD e (l .i) blankChecksum in
     ⊎-elim
-    (λ w. rw (w .3) (omega arith, place-passes frameOf frame e (l .kept) (l .at) x (omega arith) (l .inv .8) (omega (arith, w .0 .taken)) (not-true _ (w .2 .taken))))
+    (λ w. rw (w .3) (omega arith, place-passes checksumFrame frame e (l .kept) (l .at) x (omega arith) (l .inv .8) (omega (arith, w .0 .taken)) (not-true _ (w .2 .taken))))
     (λ w.
     rw (w .1) (
       omega arith,
       ⊎-elim
-          (λ v. place-meets frameOf frame e (l .kept) (l .at) x (omega arith) (l .inv .8) (omega (arith, v .0 .taken)) (not-false _ (v .2 .left)))
-          (λ v. place-stays frameOf frame e (l .kept) (l .at) x (omega arith) (l .inv .8) (omega (arith, v .left)))
+          (λ v. place-meets checksumFrame frame e (l .kept) (l .at) x (omega arith) (l .inv .8) (omega (arith, v .0 .taken)) (not-false _ (v .2 .left)))
+          (λ v. place-stays checksumFrame frame e (l .kept) (l .at) x (omega arith) (l .inv .8) (omega (arith, v .left)))
           (w .0 .came),
     ))
     (c .if3 .came)
@@ -125,8 +125,8 @@ loop-again c =
       l .inv .4,
       rw length-set (l .inv .5),
       l .inv .6,
-      keeping-took (λ x. leb line (x .frame)) (a .t1 .used) (a .t1 .entries) (l .self .entries) (l .kept) (l .i) (l .inv .7) blank (omega arith) (omega arith) (omega arith)
-          (le-leb line (getD (l .self .entries) (l .i) blank .frame) (omega (arith, w .0 .taken))),
+      keeping-took (λ x. leb line (x .frame)) (a .t1 .used) (a .t1 .entries) (l .self .entries) (l .kept) (l .i) (l .inv .7) blankChecksum (omega arith) (omega arith) (omega arith)
+          (le-leb line (getD (l .self .entries) (l .i) blankChecksum .frame) (omega (arith, w .0 .taken))),
       p .1,
     ))
     (λ w.
@@ -138,8 +138,8 @@ loop-again c =
       l .inv .4,
       l .inv .5,
       l .inv .6,
-      keeping-left (λ x. leb line (x .frame)) (a .t1 .used) (a .t1 .entries) (l .self .entries) (l .kept) (l .i) (l .inv .7) blank (omega arith)
-          (lt-leb line (getD (l .self .entries) (l .i) blank .frame) (omega (arith, w .0 .left))),
+      keeping-left (λ x. leb line (x .frame)) (a .t1 .used) (a .t1 .entries) (l .self .entries) (l .kept) (l .i) (l .inv .7) blankChecksum (omega arith)
+          (lt-leb line (getD (l .self .entries) (l .i) blankChecksum .frame) (omega (arith, w .0 .left))),
       l .inv .8,
     ))
     (c .if2 .came)

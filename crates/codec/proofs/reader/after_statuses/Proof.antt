@@ -1,10 +1,10 @@
 -- `after_statuses` reads the flag, the two frames, the payload's count and its place.
 use native.Mathlib.Nat.{add-sub-cancel-left}
-use Rattle.codec.specs.Read.Got.{got}
+use Rattle.codec.specs.Read.Reading.{got}
 use Rattle.codec.proofs.Inputs.{no-flag, bad-flag, few-bytes, long-payload, short-payload, whole-input, inputAt}
 use Rattle.codec.proofs.Fronts.{refused-front, found-front}
 use Rattle.codec.specs.Front.{numberAt}
-use Rattle.codec.specs.Message.{isInput, listed, meant}
+use Rattle.codec.specs.Message.{isInput, reportList, meant}
 use Rattle.answer.specs.declared.Answer.the-variants.{Short, BadBool, TooLong}
 use Rattle.base.proofs.Arrays.{unmap}
 use lib.ListN.{length, take, drop, length-take}
@@ -39,7 +39,7 @@ returns c =
     let d = s .args .d .now in
     let r = s .args .reports in
     let at = 14 + 5 * r .count in
-    refused-front d _ (c .refused .result) Short (c .refused .ensures) (no-flag d at (numberAt 2 0 d) (listed r) (c .before .if1 .taken)) (λ e. omega arith)
+    refused-front d _ (c .refused .result) Short (c .refused .ensures) (no-flag d at (numberAt 2 0 d) (reportList r) (c .before .if1 .taken)) (λ e. omega arith)
 
 shared-slice-read-if2 : tie.Need-shared-slice-read-if2
 shared-slice-read-if2 c = search needs
@@ -53,7 +53,7 @@ returns-2 c =
     let d = s .args .d .now in
     let r = s .args .reports in
     let at = 14 + 5 * r .count in
-    refused-front d _ (c .refused2 .result) BadBool (c .refused2 .ensures) (bad-flag d at (numberAt 2 0 d) (listed r) (omega (arith, s .pre .1)) (c .before .if2 .taken)) (λ e. omega arith)
+    refused-front d _ (c .refused2 .result) BadBool (c .refused2 .ensures) (bad-flag d at (numberAt 2 0 d) (reportList r) (omega (arith, s .pre .1)) (c .before .if2 .taken)) (λ e. omega arith)
 
 refused-requires-3 : tie.Need-refused-requires-3
 refused-requires-3 c κs = search needs
@@ -65,7 +65,7 @@ returns-3 c =
     let r = s .args .reports in
     let at = 14 + 5 * r .count in
     let else2 : tie.Else2 = search in
-    refused-front d _ (c .refused3 .result) Short (c .refused3 .ensures) (few-bytes d at (numberAt 2 0 d) (listed r) (omega (arith, s .pre .1)) (else2 .if2 .left) (omega arith)) (λ e. omega arith)
+    refused-front d _ (c .refused3 .result) Short (c .refused3 .ensures) (few-bytes d at (numberAt 2 0 d) (reportList r) (omega (arith, s .pre .1)) (else2 .if2 .left) (omega arith)) (λ e. omega arith)
 
 add-number8 : tie.Need-add-number8
 add-number8 c = search needs
@@ -84,7 +84,7 @@ returns-4 c =
     let at = 14 + 5 * r .count in
     let else2 : tie.Else2 = search in
     let after-number8 : tie.After-number8 = search in
-    refused-front d _ (c .refused4 .result) TooLong (c .refused4 .ensures) (long-payload d at (numberAt 2 0 d) (listed r) (omega (arith, s .pre .1)) (else2 .if2 .left) (omega arith) (rw (after-number8 .number8 .ensures) at (c .before .if4 .taken))) (λ e. omega arith)
+    refused-front d _ (c .refused4 .result) TooLong (c .refused4 .ensures) (long-payload d at (numberAt 2 0 d) (reportList r) (omega (arith, s .pre .1)) (else2 .if2 .left) (omega arith) (rw (after-number8 .number8 .ensures) at (c .before .if4 .taken))) (λ e. omega arith)
 
 sub-if5 : tie.Need-sub-if5
 sub-if5 c = search needs
@@ -101,7 +101,7 @@ returns-5 c =
     let else2 : tie.Else2 = search in
     let after-number8 : tie.After-number8 = search in
     let else4 : tie.Else4 = search in
-    refused-front d _ (c .refused5 .result) Short (c .refused5 .ensures) (short-payload d at (numberAt 2 0 d) (listed r) (omega (arith, s .pre .1)) (else2 .if2 .left) (omega arith) (rw (after-number8 .number8 .ensures) at (else4 .if4 .left)) (rw (← after-number8 .number8 .ensures) (omega (arith, c .before .if5 .taken)))) (λ e. omega arith)
+    refused-front d _ (c .refused5 .result) Short (c .refused5 .ensures) (short-payload d at (numberAt 2 0 d) (reportList r) (omega (arith, s .pre .1)) (else2 .if2 .left) (omega arith) (rw (after-number8 .number8 .ensures) at (else4 .if4 .left)) (rw (← after-number8 .number8 .ensures) (omega (arith, c .before .if5 .taken)))) (λ e. omega arith)
 
 number2-requires : tie.Need-number2-requires
 number2-requires c κs = search needs
@@ -148,9 +148,9 @@ returns-6 c =
     let room : start + b .result ≤ length d = omega (arith, else5 .if5 .left, else3 .if3 .left) in
     let same : at + 17 + n ≡ start + b .result = rw (b .ensures) (omega arith) in
     let from : at + 17 ≡ start = omega arith in
-    let w = inputAt (numberAt 2 0 d) (listed r) at n d in
+    let w = inputAt (numberAt 2 0 d) (reportList r) at n d in
     let else2 : tie.Else2 = search in
-    let e = whole-input d at (numberAt 2 0 d) (listed r) (omega (arith, s .pre .1)) (else2 .if2 .left) (omega (arith, else3 .if3 .left)) m (rw same room) in
+    let e = whole-input d at (numberAt 2 0 d) (reportList r) (omega (arith, s .pre .1)) (else2 .if2 .left) (omega (arith, else3 .if3 .left)) m (rw same room) in
     let after-number2 : tie.After-number2 = search in
     found-front d _ _ start (start + b .result) w (e ∙ ap (λ (k : ℕ). got w (drop k d)) same)
     (rw (after-number2 .number2 .ensures, c .before .frame-at .ensures, c .frame-at2 .ensures))

@@ -1,7 +1,6 @@
 -- `fixed` tests the size by the table, and reads the fields of the body by its kind.
-use Rattle.codec.proofs.Takes.{last-kind}
-use Rattle.codec.proofs.Takes.{fixed-short, request, reply, ack, quality, pong, checksum, alive}
-use Rattle.codec.proofs.Fronts.{refused-front, plain-front}
+use Rattle.codec.proofs.Takes.{last-kind, fixed-short, request, reply, ack, quality, pong, checksum, alive}
+use Rattle.codec.proofs.Fronts.{refused-front, body-only-front}
 use Rattle.codec.specs.Read.{message}
 use Rattle.answer.specs.declared.Answer.the-variants.{Short}
 use lib.ListN.{length}
@@ -33,24 +32,24 @@ number4-requires c κs =
     let l = rw (c .match .keys1) at (c .before .if1 .left) in
     omega arith
 
-plain-requires : tie.Need-plain-requires
-plain-requires c κs = search needs
+body-only-requires : tie.Need-body-only-requires
+body-only-requires c κs = search needs
 
 number4-requires-2 : tie.Need-number4-requires-2
 number4-requires-2 c κs =
     let l = rw (c .match .keys2) at (c .before .if1 .left) in
     omega arith
 
-plain-requires-2 : tie.Need-plain-requires-2
-plain-requires-2 c κs = search needs
+body-only-requires-2 : tie.Need-body-only-requires-2
+body-only-requires-2 c κs = search needs
 
 frame-at-requires : tie.Need-frame-at-requires
 frame-at-requires c κs =
     let l = rw (c .match .keys3) at (c .before .if1 .left) in
     omega arith
 
-plain-requires-3 : tie.Need-plain-requires-3
-plain-requires-3 c κs = search needs
+body-only-requires-3 : tie.Need-body-only-requires-3
+body-only-requires-3 c κs = search needs
 
 number2-requires : tie.Need-number2-requires
 number2-requires c κs =
@@ -67,16 +66,16 @@ wide-at-requires c κs =
     let l = rw (at-match-keys4 .match .keys4) at (else1 .if1 .left) in
     omega arith
 
-plain-requires-4 : tie.Need-plain-requires-4
-plain-requires-4 c κs = search needs
+body-only-requires-4 : tie.Need-body-only-requires-4
+body-only-requires-4 c κs = search needs
 
 wide-at-requires-2 : tie.Need-wide-at-requires-2
 wide-at-requires-2 c κs =
     let l = rw (c .match .keys5) at (c .before .if1 .left) in
     omega arith
 
-plain-requires-5 : tie.Need-plain-requires-5
-plain-requires-5 c κs = search needs
+body-only-requires-5 : tie.Need-body-only-requires-5
+body-only-requires-5 c κs = search needs
 
 wide-at-requires-3 : tie.Need-wide-at-requires-3
 wide-at-requires-3 c κs =
@@ -89,11 +88,11 @@ frame-at-requires-2 c κs =
     let l = rw (c .before .match .keys6) at (else1 .if1 .left) in
     omega arith
 
-plain-requires-6 : tie.Need-plain-requires-6
-plain-requires-6 c κs = search needs
+body-only-requires-6 : tie.Need-body-only-requires-6
+body-only-requires-6 c κs = search needs
 
-plain-requires-7 : tie.Need-plain-requires-7
-plain-requires-7 c κs = search needs
+body-only-requires-7 : tie.Need-body-only-requires-7
+body-only-requires-7 c κs = search needs
 
 returns-2 : tie.Need-returns-2
 returns-2 c =
@@ -103,7 +102,7 @@ returns-2 c =
     let k = at-match-keys1 .match .keys1 in
     let else1 : tie.Else1 = search in
     let l : 10 ≤ length d = rw k at (else1 .if1 .left) in
-    plain-front d (message d) (c .plain .result) 10 _ (rw k at (c .plain .ensures)) l
+    body-only-front d (message d) (c .body-only .result) 10 _ (rw k at (c .body-only .ensures)) l
     (rw (c .before .number4 .ensures) (request d (s .pre .0) (sym (s .pre .1) ∙ k) l))
 
 returns-3 : tie.Need-returns-3
@@ -114,7 +113,7 @@ returns-3 c =
     let k = at-match-keys2 .match .keys2 in
     let else1 : tie.Else1 = search in
     let l : 10 ≤ length d = rw k at (else1 .if1 .left) in
-    plain-front d (message d) (c .plain2 .result) 10 _ (rw k at (c .plain2 .ensures)) l
+    body-only-front d (message d) (c .body-only2 .result) 10 _ (rw k at (c .body-only2 .ensures)) l
     (rw (c .before .number42 .ensures) (reply d (s .pre .0) (sym (s .pre .1) ∙ k) l))
 
 returns-4 : tie.Need-returns-4
@@ -125,7 +124,7 @@ returns-4 c =
     let k = at-match-keys3 .match .keys3 in
     let else1 : tie.Else1 = search in
     let l : 10 ≤ length d = rw k at (else1 .if1 .left) in
-    plain-front d (message d) (c .plain3 .result) 10 _ (rw k at (c .plain3 .ensures)) l
+    body-only-front d (message d) (c .body-only3 .result) 10 _ (rw k at (c .body-only3 .ensures)) l
     (rw (c .before .frame-at .ensures) (ack d (s .pre .0) (sym (s .pre .1) ∙ k) l))
 
 returns-5 : tie.Need-returns-5
@@ -138,7 +137,7 @@ returns-5 c =
     let l : 24 ≤ length d = rw k at (else1 .if1 .left) in
     let after-advantage-bits-of : tie.After-advantage-bits-of = search in
     let after-number2 : tie.After-number2 = search in
-    plain-front d (message d) (c .plain4 .result) 24 _ (rw k at (c .plain4 .ensures)) l
+    body-only-front d (message d) (c .body-only4 .result) 24 _ (rw k at (c .body-only4 .ensures)) l
     (rw (c .before .wide-at .ensures, after-advantage-bits-of .advantage-bits-of .ensures, after-number2 .number2 .ensures) (quality d (s .pre .0) (sym (s .pre .1) ∙ k) l))
 
 returns-6 : tie.Need-returns-6
@@ -149,7 +148,7 @@ returns-6 c =
     let k = at-match-keys5 .match .keys5 in
     let else1 : tie.Else1 = search in
     let l : 22 ≤ length d = rw k at (else1 .if1 .left) in
-    plain-front d (message d) (c .plain5 .result) 22 _ (rw k at (c .plain5 .ensures)) l
+    body-only-front d (message d) (c .body-only5 .result) 22 _ (rw k at (c .body-only5 .ensures)) l
     (rw (c .before .wide-at2 .ensures) (pong d (s .pre .0) (sym (s .pre .1) ∙ k) l))
 
 returns-7 : tie.Need-returns-7
@@ -161,7 +160,7 @@ returns-7 c =
     let else1 : tie.Else1 = search in
     let l : 26 ≤ length d = rw k at (else1 .if1 .left) in
     let after-wide-at3 : tie.After-wide-at3 = search in
-    plain-front d (message d) (c .plain6 .result) 26 _ (rw k at (c .plain6 .ensures)) l
+    body-only-front d (message d) (c .body-only6 .result) 26 _ (rw k at (c .body-only6 .ensures)) l
     (rw (c .before .frame-at2 .ensures, after-wide-at3 .wide-at3 .ensures) (checksum d (s .pre .0) (sym (s .pre .1) ∙ k) l))
 
 returns-8 : tie.Need-returns-8
@@ -170,7 +169,7 @@ returns-8 c =
     let d = s .args .d .now in
     let x = c .before .match .rest in
     let k = last-kind (s .args .kind) (s .pre .2) (x .0 .0 .0 .0 .0 .1) (x .0 .0 .0 .0 .1) (s .pre .3) (x .0 .0 .0 .1) (x .0 .0 .1) (x .0 .1) (x .1) in
-    plain-front d (message d) (c .plain7 .result) 6 _ (rw k at (c .plain7 .ensures)) (s .pre .0) (alive d (s .pre .0) (sym (s .pre .1) ∙ k))
+    body-only-front d (message d) (c .body-only7 .result) 6 _ (rw k at (c .body-only7 .ensures)) (s .pre .0) (alive d (s .pre .0) (sym (s .pre .1) ∙ k))
 
 pub fixed-spec : {M : Type 1} → statement M
 fixed-spec =
@@ -181,21 +180,21 @@ fixed-spec =
     refused-requires
     returns
     number4-requires
-    plain-requires
+    body-only-requires
     number4-requires-2
-    plain-requires-2
+    body-only-requires-2
     frame-at-requires
-    plain-requires-3
+    body-only-requires-3
     number2-requires
     advantage-bits-of-requires
     wide-at-requires
-    plain-requires-4
+    body-only-requires-4
     wide-at-requires-2
-    plain-requires-5
+    body-only-requires-5
     wide-at-requires-3
     frame-at-requires-2
-    plain-requires-6
-    plain-requires-7
+    body-only-requires-6
+    body-only-requires-7
     returns-2
     returns-3
     returns-4

@@ -1,6 +1,6 @@
 -- `refused` has a blank message.
 use Rattle.codec.specs.declared.MessageBody.the-variants.{KeepAlive}
-use Rattle.codec.proofs.Meant.{meant-plain}
+use Rattle.codec.proofs.Meant.{meant-body-only}
 use mathlib.Core.Path.{refl}
 use borrow.Author.Needs.{needs}
 use Rattle.codec.proofs.reader.refused.Statement.{statement}
@@ -13,7 +13,7 @@ returns : tie.Need-returns
 returns c =
     record {
       same = refl;
-      message = meant-plain 0 KeepAlive (c .no-reports .result) (c .no-reports .ensures);
+      message = meant-body-only 0 KeepAlive (c .no-reports .result) (c .no-reports .ensures);
       count = c .no-reports .ensures;
       start = refl;
       end = refl;

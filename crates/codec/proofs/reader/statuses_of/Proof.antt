@@ -1,6 +1,6 @@
 -- `statuses_of` reads one report a turn. The invariant: what is left to read, after those found, gives what all gives.
 use Rattle.codec.proofs.Statuses.{reports-fault, report-there, reports-turn}
-use Rattle.codec.specs.Read.Got.{got}
+use Rattle.codec.specs.Read.Reading.{got}
 use Rattle.codec.specs.Read.{reports}
 use Rattle.base.proofs.Arrays.{unmap}
 use Rattle.answer.proofs.Done.{not-done}

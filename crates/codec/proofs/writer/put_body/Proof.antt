@@ -1,17 +1,14 @@
 -- `put_body` goes by the variant; each arm puts the fields of its body.
-use Prim.Native.Nat.{_^_}
+use Prim.Native.Nat.{_^_, _+_, _≤_, _<_}
 use Rattle.codec.proofs.Put.{put-then}
 use Rattle.codec.proofs.Lengths.{statuses-length, input-length}
-use Rattle.codec.specs.Bytes.{statusesBytes, inputBytes}
-use lib.ListN.{take, length-take}
+use Rattle.codec.specs.Bytes.{statusesBytes, inputBytes, bodyBytes}
+use lib.ListN.{take, length-take, length}
 use mathlib.Core.Bool.{true}
 use Rattle.base.proofs.Lay.{laid-none}
 use Rattle.base.proofs.Arrays.{unmap}
 use Rattle.codec.proofs.Bodies.{fits-none, room-as, body-put}
-use Rattle.codec.specs.Bytes.{bodyBytes}
 use Rattle.codec.specs.Message.{FitsWide, kindOf, isInput}
-use Prim.Native.Nat.{_+_, _≤_, _<_}
-use lib.ListN.{length}
 use mathlib.Core.Path.{_≡_, sym}
 use native.Mathlib.Omega.{arith}
 use borrow.Author.Needs.{needs}

@@ -5,7 +5,7 @@ use Rattle.codec.specs.Message.{kindOf, meant}
 use Rattle.base.proofs.Little.{le-length}
 use Rattle.base.specs.Little.{le}
 use Prim.Native.Nat.{_^_, _<_}
-use lib.ListN.{length, length-append}
+use lib.ListN.{length-append}
 use mathlib.Core.List.{[], _++_}
 use Rattle.codec.proofs.Put.{put-then}
 use native.Mathlib.Omega.{arith}

@@ -1,6 +1,5 @@
 -- `write_head` has room for all before it puts anything.
-use Rattle.codec.proofs.Laid.{fits-head}
-use Rattle.codec.proofs.Laid.{long-refused, full-refused, laid}
+use Rattle.codec.proofs.Laid.{fits-head, long-refused, full-refused, laid}
 use Rattle.codec.proofs.Sizes.{is-long, is-size, input-counts, size-head}
 use Rattle.codec.specs.Calls.{tooLong, sizeFor}
 use Rattle.codec.specs.Bytes.{head}

@@ -8,12 +8,10 @@ use lib.ListN.{length}
 use borrow.Author.Tests.{not-true, not-false}
 use Rattle.base.proofs.Arrays.{view-le}
 use Rattle.timers.specs.Timers.{badClocks}
-use Rattle.events.specs.Events.{held}
+use Rattle.events.specs.Events.{heldEvents}
 use Rattle.endpoint.proofs.Laws.Lengths.{entries-long, acked-long, no-event-fits}
 use Rattle.endpoint.proofs.Laws.Act.Batch.{size-if-most}
-use Rattle.endpoint.proofs.Laws.Act.Ways.{Resent, Packed, Announced, resent-none, resent-some, packed-none, size-is, packed-some, announced-full, announced-fits, announced-none, announced-some, running-unannounced, running-full, running-done}
-use Rattle.endpoint.proofs.Laws.Act.Ways.{synchronizing-idle, synchronizing-full, synchronizing-done, disconnected-idle, disconnected-over}
-use Rattle.endpoint.proofs.Laws.Act.Ways.{act-clocks, act-count, act-synchronizing, act-running, act-disconnected, act-idle}
+use Rattle.endpoint.proofs.Laws.Act.Ways.{Resent, Packed, Announced, resent-none, resent-some, packed-none, size-is, packed-some, announced-full, announced-fits, announced-none, announced-some, running-unannounced, running-full, running-done, synchronizing-idle, synchronizing-full, synchronizing-done, disconnected-idle, disconnected-over, act-clocks, act-count, act-synchronizing, act-running, act-disconnected, act-idle}
 use borrow.Author.Needs.{needs}
 use Rattle.endpoint.proofs.Endpoint.act.Statement.{statement}
 use Rattle.endpoint.proofs.Endpoint.act.Tie as tie
@@ -96,14 +94,14 @@ count-requires c κs = search needs
 due-at-requires : tie.Need-due-at-requires
 due-at-requires c κs = search needs
 
-told-requires : tie.Need-told-requires
-told-requires c κs = search needs
+event-count-requires : tie.Need-event-count-requires
+event-count-requires c κs = search needs
 
 count-requires-2 : tie.Need-count-requires-2
 count-requires-2 c κs = search needs
 
 few : (c : tie.After-count2) → c .count2 .result ≤ 640
-unfolding held
+unfolding heldEvents
 few c =
     let s = c .before .before .before .before .before .before .before .before .before .before .before .before .before .before .before in
     omega (arith, c .count2 .ensures, entries-long (s .args .self) _ (s .good .0), view-le (s .args .self .events .used) (s .args .self .events .entries))
@@ -111,7 +109,7 @@ few c =
 add-if6 : tie.Need-add-if6
 add-if6 c =
     let d = c .before .before .due-at .result in
-    omega (arith, few c, c .before .told .ensures, size-if-most (d .interruption) 1, size-if-most (d .disconnect) 1)
+    omega (arith, few c, c .before .event-count .ensures, size-if-most (d .interruption) 1, size-if-most (d .disconnect) 1)
 
 returns-6 : tie.Need-returns-6
 returns-6 c =
@@ -120,7 +118,7 @@ returns-6 c =
     let due = c .before .before .before .due-at in
     act-running (a .self) (a .out .now) (a .statuses) (a .now) (a .epoch) (a .nonce) (good-clocks (c .before .before .before .before .before .before .before .before .before .before .before)) (c .before .before .before .before .before .before .before .before .if3 .left) (c .before .before .before .before .before .enum-told2 .given .1) _ _
     (running-unannounced (a .self) (a .out .now) (a .statuses) (a .now) (a .epoch) (due .result) (count .result) (count .ensures) (due .ensures)
-    (announced-full (a .self) (a .out .now) (a .statuses) (a .now) (a .epoch) (due .result) (c .before .count2 .result) (c .before .before .told .result) (c .before .count2 .ensures) (c .before .before .told .ensures) (c .if6 .taken)))
+    (announced-full (a .self) (a .out .now) (a .statuses) (a .now) (a .epoch) (due .result) (c .before .count2 .result) (c .before .before .event-count .result) (c .before .count2 .ensures) (c .before .before .event-count .ensures) (c .if6 .taken)))
 
 sends-requires : tie.Need-sends-requires
 sends-requires c κs = search needs
@@ -183,8 +181,8 @@ packed c =
 long : (c : tie.Joined7) → length (c .if7 .out) ≡ length (c .before .before .before .before .before .before .before .before .before .before .before .before .before .before .before .before .before .before .args .out .now)
 long c = ⊎-elim {0, 0, 0} (λ w. rw (w .11) (w .7 .kept .1 .0 ∙ long-resent (record { before = record { before = record { before = record { before = record { before = record { before = c .before; if7 = w .0 }; sending-width = w .1 }; size = w .2 }; buffer-full = w .3 }; if8 = w .4 }; if9 = w .5 }))) (λ w. rw (w .2)) (c .if7 .came)
 
-tell-requires : tie.Need-tell-requires
-tell-requires c κs = search needs
+announce-requires : tie.Need-announce-requires
+announce-requires c κs = search needs
 
 -- and announced
 announced : (c : tie.Joined10) → Announced (c .before .before .before .before .before .before .before .before .before .before .before .before .before .before .before .before .before .before .before .args .self) (c .before .before .before .before .before .before .before .before .before .before .before .before .before .before .before .before .before .before .before .args .out .now) (c .before .before .before .before .before .before .before .before .before .before .before .before .before .before .before .before .before .before .before .args .statuses) (c .before .before .before .before .before .before .before .before .before .before .before .before .before .before .before .before .before .before .before .args .now) (c .before .before .before .before .before .before .before .before .before .before .before .before .before .before .before .before .before .before .before .args .epoch) (c .before .before .before .before .before .before .due-at .result) (c .before .if7 .self) (c .if10 .self)
@@ -192,7 +190,7 @@ announced c =
     let a = c .before .before .before .before .before .before .before .before .before .before .before .before .before .before .before .before .before .before .before .args in
     let d = c .before .before .before .before .before .before .due-at .result in
     let n = c .before .before .before .before .count2 in
-    let m = c .before .before .before .before .before .told in
+    let m = c .before .before .before .before .before .event-count in
     ⊎-elim {0, 0, 0}
     (λ w. rw (w .3) (announced-some (a .self) (a .out .now) (a .statuses) (a .now) (a .epoch) d (n .result) (m .result) (n .ensures) (m .ensures) (c .before .if7 .self) (packed (c .before) .0) (c .before .before .before .if6 .left) (w .1 .result) (w .1 .ensures)))
     (λ w. rw (w .1) (announced-none (a .self) (a .out .now) (a .statuses) (a .now) (a .epoch) d (n .result) (m .result) (n .ensures) (m .ensures) (c .before .if7 .self) (packed (c .before) .0) (w .0 .left)))
@@ -213,7 +211,7 @@ returns-8 c =
     let count = c .before .before .before .before .before .before .before .before .before .count in
     let due = c .before .before .before .before .before .before .before .before .due-at in
     let n = c .before .before .before .before .before .before .count2 in
-    let m = c .before .before .before .before .before .before .before .told in
+    let m = c .before .before .before .before .before .before .before .event-count in
     act-running (a .self) (a .out .now) (a .statuses) (a .now) (a .epoch) (a .nonce) (good-clocks (c .before .before .before .before .before .before .before .before .before .before .before .before .before .before .before .before)) (c .before .before .before .before .before .before .before .before .before .before .before .before .before .if3 .left) (c .before .before .before .before .before .before .before .before .before .before .enum-told2 .given .1) _ _
     (running-done (a .self) (a .out .now) (a .statuses) (a .now) (a .epoch) (due .result) (count .result) (count .ensures) (due .ensures)
     (c .before .before .before .if7 .self) (c .before .before .if10 .self) (c .before .before .before .if7 .out) (c .before .clocks-after .result) (c .flags-after .result)
@@ -266,7 +264,7 @@ act-spec =
     enum-told-2
     count-requires
     due-at-requires
-    told-requires
+    event-count-requires
     count-requires-2
     add-if6
     returns-6
@@ -278,7 +276,7 @@ act-spec =
     newest-requires
     pending-input-requires
     write-reports-requires
-    tell-requires
+    announce-requires
     clocks-after-requires
     flags-after-requires
     same-length-3

@@ -1,5 +1,5 @@
 use borrow.Author.Needs.{needs}
-use Rattle.endpoint.specs.Inside.Arrival.{callOf}
+use Rattle.endpoint.specs.Inside.Arrival.{arrivalCall}
 use Rattle.endpoint.proofs.Endpoint.datagram.Statement.{statement}
 use Rattle.endpoint.proofs.Endpoint.datagram.Tie as tie
 
@@ -13,7 +13,7 @@ same-length : tie.Need-same-length
 same-length c = search needs
 
 returns : tie.Need-returns
-unfolding callOf
+unfolding arrivalCall
 returns c = c .before .before .handle-message .ensures
 
 pub datagram-spec : {M : Type 1} → statement M

@@ -21,7 +21,7 @@ use Rattle.endpoint_rules.specs.Seen.{isSynchronizing}
 use Rattle.endpoint_rules.specs.Step.{ignoredBy, step}
 use Rattle.endpoint.specs.declared.Ended.{Ended}
 use Rattle.endpoint.specs.Endpoint.{seen, DidAs}
-use Rattle.endpoint.specs.Inside.Arrival.{callOf}
+use Rattle.endpoint.specs.Inside.Arrival.{arrivalCall}
 use Rattle.endpoint.specs.Inside.Packet.{news}
 use Rattle.endpoint.proofs.Laws.Message.InputAck.{Drops, drops-some, drops-none}
 use Rattle.endpoint.proofs.Laws.Message.Arrival.{arrived}
@@ -61,7 +61,7 @@ heeded h = rw (← h .before .before .is-ignored .ensures) (open-heeded _ _ _ (h
 arrives : (h : tie.Else1) →
     let a = h .before .before .before .before .before .before .before .before .before .args in
     (x : Ended) (b : List ℕ) → DidAs (a .self) (Does (a .self) (a .from) (heard h) (lent h) (a .now) (a .epoch) (a .nonce) (a .out .now)) (a .out .now) x b
-    → DidAs (a .self) (step (callOf (a .is-datagram) (a .from) (a .given) (a .bytes .now) (a .now) (a .epoch) (a .nonce) (length (a .out .now))) (seen (a .self))) (a .out .now) x b
+    → DidAs (a .self) (step (arrivalCall (a .is-datagram) (a .from) (a .given) (a .bytes .now) (a .now) (a .epoch) (a .nonce) (length (a .out .now))) (seen (a .self))) (a .out .now) x b
 arrives h x b d =
     let a = h .before .before .before .before .before .before .before .before .before .args in
     let v = h .before .before .before .before .before .before .read in
@@ -226,14 +226,14 @@ returns-6 c =
     (wide (c .before .before .before .before .before .before .before .before .before .before .before .before .before .before .before .before .before .before)) (c .before .before .before .before .before .before .before .before .before .news-of .result) (c .before .before .before .before .before .before .before .before .before .news-of .ensures) (c .before .before .push-packet .result) (c .before .before .push-packet .ensures) (not-true _ (c .if8 .taken)))
 
 -- the endpoint after what is announced
-telling : (c : tie.Joined7) →
+announcing : (c : tie.Joined7) →
     let k = c .before .before .before .before .before .before .before .before .before .before .before .before .before .before .before .before in
     let h = k .before .before .before .before in
     let a = h .before .before .before .before .before .before .before .before .before .args in
     AnnouncedAs (a .self)
-    (ahead (c .before .before .before .before .before .before .before .before .before .inform .result .resumes) (c .before .before .before .before .before .before .before .before .before .inform .result .tells) ++ pick (c .before .before .before .before .before .before .before .before .before .before .before .before .«open» .result .readable) (news (a .self .setup) (newestOf (received (a .self .history))) (c .before .before .before .before .before .before .before .before .before .before .before .before .before .before .input-of .result .«start_frame») (c .before .before .before .before .before .before .before .before .before .before .before .before .«open» .result .input .bytes) (lent h)) [])
+    (ahead (c .before .before .before .before .before .before .before .before .before .inform .result .resumes) (c .before .before .before .before .before .before .before .before .before .inform .result .disconnects) ++ pick (c .before .before .before .before .before .before .before .before .before .before .before .before .«open» .result .readable) (news (a .self .setup) (newestOf (received (a .self .history))) (c .before .before .before .before .before .before .before .before .before .before .before .before .before .before .input-of .result .«start_frame») (c .before .before .before .before .before .before .before .before .before .before .before .before .«open» .result .input .bytes) (lent h)) [])
     (c .if7 .self)
-telling c =
+announcing c =
     let k = c .before .before .before .before .before .before .before .before .before .before .before .before .before .before .before .before in
     let h = k .before .before .before .before in
     let a = h .before .before .before .before .before .before .before .before .before .args in
@@ -271,8 +271,8 @@ take-in-requires c κs = search needs
 newest-requires : tie.Need-newest-requires
 newest-requires c κs = search needs
 
-plain-requires : tie.Need-plain-requires
-plain-requires c κs = search needs
+body-only-requires : tie.Need-body-only-requires
+body-only-requires c κs = search needs
 
 same-length-3 : tie.Need-same-length-3
 same-length-3 c = search needs
@@ -285,8 +285,8 @@ returns-7 c =
     arrives h _ _ (packet-read (a .self) (a .from) (heard h) (lent h) (a .now) (a .epoch) (a .nonce) (a .out .now) (good h) (heeded h)
     _ _ _ (c .before .before .before .before .before .before .before .before .before .before .before .before .before .before .before .before .before .before .before .before .before .before .before .before .before .before .input-of .ensures (sym (k .kind-of .ensures) ∙ c .before .before .before .before .before .before .before .before .before .before .before .before .before .before .before .before .before .before .before .before .before .before .before .before .before .before .before .match .keys2)) (c .before .before .before .before .before .before .before .before .before .before .before .before .before .before .before .before .before .before .before .before .before .before .before .before .«open» .result) (c .before .before .before .before .before .before .before .before .before .before .before .before .before .before .before .before .before .before .before .before .before .before .before .before .«open» .ensures) (not-true _ (c .before .before .before .before .before .before .before .before .before .before .before .before .before .before .before .before .before .before .before .before .before .before .if5 .taken)) (c .before .before .before .before .before .before .before .before .before .before .before .before .before .before .before .before .before .before .before .before .before .inform .result) (c .before .before .before .before .before .before .before .before .before .before .before .before .before .before .before .before .before .before .before .before .before .inform .ensures)
     (c .before .before .before .before .before .before .before .before .before .before .before .before .before .before .before .before .before .before .before .before .admit2 .result) (c .before .before .before .before .before .before .before .before .before .before .before .before .before .before .before .before .before .before .before .before .admit2 .ensures) (c .before .before .before .before .before .before .before .before .before .before .before .before .before .before .before .before .before .before .before .if6 .left) (c .before .before .before .before .before .before .before .before .before .before .before .before .before .before .before .before .receiving-width .result) (c .before .before .before .before .before .before .before .before .before .before .before .before .before .before .before .before .receiving-width .ensures)
-    (c .before .before .before .before .before .before .before .before .before .before .before .before .if7 .self) (telling (c .before .before .before .before .before .before .before .before .before .before .before .before)) (c .before .before .before .before .before .before .before .before .before .before .if9 .self) (dropping (c .before .before .before .before .before .before .before .before .before .before)) (c .before .before .before .before .before .before .before .before .before .noted .result) (c .before .before .before .before .before .before .before .before .before .noted .ensures) (c .before .before .before .before .before .before .if10 .taken)
-    (c .before .before .before .before .before .take-in .result) (c .before .before .before .before .before .take-in .ensures) (c .before .before .before .newest .result) (c .before .before .before .newest .ensures) (c .before .before .plain .result) (c .before .before .plain .last .0) (c .before .before .plain .ensures))
+    (c .before .before .before .before .before .before .before .before .before .before .before .before .if7 .self) (announcing (c .before .before .before .before .before .before .before .before .before .before .before .before)) (c .before .before .before .before .before .before .before .before .before .before .if9 .self) (dropping (c .before .before .before .before .before .before .before .before .before .before)) (c .before .before .before .before .before .before .before .before .before .noted .result) (c .before .before .before .before .before .before .before .before .before .noted .ensures) (c .before .before .before .before .before .before .if10 .taken)
+    (c .before .before .before .before .before .take-in .result) (c .before .before .before .before .before .take-in .ensures) (c .before .before .before .newest .result) (c .before .before .before .newest .ensures) (c .before .before .body-only .result) (c .before .before .body-only .last .0) (c .before .before .body-only .ensures))
 
 returns-8 : tie.Need-returns-8
 returns-8 c =
@@ -296,7 +296,7 @@ returns-8 c =
     arrives h _ _ (packet-unread (a .self) (a .from) (heard h) (lent h) (a .now) (a .epoch) (a .nonce) (a .out .now) (good h) (heeded h)
     _ _ _ (c .before .before .before .before .before .before .before .before .before .before .before .before .before .before .before .before .before .before .before .before .input-of .ensures (sym (k .kind-of .ensures) ∙ c .before .before .before .before .before .before .before .before .before .before .before .before .before .before .before .before .before .before .before .before .before .match .keys2)) (c .before .before .before .before .before .before .before .before .before .before .before .before .before .before .before .before .before .before .«open» .result) (c .before .before .before .before .before .before .before .before .before .before .before .before .before .before .before .before .before .before .«open» .ensures) (not-true _ (c .before .before .before .before .before .before .before .before .before .before .before .before .before .before .before .before .if5 .taken)) (c .before .before .before .before .before .before .before .before .before .before .before .before .before .before .before .inform .result) (c .before .before .before .before .before .before .before .before .before .before .before .before .before .before .before .inform .ensures)
     (c .before .before .before .before .before .before .before .before .before .before .before .before .before .before .admit2 .result) (c .before .before .before .before .before .before .before .before .before .before .before .before .before .before .admit2 .ensures) (c .before .before .before .before .before .before .before .before .before .before .before .before .before .if6 .left) (c .before .before .before .before .before .before .before .before .before .before .receiving-width .result) (c .before .before .before .before .before .before .before .before .before .before .receiving-width .ensures)
-    (c .before .before .before .before .before .before .if7 .self) (telling (c .before .before .before .before .before .before)) (c .before .before .before .before .if9 .self) (dropping (c .before .before .before .before)) (c .before .before .before .noted .result) (c .before .before .before .noted .ensures) (c .if10 .left))
+    (c .before .before .before .before .before .before .if7 .self) (announcing (c .before .before .before .before .before .before)) (c .before .before .before .before .if9 .self) (dropping (c .before .before .before .before)) (c .before .before .before .noted .result) (c .before .before .before .noted .ensures) (c .if10 .left))
 
 returns-9 : tie.Need-returns-9
 returns-9 c =
@@ -487,7 +487,7 @@ handle-message-spec =
     noted-requires
     take-in-requires
     newest-requires
-    plain-requires
+    body-only-requires
     same-length-3
     returns-7
     returns-8

@@ -12,14 +12,14 @@ is-bad-requires c κs = search needs
 returns : tie.Need-returns
 returns c = send-clock (c .before .before .before .args .self) (c .before .before .before .args .out .now) (c .before .before .before .args .frame) (c .before .before .before .args .checksum) (c .before .before .before .args .now) (sym (c .before .is-bad .ensures) ∙ c .if1 .taken)
 
-plain-requires : tie.Need-plain-requires
-plain-requires c κs = search needs
+body-only-requires : tie.Need-body-only-requires
+body-only-requires c κs = search needs
 
 same-length : tie.Need-same-length
 same-length c = search needs
 
 returns-2 : tie.Need-returns-2
-returns-2 c = send-full (c .before .before .before .before .before .before .before .before .before .args .self) (c .before .before .before .before .before .before .before .before .before .args .out .now) (c .before .before .before .before .before .before .before .before .before .args .frame) (c .before .before .before .before .before .before .before .before .before .args .checksum) (c .before .before .before .before .before .before .before .before .before .args .now) (sym (c .before .before .before .before .before .before .before .is-bad .ensures) ∙ c .before .before .before .before .before .before .if1 .left) (c .before .before .before .before .plain .result) (c .before .before .before .before .plain .last .0) (c .before .before .before .before .plain .ensures) (not-true _ (c .if2 .taken))
+returns-2 c = send-full (c .before .before .before .before .before .before .before .before .before .args .self) (c .before .before .before .before .before .before .before .before .before .args .out .now) (c .before .before .before .before .before .before .before .before .before .args .frame) (c .before .before .before .before .before .before .before .before .before .args .checksum) (c .before .before .before .before .before .before .before .before .before .args .now) (sym (c .before .before .before .before .before .before .before .is-bad .ensures) ∙ c .before .before .before .before .before .before .if1 .left) (c .before .before .before .before .body-only .result) (c .before .before .before .before .body-only .last .0) (c .before .before .before .before .body-only .ensures) (not-true _ (c .if2 .taken))
 
 sent-requires : tie.Need-sent-requires
 sent-requires c κs = search needs
@@ -31,7 +31,7 @@ returns-3 : tie.Need-returns-3
 returns-3 c =
     let s = c .before .before .before .before .before .before .before .before .before .before .args in
     send-done (s .self) (s .out .now) (s .frame) (s .checksum) (s .now) (sym (c .before .before .before .before .before .before .before .before .is-bad .ensures) ∙ c .before .before .before .before .before .before .before .if1 .left)
-    (c .before .before .before .before .before .plain .result) (c .before .before .before .before .before .plain .last .0) (c .before .before .before .before .before .plain .ensures) (c .sent .result)
+    (c .before .before .before .before .before .body-only .result) (c .before .before .before .before .before .body-only .last .0) (c .before .before .before .before .before .body-only .ensures) (c .sent .result)
     (no-event-fits (s .self) _ (c .before .before .before .before .before .before .before .before .before .before .good .0)) (not-false _ (c .before .if2 .left)) (c .sent .ensures)
 
 pub send-checksum-report-spec : {M : Type 1} → statement M
@@ -40,7 +40,7 @@ send-checksum-report-spec =
     (tie.spec
     is-bad-requires
     returns
-    plain-requires
+    body-only-requires
     same-length
     returns-2
     sent-requires

@@ -17,20 +17,20 @@ use Rattle.codec.specs.Bytes.{queueOf}
 use Rattle.codec.specs.declared.MessageBody.{MessageBody}
 use Rattle.codec.specs.declared.MessageBody.the-variants.{SyncRequest, SyncReply, Input, InputAck, QualityReport, QualityReply, ChecksumReport, KeepAlive}
 use Rattle.outbox.specs.declared.Queued.{Queued}
-use Rattle.outbox.specs.Outbox.{sizes, QueuedAs}
+use Rattle.outbox.specs.Outbox.{queueSize, QueuedAs}
 use Rattle.outbox.proofs.Laws.{queued-room, bytes-size}
 use Rattle.endpoint_rules.specs.Room.{bufferFull}
-use Rattle.endpoint.specs.Inside.Batch.{WrittenAs, WrittenWhere}
+use Rattle.endpoint.specs.Inside.Batch.{BatchWrittenAs, WrittenWhere}
 
 -- ---- sizes
 
-pub sizes-append : (a b : List Wire) → sizes (a ++ b) ≡ sizes a + sizes b
-unfolding sizes
+pub sizes-append : (a b : List Wire) → queueSize (a ++ b) ≡ queueSize a + queueSize b
+unfolding queueSize
 sizes-append [] b = omega arith
 sizes-append (w ∷ ws) b = rw (sizes-append ws b, add-assoc)
 
-pub size-if : (t : Bool) (w : Wire) → sizes (pick t (w ∷ []) []) ≡ pick t (tableSize w) 0
-unfolding sizes
+pub size-if : (t : Bool) (w : Wire) → queueSize (pick t (w ∷ []) []) ≡ pick t (tableSize w) 0
+unfolding queueSize
 size-if true w = add-zero (tableSize w)
 size-if false w = refl
 
@@ -80,11 +80,11 @@ empty (x ∷ xs) h = absurd (omega arith)
 
 module _ (b : List ℕ) (at : ℕ) where
   pub written-none : WrittenWhere b at [] at b
-  unfolding sizes flatten
+  unfolding queueSize flatten
   written-none h = record { end = sym (add-zero at); lent = sym (laid-none b at); long = refl }
 
   pub written-one : (w : Wire) (q : Queued) (b′ : List ℕ) → QueuedAs b at w q b′ → WrittenWhere b at (w ∷ []) (q .end) b′
-  unfolding sizes flatten
+  unfolding queueSize flatten
   written-one w q b′ eq h =
       let some = some-bytes (w .body) (length (w .reports)) (length (w .payload)) in
       let room : at + tableSize w ≤ length b = rw add-zero at (room-there (length b) at (tableSize w + 0) h (omega arith)) in
@@ -98,25 +98,25 @@ module _ (b : List ℕ) (at : ℕ) where
   module _ (ws vs : List Wire) (m n : ℕ) (b′ b″ : List ℕ) where
     pub written-then : WrittenWhere b at ws m b′ → WrittenWhere b′ m vs n b″ → WrittenWhere b at (ws ++ vs) n b″
     written-then first second h =
-        elim (below-or-not 0 (sizes ws + sizes vs)) [
+        elim (below-or-not 0 (queueSize ws + queueSize vs)) [
           | inl some ↦
-              let room : at + (sizes ws + sizes vs) ≤ length b = room-there (length b) at (sizes ws + sizes vs) full some in
-              let x = first (room-is (length b) at (sizes ws) (λ p. omega arith)) in
+              let room : at + (queueSize ws + queueSize vs) ≤ length b = room-there (length b) at (queueSize ws + queueSize vs) full some in
+              let x = first (room-is (length b) at (queueSize ws) (λ p. omega arith)) in
               let kept : length b′ ≡ length b = rw (x .lent) (laid-length b at (queueOf ws) (omega (arith, x .long))) in
-              let y = second (room-is (length b′) m (sizes vs) (λ p. omega (arith, x .end))) in
+              let y = second (room-is (length b′) m (queueSize vs) (λ p. omega (arith, x .end))) in
               ends x y (y .lent ∙ rw (x .lent, x .end, ← x .long) (laid-join b at (queueOf ws) (queueOf vs) (omega (arith, x .long, y .long))))
           | inr none ↦
-              let x = first (room-is (length b) at (sizes ws) (λ p. absurd (omega arith))) in
-              let y = second (room-is (length b′) m (sizes vs) (λ p. absurd (omega arith))) in
+              let x = first (room-is (length b) at (queueSize ws) (λ p. absurd (omega arith))) in
+              let y = second (room-is (length b′) m (queueSize vs) (λ p. absurd (omega arith))) in
               let no-first : queueOf ws ≡ [] = empty (queueOf ws) (omega (arith, x .long)) in
               let no-second : queueOf vs ≡ [] = empty (queueOf vs) (omega (arith, y .long)) in
               ends x y (y .lent ∙ rw (x .lent, no-first, no-second, laid-none))
         ]
       where
-        full : bufferFull (length b) at (sizes ws + sizes vs) ≡ false
+        full : bufferFull (length b) at (queueSize ws + queueSize vs) ≡ false
         full = rw sizes-append at h
 
-        ends : WrittenAs b at ws m b′ → WrittenAs b′ m vs n b″ → b″ ≡ laidAt b at (queueOf ws ++ queueOf vs) → WrittenAs b at (ws ++ vs) n b″
+        ends : BatchWrittenAs b at ws m b′ → BatchWrittenAs b′ m vs n b″ → b″ ≡ laidAt b at (queueOf ws ++ queueOf vs) → BatchWrittenAs b at (ws ++ vs) n b″
         ends x y lent = record {
           end = y .end ∙ rw (x .end, sizes-append, add-assoc);
           lent = rw queue-append lent;

@@ -4,19 +4,20 @@ use mathlib.Core.Bool.{Bool, true, false, not, _&&_, _||_}
 use mathlib.Core.List.{List, [], _∷_, _++_, append-nil, append-assoc}
 use mathlib.Core.Path.{_≡_, refl, _∙_}
 use native.Mathlib.Omega.{arith}
-use Prim.Native.Nat.{ℕ, _+_, _-_}
+use Prim.Native.Nat.{ℕ, _-_}
 use lib.Dec.{ltb}
-use lib.ListN.{length, replicate}
+use lib.ListN.{length}
 use Rattle.base.specs.Pick.{pick}
 use Rattle.packing.specs.declared.input_bytes.InputBytes.{InputBytes}
 use Rattle.status.specs.declared.ConnectionStatus.{ConnectionStatus}
 use Rattle.timers.specs.declared.Clocks.{Clocks}
 use Rattle.timers.specs.Timers.{passed, timed}
 use Rattle.codec.specs.Message.{Wire}
-use Rattle.codec.specs.Read.{plain}
+use Rattle.codec.specs.Read.{bodyOnly}
 use Rattle.codec.specs.declared.MessageBody.the-variants.{QualityReport, KeepAlive}
 use Rattle.quality.specs.Quality.{clamped}
 use Rattle.events.specs.declared.Entry.{Entry}
+use Rattle.events.specs.Events.{withoutInput}
 use Rattle.events.specs.declared.Event.the-variants as Event
 use Rattle.setup.specs.Setup.{sendingWidth}
 use Rattle.endpoint_rules.specs.declared.Flags.{Flags}
@@ -28,7 +29,7 @@ use Rattle.endpoint_rules.specs.Reports.{pingOf, reportQueued}
 use Rattle.endpoint_rules.specs.Act.{resendDue, reportDue, keepAliveDue, interruptionDue, disconnectDue, resent, reportSent, keptAlive, interrupted, timedOut, acted}
 use Rattle.endpoint.specs.declared.act.due.Due.{Due}
 use Rattle.endpoint.specs.Inside.Due.{dueOf, clocksBy, flagged, flagsBy, dueEvents}
-use Rattle.endpoint.specs.Inside.Batch.{batch, reports}
+use Rattle.endpoint.specs.Inside.Batch.{batch, dueReports}
 
 -- a clock set by one of two
 either : (a b : Bool) (x y : ℕ) → pick b x (pick a x y) ≡ pick (a || b) x y
@@ -45,19 +46,19 @@ module _ (now : ℕ) (s : Seen) where
   some = ltb 0 (length (s .carried .sender .pending))
 
   abbrev report : (epoch : ℕ) → Wire
-  report epoch = plain (s .setup .magic) (QualityReport (clamped (s .quality .«local_frame_advantage»)) (pingOf epoch))
+  report epoch = bodyOnly (s .setup .magic) (QualityReport (clamped (s .quality .«local_frame_advantage»)) (pingOf epoch))
 
   abbrev alive : Wire
-  alive = plain (s .setup .magic) KeepAlive
+  alive = bodyOnly (s .setup .magic) KeepAlive
 
   abbrev left : ℕ
   left = s .setup .disconnectTimeout - s .setup .notifyStart
 
   abbrev interruption : Entry
-  interruption = record { event = Event.NetworkInterrupted left; input = replicate 16 0 }
+  interruption = withoutInput (Event.NetworkInterrupted left)
 
   abbrev disconnection : Entry
-  disconnection = record { event = Event.Disconnected; input = replicate 16 0 }
+  disconnection = withoutInput Event.Disconnected
 
   -- each step, by whether it is due
   module _ (c : Clocks) (f : Flags) (out : List Wire) (events : List Entry) where
@@ -151,7 +152,7 @@ module _ (now : ℕ) (s : Seen) where
       planned = record { resend = r; input = r && some; report = q; «keep_alive» = k; interruption = i; disconnect = o }
 
       comes-to : going c₃ (flagged false o (flagged i false (s .flags))) o₃ (t₁ ++ pick o (disconnection ∷ []) []) ≡ ran planned
-      unfolding clocksBy flagsBy dueEvents batch reports
+      unfolding clocksBy flagsBy dueEvents batch dueReports
       comes-to = rw (either (r && some) q now (s .clocks .«last_send_time»), either ((r && some) || q) k now (s .clocks .«last_send_time»), append-assoc)
 
     pub running-is : (nonce : ℕ) → acted Running now epoch nonce statuses (begin s) ≡ ran due

@@ -15,7 +15,7 @@ use Rattle.answer.specs.declared.Answer.{Answer}
 use Rattle.answer.specs.declared.Answer.the-variants.{Done, BadLength, Full, BadClock}
 use Rattle.status.specs.declared.ConnectionStatus.{ConnectionStatus}
 use Rattle.status.specs.declared.list.Statuses.{Statuses}
-use Rattle.status.specs.Statuses.{held as heldStatuses}
+use Rattle.status.specs.Statuses.{heldStatuses}
 use Rattle.pending.specs.Pending.{waiting}
 use Rattle.history.specs.History.{received, newestOf}
 use Rattle.nonces.specs.declared.Issued.{Issued}
@@ -25,12 +25,12 @@ use Rattle.timers.specs.Timers.{badClocks, passed}
 use Rattle.events.specs.declared.Entry.{Entry}
 use Rattle.events.specs.declared.Events.{Events}
 use Rattle.events.specs.declared.Pushed.{Pushed}
-use Rattle.events.specs.Events.{held, hasRoom, both, PushedAs}
+use Rattle.events.specs.Events.{heldEvents, hasRoom, both, PushedAs}
 use Rattle.events.proofs.Laws.{both-length}
 use Rattle.codec.specs.Message.{Wire}
 use Rattle.setup.specs.Setup.{termsOf, termsWith, sendingWidth}
 use Rattle.outbox.specs.declared.Queued.{Queued}
-use Rattle.outbox.specs.Outbox.{sizes, pendingInput, QueuedAs}
+use Rattle.outbox.specs.Outbox.{queueSize, pendingInput, QueuedAs}
 use Rattle.endpoint_rules.specs.declared.Flags.{Flags}
 use Rattle.endpoint_rules.specs.declared.Phase.{Phase}
 use Rattle.endpoint_rules.specs.declared.Phase.the-variants.{Initializing, Synchronizing, Running, Disconnected, Shutdown}
@@ -49,7 +49,7 @@ use Rattle.endpoint.specs.declared.handshake.Requested.{Requested}
 use Rattle.endpoint.specs.Endpoint.{seen, DidAs, DoneAs}
 use Rattle.endpoint.specs.Inside.Handshake.{RequestedAs}
 use Rattle.endpoint.specs.Inside.Due.{dueOf, clocksBy, flagsBy, dueEvents}
-use Rattle.endpoint.specs.Inside.Batch.{reports, batch, SizedWith, WrittenAs, WrittenWhere}
+use Rattle.endpoint.specs.Inside.Batch.{dueReports, batch, SizedWith, BatchWrittenAs, WrittenWhere}
 use Rattle.endpoint.proofs.Laws.Ends.{inPhase, remade, grown, refused-did, done-done, queued-did, batch-did}
 use Rattle.endpoint.proofs.Laws.Settled.{did-settled}
 use Rattle.endpoint.proofs.Laws.Room.{full-events, room-none, full-bytes, room-bytes, reacted-full, reacted-done}
@@ -81,15 +81,15 @@ module _ (e : Endpoint) (buffer : List ℕ) (statuses : Statuses) (now epoch : �
   abbrev pub Packed : Endpoint → List ℕ → Type 0
   Packed s buffer′ =
       (s ≡ grown e (e .events) (s .queued))
-      × (bufferFull (length buffer) (e .queued) (sizes (Ran .out)) ≡ false)
-      × WrittenAs buffer (e .queued) (Ran .out) (s .queued) buffer′
+      × (bufferFull (length buffer) (e .queued) (queueSize (Ran .out)) ≡ false)
+      × BatchWrittenAs buffer (e .queued) (Ran .out) (s .queued) buffer′
 
   -- t: s with the events that are due announced
   abbrev pub Announced : Endpoint → Endpoint → Type 0
-  Announced s t = (t ≡ grown e (t .events) (s .queued)) × (held (t .events) ≡ held (e .events) ++ DueEvents)
+  Announced s t = (t ≡ grown e (t .events) (s .queued)) × (heldEvents (t .events) ≡ heldEvents (e .events) ++ DueEvents)
 
   pub packed-none : (d .input || d .report) || d .«keep_alive» ≡ false → Packed e buffer
-  unfolding batch reports bufferFull sizes
+  unfolding batch dueReports bufferFull queueSize
   packed-none h =
       let none : Ran .out ≡ [] = none-sent _ _ _ (d .input) (d .report) (d .«keep_alive») h in
       (refl, rw none, rw none (written-none buffer (e .queued) refl))
@@ -112,12 +112,12 @@ module _ (e : Endpoint) (buffer : List ℕ) (statuses : Statuses) (now epoch : �
 
     module _ (size : ℕ) (full : Bool) (wide : width ≡ sendingWidth (termsOf (e .setup))) (whole : length (e .acked .bytes) ≡ 64)
         (sized : SizedWith d (heldStatuses statuses) (waiting (e .pending)) width size) (tested : full ≡ bufferFull (length buffer) (e .queued) size) where
-      pub size-is : bufferFull (length buffer) (e .queued) (sizes (Ran .out)) ≡ full
+      pub size-is : bufferFull (length buffer) (e .queued) (queueSize (Ran .out)) ≡ full
       unfolding seen termsWith
       size-is = rw (← wide, sized (e .acked) whole, tested)
 
       module _ (s : Endpoint) (buffer′ : List ℕ) (resent : Resent s buffer′) (stop : ℕ) (buffer″ : List ℕ)
-          (reported : WrittenWhere buffer′ (s .queued) (reports d (s .setup .magic) (s .quality .«local_frame_advantage») epoch) stop buffer″) where
+          (reported : WrittenWhere buffer′ (s .queued) (dueReports d (s .setup .magic) (s .quality .«local_frame_advantage») epoch) stop buffer″) where
         all-written : WrittenWhere buffer (e .queued) (batch d (e .setup .magic) (newestOf (received (e .history))) (heldStatuses statuses) (waiting (e .pending)) width (e .acked) (e .quality .«local_frame_advantage») epoch) stop buffer″
         unfolding batch
         all-written =
@@ -131,18 +131,18 @@ module _ (e : Endpoint) (buffer : List ℕ) (statuses : Statuses) (now epoch : �
             (ap (λ (x : Endpoint). grown x (x .events) stop) (resent .0), size-is ∙ k, rw wide at (all-written (rw (sized (e .acked) whole) (sym tested ∙ k))))
 
   -- n events wait, m are due
-  module _ (n m : ℕ) (en : n ≡ length (held (e .events))) (em : m ≡ pick (d .interruption) 1 0 + pick (d .disconnect) 1 0) where
+  module _ (n m : ℕ) (en : n ≡ length (heldEvents (e .events))) (em : m ≡ pick (d .interruption) 1 0 + pick (d .disconnect) 1 0) where
     announced-many : length DueEvents ≡ m
     unfolding dueEvents both
     announced-many = rw em (both-length (d .interruption) _ (d .disconnect) _)
 
-    pub announced-full : 640 < n + m → hasRoom (held (e .events)) (length DueEvents) ≡ false
+    pub announced-full : 640 < n + m → hasRoom (heldEvents (e .events)) (length DueEvents) ≡ false
     unfolding hasRoom
-    announced-full h = lt-leb (length (held (e .events)) + length DueEvents) 640 (omega (arith, en, announced-many, h))
+    announced-full h = lt-leb (length (heldEvents (e .events)) + length DueEvents) 640 (omega (arith, en, announced-many, h))
 
-    pub announced-fits : n + m ≤ 640 → hasRoom (held (e .events)) (length DueEvents) ≡ true
+    pub announced-fits : n + m ≤ 640 → hasRoom (heldEvents (e .events)) (length DueEvents) ≡ true
     unfolding hasRoom
-    announced-fits h = le-leb (length (held (e .events)) + length DueEvents) 640 (omega (arith, en, announced-many, h))
+    announced-fits h = le-leb (length (heldEvents (e .events)) + length DueEvents) 640 (omega (arith, en, announced-many, h))
 
     module _ (s : Endpoint) (kept : s ≡ grown e (e .events) (s .queued)) where
       events-kept : s .events ≡ e .events
@@ -153,7 +153,7 @@ module _ (e : Endpoint) (buffer : List ℕ) (statuses : Statuses) (now epoch : �
           let none : DueEvents ≡ [] = empty DueEvents (omega (arith, announced-many, h)) in
           (kept ∙ ap (λ (v : Events). grown e v (s .queued)) (sym events-kept), rw (events-kept, none, append-nil))
 
-      pub announced-some : n + m ≤ 640 → (p : Pushed) → PushedAs (s .events) (hasRoom (held (s .events)) (length DueEvents)) DueEvents p → Announced s (grown s (p .events) (s .queued))
+      pub announced-some : n + m ≤ 640 → (p : Pushed) → PushedAs (s .events) (hasRoom (heldEvents (s .events)) (length DueEvents)) DueEvents p → Announced s (grown s (p .events) (s .queued))
       announced-some h p ep =
           (ap (λ (x : Endpoint). grown x (p .events) (s .queued)) kept, rw (events-kept, announced-fits h) at (ep .view))
 
@@ -169,15 +169,15 @@ module _ (e : Endpoint) (buffer : List ℕ) (statuses : Statuses) (now epoch : �
     unfolding acts seen termsWith
     ran-is = running-is now (seen e) (heldStatuses statuses) epoch 0 ∙ ap (ran now (seen e) (heldStatuses statuses) epoch) (sym (rw some at due))
 
-    pub running-unannounced : hasRoom (held (e .events)) (length DueEvents) ≡ false → Ending Full e buffer
+    pub running-unannounced : hasRoom (heldEvents (e .events)) (length DueEvents) ≡ false → Ending Full e buffer
     unfolding acts seen termsWith
     running-unannounced h = refused-did e Full _ (reacted-full (length buffer) (seen e) Run refl refl (rw ran-is (full-events buffer Ran h))) buffer
 
-    pub running-full : bufferFull (length buffer) (e .queued) (sizes (Ran .out)) ≡ true → Ending Full e buffer
+    pub running-full : bufferFull (length buffer) (e .queued) (queueSize (Ran .out)) ≡ true → Ending Full e buffer
     unfolding acts seen
     running-full h = refused-did e Full _ (reacted-full (length buffer) (seen e) Run refl refl (rw ran-is (full-bytes buffer Ran h))) buffer
 
-    module _ (s t : Endpoint) (buffer′ : List ℕ) (c : Clocks) (f : Flags) (room : hasRoom (held (e .events)) (length DueEvents) ≡ true) (packed : Packed s buffer′) (announced : Announced s t) where
+    module _ (s t : Endpoint) (buffer′ : List ℕ) (c : Clocks) (f : Flags) (room : hasRoom (heldEvents (e .events)) (length DueEvents) ≡ true) (packed : Packed s buffer′) (announced : Announced s t) where
       ends : c ≡ clocksBy d now (e .clocks) → f ≡ flagsBy d (e .flags)
           → Ending Done (remade e (e .pending) (e .acked) (e .history) (e .sync) (e .nonces) c f (e .quality) (e .statuses) (e .checksums) (t .events) (s .queued)) buffer′
       unfolding acts seen termsWith
@@ -194,8 +194,8 @@ module _ (e : Endpoint) (buffer : List ℕ) (statuses : Statuses) (now epoch : �
 -- ---- the other phases, which announce nothing
 
 -- and queue nothing
-module _ (e : Endpoint) (room : hasRoom (held (e .events)) 0 ≡ true) (r : Reaction) (short : r .tooLong ≡ false) (within : r .overflows ≡ false) (stored : r .storeFull ≡ false) where
-  pub quiet-done : (n : Endpoint) → r .effect .out ≡ [] → r .effect .events ≡ [] → r .effect .state .events ≡ held (e .events) → seen n ≡ r .effect .state
+module _ (e : Endpoint) (room : hasRoom (heldEvents (e .events)) 0 ≡ true) (r : Reaction) (short : r .tooLong ≡ false) (within : r .overflows ≡ false) (stored : r .storeFull ≡ false) where
+  pub quiet-done : (n : Endpoint) → r .effect .out ≡ [] → r .effect .events ≡ [] → r .effect .state .events ≡ heldEvents (e .events) → seen n ≡ r .effect .state
       → DoneAs e (reacted 0 (seen e) r) (record { answer = Done; endpoint = n })
   quiet-done n o t ev after =
       done-done e n (r .effect) _ (reacted-done 0 (seen e) r short within stored (room-none [] (r .effect) o (rw (t, ev) room))) o (after ∙ rw (t, append-nil))
@@ -207,7 +207,7 @@ module _ (e : Endpoint) (buffer : List ℕ) (now nonce : ℕ) where
   abbrev Asking : Answer → Endpoint → List ℕ → Type 0
   Asking a n buffer′ = DidAs e (reacted (length buffer) (seen e) Ask) buffer (record { answer = a; endpoint = n }) buffer′
 
-  pub synchronizing-idle : hasRoom (held (e .events)) 0 ≡ true → passed (e .clocks .«last_sync_request_time») 200 now ≡ false → Asking Done e buffer
+  pub synchronizing-idle : hasRoom (heldEvents (e .events)) 0 ≡ true → passed (e .clocks .«last_sync_request_time») 200 now ≡ false → Asking Done e buffer
   unfolding acts acted seen
   synchronizing-idle room h = unqueued e Ask (rw h) buffer _ (quiet-done e room Ask refl refl (rw h) e (rw h) (rw h) (rw h) (rw h))
 
@@ -222,7 +222,7 @@ module _ (e : Endpoint) (buffer : List ℕ) (now nonce : ℕ) where
         rw (er .same k) (refused-did e Full _
         (rw (due, request-full buffer (e .setup .magic) nonce (outstanding (e .nonces)) Asked refl (r .ok) (rw (ei .ok) at (er .ok)) k)) buffer)
 
-    pub synchronizing-done : hasRoom (held (e .events)) 0 ≡ true → r .ok ≡ true
+    pub synchronizing-done : hasRoom (heldEvents (e .events)) 0 ≡ true → r .ok ≡ true
         → Asking Done (remade e (e .pending) (e .acked) (e .history) (e .sync) (i .nonces) (r .clocks) (e .flags) (e .quality) (e .statuses) (e .checksums) (e .events) (r .end)) buffer′
     unfolding reacted decided acts acted request nonceIssued queueWire seen termsWith
     synchronizing-done room k =
@@ -230,7 +230,7 @@ module _ (e : Endpoint) (buffer : List ℕ) (now nonce : ℕ) where
         (rw (due, request-fits buffer (e .setup .magic) nonce (outstanding (e .nonces)) Asked refl (r .ok) (rw (ei .ok) at (er .ok)) k room))
         _ refl buffer buffer′ _ (er .queued k) refl refl (rw (nonces-after i ei er k, er .clocks k, append-nil))
 
-module _ (e : Endpoint) (now : ℕ) (room : hasRoom (held (e .events)) 0 ≡ true) where
+module _ (e : Endpoint) (now : ℕ) (room : hasRoom (heldEvents (e .events)) 0 ≡ true) where
   abbrev Wait : Reaction
   Wait = acts Disconnected now 0 0 [] (seen e)
 
@@ -298,7 +298,7 @@ module _ (e : Endpoint) (buffer : List ℕ) (statuses : Statuses) (now epoch non
           over true = refl
           over false = refl
 
-      pub act-idle : hasRoom (held (e .events)) 0 ≡ true → OneOf (0 ∷ 4 ∷ []) (tagOf the-type (e .sync .phase)) → Acts (record { answer = Done; endpoint = e }) buffer
+      pub act-idle : hasRoom (heldEvents (e .events)) 0 ≡ true → OneOf (0 ∷ 4 ∷ []) (tagOf the-type (e .sync .phase)) → Acts (record { answer = Done; endpoint = e }) buffer
       unfolding acts seen
       act-idle room h =
           let r : Reaction = acts (e .sync .phase) now epoch nonce (heldStatuses statuses) (seen e) in

@@ -6,7 +6,7 @@ use mathlib.Core.Path.{_≡_, refl, sym, _∙_}
 use Prim.Native.Nat.{ℕ, _<_}
 use lib.ListN.{length}
 use Rattle.codec.specs.Message.{Wire, tableSize}
-use Rattle.codec.specs.Read.{plain}
+use Rattle.codec.specs.Read.{bodyOnly}
 use Rattle.codec.specs.declared.MessageBody.{MessageBody}
 use Rattle.answer.specs.declared.Answer.{Answer}
 use Rattle.answer.specs.declared.Answer.the-variants.{Done, Full}
@@ -43,7 +43,7 @@ module _ (e : Endpoint) (buffer : List ℕ) (now : ℕ) (body : MessageBody) (g 
   Replying f t = queue now body (change g (hearing now (seen e) f t))
 
   abbrev Reply : Wire
-  Reply = plain (e .setup .magic) body
+  Reply = bodyOnly (e .setup .magic) body
 
   only : (f : Flags) (t : List Entry) → Replying f t .out ≡ Reply ∷ []
   unfolding queueWire seen termsWith

@@ -9,7 +9,6 @@ use Rattle.answer.specs.Number.{numberOf}
 use Rattle.answer.specs.declared.Answer.{Answer}
 use Rattle.answer.specs.declared.Answer.the-variants.{Done}
 use Rattle.codec.specs.Message.{meant}
-use Rattle.codec.specs.Read.{datagram}
 use Rattle.codec.specs.Calls.{payloadIn, ReadAs}
 use Rattle.codec.specs.declared.Message.{Message}
 use Rattle.codec.specs.declared.Received.{Received}
@@ -20,7 +19,7 @@ use Rattle.endpoint_rules.specs.Step.{datagramStep, step}
 use Rattle.endpoint.specs.declared.Endpoint.{Endpoint}
 use Rattle.endpoint.specs.declared.Ended.{Ended}
 use Rattle.endpoint.specs.Endpoint.{seen, DidAs}
-use Rattle.endpoint.specs.Inside.Arrival.{callOf, ArrivedAs, payloadOf}
+use Rattle.endpoint.specs.Inside.Arrival.{arrivalCall, ArrivedAs, payloadOf}
 use Rattle.endpoint.proofs.Laws.Settled.{did-settled}
 
 pub decided-refused : (a : Answer) (s : Seen) (d : Did) → (numberOf a ≡ 0 → ⊥) → decided (numberOf a) s d ≡ refused (numberOf a) s
@@ -46,8 +45,8 @@ module _ (e : Endpoint) (from : ℕ) (bytes : List ℕ) (now epoch nonce : ℕ) 
   message-given m x b′ d = d
 
   pub arrived : (isDatagram : Bool) (m : Message) (r : Received) → ArrivedAs isDatagram m bytes r → (p : List ℕ) → p ≡ payloadOf isDatagram bytes → (x : Ended) (b′ : List ℕ)
-      → Reads r p x b′ → DidAs e (step (callOf isDatagram from m bytes now epoch nonce (length buffer)) (seen e)) buffer x b′
-  unfolding callOf ArrivedAs payloadOf
+      → Reads r p x b′ → DidAs e (step (arrivalCall isDatagram from m bytes now epoch nonce (length buffer)) (seen e)) buffer x b′
+  unfolding arrivalCall ArrivedAs payloadOf
   arrived false m r read p payload x b′ d = message-given m x b′ (subst (λ y. Reads y bytes x b′) read (subst (λ y. Reads r y x b′) payload d))
   arrived true m r read p payload x b′ d = datagram-read r read p payload x b′ d
 

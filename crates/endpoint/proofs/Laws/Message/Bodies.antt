@@ -5,7 +5,7 @@ use mathlib.Core.Path.{_≡_, refl, sym, _∙_, subst}
 use Prim.Native.Nat.{ℕ}
 use lib.ListN.{length}
 use Rattle.answer.specs.declared.Answer.the-variants.{Done, BadClock}
-use Rattle.codec.specs.Message.{listed, meant}
+use Rattle.codec.specs.Message.{reportList, meant}
 use Rattle.codec.specs.declared.Wide.{Wide}
 use Rattle.codec.specs.declared.Message.{Message}
 use Rattle.codec.specs.declared.MessageBody.{MessageBody}
@@ -68,7 +68,7 @@ module _ (e : Endpoint) (from : ℕ) (m : Message) (p : List ℕ) (now epoch non
       sync-replied reply b′ h d = reacts (SyncReply reply) b′ h (rw (meant-magic m p) d)
 
       pub input-came : (disconnect : Bool) (start ack : ℕ) (b′ : List ℕ) → m .body ≡ Input disconnect start ack
-          → Reacts (onInput now (m .reports .count) (inputMessage disconnect start ack (listed (m .reports)) p) Hears) x b′ → DidAs e Does buffer x b′
+          → Reacts (onInput now (m .reports .count) (inputMessage disconnect start ack (reportList (m .reports)) p) Hears) x b′ → DidAs e Does buffer x b′
       unfolding onBody
       input-came disconnect start ack b′ h d = reacts (Input disconnect start ack) b′ h (rw (meant-reports m p disconnect start ack h, meant-payload m p disconnect start ack h) d)
 

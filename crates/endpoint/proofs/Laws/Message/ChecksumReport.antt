@@ -8,7 +8,7 @@ use Prim.Native.Nat.{ℕ}
 use lib.ListN.{length}
 use Rattle.answer.specs.declared.Answer.{Answer}
 use Rattle.answer.specs.declared.Answer.the-variants.{Done, Full, Overflow, BadClock}
-use Rattle.codec.specs.Read.{plain}
+use Rattle.codec.specs.Read.{bodyOnly}
 use Rattle.codec.specs.declared.Wide.{Wide}
 use Rattle.codec.specs.declared.MessageBody.the-variants.{ChecksumReport}
 use Rattle.setup.specs.Setup.{termsWith, intervalOf}
@@ -17,7 +17,7 @@ use Rattle.timers.specs.Timers.{badClock, sentAt}
 use Rattle.checksums.specs.declared.Reported.{Reported}
 use Rattle.checksums.specs.Checksums.{ReportedAs}
 use Rattle.events.specs.declared.Entry.{Entry}
-use Rattle.events.specs.Events.{held, hasRoom}
+use Rattle.events.specs.Events.{heldEvents, hasRoom}
 use Rattle.outbox.specs.declared.Queued.{Queued}
 use Rattle.outbox.specs.Outbox.{QueuedAs}
 use Rattle.endpoint_rules.specs.declared.Flags.{Flags}
@@ -90,14 +90,14 @@ module _ (e : Endpoint) (buffer : List ℕ) (frame : ℕ) (checksum : Wide) (now
   unfolding step checksumStep decided
   send-clock h = refused-did e BadClock (checksumStep frame checksum now (length buffer) (seen e)) (rw h) buffer
 
-  module _ (good : badClock now ≡ false) (q : Queued) (b′ : List ℕ) (eq : QueuedAs buffer (e .queued) (plain (e .setup .magic) (ChecksumReport checksum frame)) q b′) where
+  module _ (good : badClock now ≡ false) (q : Queued) (b′ : List ℕ) (eq : QueuedAs buffer (e .queued) (bodyOnly (e .setup .magic) (ChecksumReport checksum frame)) q b′) where
     pub send-full : q .ok ≡ false → Sends e Full b′
     unfolding step checksumStep decided checksumSent queueWire seen termsWith
     send-full k =
         rw (rw k at (eq .lent))
         (refused-did e Full (checksumStep frame checksum now (length buffer) (seen e)) (rw (good, full-buffer buffer Sending _ (omega arith) refl (not-false _ (sym (eq .ok) ∙ k)))) buffer)
 
-    pub send-done : (c : Clocks) → hasRoom (held (e .events)) 0 ≡ true → q .ok ≡ true → c ≡ sentAt now (e .clocks)
+    pub send-done : (c : Clocks) → hasRoom (heldEvents (e .events)) 0 ≡ true → q .ok ≡ true → c ≡ sentAt now (e .clocks)
         → Sends (remade e (e .pending) (e .acked) (e .history) (e .sync) (e .nonces) c (e .flags) (e .quality) (e .statuses) (e .checksums) (e .events) (q .end)) Done b′
     unfolding step checksumStep decided checksumSent queueWire seen termsWith
     send-done c room ok ec =

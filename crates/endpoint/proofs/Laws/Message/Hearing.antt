@@ -10,7 +10,7 @@ use Rattle.events.specs.declared.Entry.{Entry}
 use Rattle.events.specs.declared.Events.{Events}
 use Rattle.events.specs.declared.Pushed.{Pushed}
 use Rattle.events.specs.declared.Event.the-variants.{NetworkResumed}
-use Rattle.events.specs.Events.{held, hasRoom, withoutInput, PushedAs}
+use Rattle.events.specs.Events.{heldEvents, hasRoom, withoutInput, PushedAs}
 use Rattle.endpoint_rules.specs.declared.Flags.{Flags}
 use Rattle.endpoint_rules.specs.Seen.{isRunning}
 use Rattle.endpoint_rules.specs.Did.{Effect}
@@ -33,10 +33,10 @@ pub record Ears : Type 0 where
   pub events : Events
 
 pub record HeardAs (e : Endpoint) (x : Effect) (r : Ears) : Type 0 where
-  pub ok : r .ok ≡ hasRoom (held (e .events)) (length (x .events))
+  pub ok : r .ok ≡ hasRoom (heldEvents (e .events)) (length (x .events))
   pub clocks : r .clocks ≡ x .state .clocks
   pub flags : r .flags ≡ x .state .flags
-  pub events : held (r .events) ≡ pick (r .ok) (held (e .events) ++ x .events) (held (e .events))
+  pub events : heldEvents (r .events) ≡ pick (r .ok) (heldEvents (e .events) ++ x .events) (heldEvents (e .events))
 
 abbrev pub ears : Heard → Pushed → Ears
 ears h p = record { ok = p .ok; clocks = h .clocks; flags = h .flags; events = p .events }
@@ -58,7 +58,7 @@ module _ (e : Endpoint) where
     heard-by = heard-is (resumes (seen e)) refl
 
     pub hears : (h : Heard) (x : Entry) (p : Pushed) → h ≡ heardBy (e .sync .phase) (e .clocks) (e .flags) now → x ≡ withoutInput NetworkResumed
-        → PushedAs (e .events) (hasRoom (held (e .events)) (length (pick (h .resumes) (x ∷ []) []))) (pick (h .resumes) (x ∷ []) []) p
+        → PushedAs (e .events) (hasRoom (heldEvents (e .events)) (length (pick (h .resumes) (x ∷ []) []))) (pick (h .resumes) (x ∷ []) []) p
         → HeardAs e (heard now (seen e)) (ears h p)
     unfolding seen
     hears h x p eh ex ep =
@@ -68,13 +68,13 @@ module _ (e : Endpoint) where
 -- What a message has of its endpoint once it is heard, where an interruption's end is announced only if there is one.
 
 -- r: whether an interruption ends, n: how many events there are, f: whether it cannot be announced
-module _ (e : Endpoint) (now : ℕ) (r : Bool) (er : r ≡ (isRunning (e .sync .phase) && e .flags .«disconnect_notify_sent»)) (n : ℕ) (en : n ≡ length (held (e .events)))
+module _ (e : Endpoint) (now : ℕ) (r : Bool) (er : r ≡ (isRunning (e .sync .phase) && e .flags .«disconnect_notify_sent»)) (n : ℕ) (en : n ≡ length (heldEvents (e .events)))
     (f : Bool) (ef : f ≡ (r && leb 640 n)) where
   abbrev pub heardWith : Bool → Events → Ears
   heardWith ok events = record { ok = ok; clocks = heardAt now (e .clocks); flags = resumedFlags r (e .flags); events = events }
 
   abbrev Pushes : Pushed → Type 0
-  Pushes p = PushedAs (e .events) (hasRoom (held (e .events)) (length (pick r (withoutInput NetworkResumed ∷ []) []))) (pick r (withoutInput NetworkResumed ∷ []) []) p
+  Pushes p = PushedAs (e .events) (hasRoom (heldEvents (e .events)) (length (pick r (withoutInput NetworkResumed ∷ []) []))) (pick r (withoutInput NetworkResumed ∷ []) []) p
 
   heard-with : (p : Pushed) → Pushes p → HeardAs e (heard now (seen e)) (heardWith (p .ok) (p .events))
   heard-with p ep = rw er (hears e now (heardBy (e .sync .phase) (e .clocks) (e .flags) now) (withoutInput NetworkResumed) p refl refl (rw er at ep))
@@ -85,7 +85,7 @@ module _ (e : Endpoint) (now : ℕ) (r : Bool) (er : r ≡ (isRunning (e .sync .
   pub ears-quiet : r ≡ false → length (e .events .entries) ≡ 640 → HeardAs e (heard now (seen e)) (heardWith true (e .events))
   ears-quiet h l = heard-with (record { ok = true; events = e .events }) (not-pushed (e .events) r (withoutInput NetworkResumed) h l)
 
-  pub ears-announced : f ≡ false → r ≡ true → (x : Entry) → x ≡ withoutInput NetworkResumed → (p : Pushed) → PushedAs (e .events) (hasRoom (held (e .events)) 1) (x ∷ []) p
+  pub ears-announced : f ≡ false → r ≡ true → (x : Entry) → x ≡ withoutInput NetworkResumed → (p : Pushed) → PushedAs (e .events) (hasRoom (heldEvents (e .events)) 1) (x ∷ []) p
       → HeardAs e (heard now (seen e)) (heardWith true (p .events))
   ears-announced h t x ex p ep =
       let ok : p .ok ≡ true = roomy (e .events) x n en r p (sym ef ∙ h) t ep in

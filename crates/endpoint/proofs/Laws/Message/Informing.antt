@@ -11,11 +11,11 @@ use Rattle.base.proofs.Arrays.{view-at}
 use Rattle.base.proofs.Orders.{getD-within}
 use Rattle.status.specs.declared.ConnectionStatus.{ConnectionStatus}
 use Rattle.status.specs.Status.{defaultStatus, reported}
-use Rattle.status.specs.Statuses.{mergedAt, mergedAll, held as heldStatuses}
+use Rattle.status.specs.Statuses.{mergedAt, mergedAll, heldStatuses}
 use Rattle.status.proofs.MergeAll.{all-turn}
 use Rattle.codec.specs.declared.StatusReport.{StatusReport}
 use Rattle.codec.specs.declared.StatusReports.{StatusReports}
-use Rattle.codec.specs.Message.{listed}
+use Rattle.codec.specs.Message.{reportList}
 use Rattle.timers.specs.declared.Clocks.{Clocks}
 use Rattle.timers.specs.Timers.{heardAt}
 use Rattle.events.specs.declared.Entry.{Entry}
@@ -41,13 +41,13 @@ use Rattle.endpoint.proofs.Laws.Message.Hearing.{heard-by}
 abbrev statusOf : StatusReport → ConnectionStatus
 statusOf x = reported (x .disconnected) (x .«last_frame»)
 
-pub reports-turn : (xs : List ConnectionStatus) (l : StatusReports) (i : ℕ) (d : StatusReport) → i < length (listed l)
-    → mergedAll xs (take (i + 1) (statusesOf (listed l))) ≡ mergedAt i (statusOf (getD (l .list) i d)) (mergedAll xs (take i (statusesOf (listed l))))
+pub reports-turn : (xs : List ConnectionStatus) (l : StatusReports) (i : ℕ) (d : StatusReport) → i < length (reportList l)
+    → mergedAll xs (take (i + 1) (statusesOf (reportList l))) ≡ mergedAt i (statusOf (getD (l .list) i d)) (mergedAll xs (take i (statusesOf (reportList l))))
 reports-turn xs l i d h =
-    let ys : List ConnectionStatus = statusesOf (listed l) in
+    let ys : List ConnectionStatus = statusesOf (reportList l) in
     let within : i < length ys = rw length-map h in
     let there : getD ys i defaultStatus ≡ statusOf (getD (l .list) i d) =
-    getD-within ys i defaultStatus (statusOf d) within ∙ List·getD-map statusOf (listed l) i d ∙ rw (view-at (l .count) (l .list) i d h) in
+    getD-within ys i defaultStatus (statusOf d) within ∙ List·getD-map statusOf (reportList l) i d ∙ rw (view-at (l .count) (l .list) i d h) in
     rw add-one (all-turn xs ys i within ∙ rw there)
 
 pub reports-end : (xs : List ConnectionStatus) (l : List StatusReport) (i : ℕ) → i ≡ length l → mergedAll xs (take i (statusesOf l)) ≡ mergedAll xs (statusesOf l)
@@ -107,7 +107,7 @@ by-informing now ack d reports s P h =
 
 -- what an Input brought, whatever inputs it brings
 pub record Brought (h : Effect) (x : Informed) : Type 0 where
-  pub events : h .events ≡ ahead (x .resumes) (x .tells)
+  pub events : h .events ≡ ahead (x .resumes) (x .disconnects)
   pub clocks : x .clocks ≡ h .state .clocks
   pub flags : x .flags ≡ h .state .flags
   pub statuses : heldStatuses (x .statuses) ≡ h .state .statuses
@@ -118,7 +118,7 @@ module _ (e : Endpoint) (now : ℕ) where
         → Brought (informed d reports (change (acknowledged ack) (heard now (seen e)))) x
     unfolding seen ahead both
     informs x i =
-        rw (heard-by e now, informed-is now ack d reports (seen e) _ _, ← i .tells)
+        rw (heard-by e now, informed-is now ack d reports (seen e) _ _, ← i .disconnects)
         (record { events = rw (i .resumes); clocks = i .clocks; flags = i .flags; statuses = i .statuses })
 
     pub informs-sender : (sd : Seen.Sender) → sd ≡ droppedTo ack (sent (e .pending) (e .acked)) → sd ≡ informed d reports (change (acknowledged ack) (heard now (seen e))) .state .carried .sender

@@ -15,20 +15,20 @@ use Rattle.packing.specs.Packing.{frameCount, framesOf}
 use Rattle.history.specs.declared.History.{History}
 use Rattle.history.specs.History.{received, newestOf, packetOf, takenIn, takenAbove}
 use Rattle.history.proofs.TakenIn.{taken-known}
-use Rattle.status.specs.Statuses.{held as heldStatuses}
+use Rattle.status.specs.Statuses.{heldStatuses}
 use Rattle.codec.specs.declared.Message.{Message}
 use Rattle.codec.specs.declared.StatusReport.{StatusReport}
 use Rattle.codec.specs.declared.MessageBody.the-variants.{Input, InputAck}
-use Rattle.codec.specs.Message.{listed, meant}
-use Rattle.codec.specs.Read.{plain as plainly-sent}
+use Rattle.codec.specs.Message.{reportList, meant}
+use Rattle.codec.specs.Read.{bodyOnly}
 use Rattle.timers.specs.declared.Clocks.{Clocks}
 use Rattle.timers.specs.Timers.{badClock, inputAt, sentAt}
-use Rattle.setup.specs.Setup.{termsOf, receivingWidth, listed as listedHandles}
+use Rattle.setup.specs.Setup.{termsOf, receivingWidth, handleList}
 use Rattle.packing.specs.declared.input_bytes.InputBytes.{InputBytes}
 use Rattle.pending.specs.declared.Pending.{Pending}
 use Rattle.events.specs.declared.Entry.{Entry}
 use Rattle.events.specs.declared.Pushed.{Pushed}
-use Rattle.events.specs.Events.{held, hasRoom, both, ahead, announcedAll, packetFits, PushedAs}
+use Rattle.events.specs.Events.{heldEvents, hasRoom, both, ahead, announcedAll, packetFits, PushedAs}
 use Rattle.outbox.specs.declared.Queued.{Queued}
 use Rattle.outbox.specs.Outbox.{QueuedAs}
 use Rattle.endpoint_rules.specs.Call.{Call}
@@ -47,9 +47,7 @@ use Rattle.endpoint.specs.declared.message.packet.News.{News as Fresh}
 use Rattle.endpoint.specs.Endpoint.{seen, DidAs, DoneAs}
 use Rattle.endpoint.specs.Inside.Admission.{WeighedAs}
 use Rattle.endpoint.specs.Inside.Informing.{InformedAs}
-use Rattle.endpoint.specs.Inside.Packet.{news, NewsIf}
-use Rattle.endpoint.specs.Inside.Packet.{foundOf, OpenedAs}
-use Rattle.endpoint.specs.Inside.Packet.{Readable}
+use Rattle.endpoint.specs.Inside.Packet.{news, NewsIf, foundOf, OpenedAs, Readable}
 use Rattle.endpoint.specs.Inside.Sending.{sent}
 use Rattle.endpoint.proofs.Laws.Message.InputAck.{Drops}
 use Rattle.endpoint.proofs.Laws.Handshake.{false-true}
@@ -76,12 +74,12 @@ none-ahead false false h = refl
 module _ (e : Endpoint) (from : ℕ) (m : Message) (p : List ℕ) (now epoch nonce : ℕ) (buffer : List ℕ) (good : badClock now || badClock epoch ≡ false)
     (heeded : ignoredBy (e .sync .phase) (e .setup .«peer_addr») (e .sync .«remote_magic») from (m .magic) ≡ false) (d : Bool) (start ack : ℕ) (body : m .body ≡ Input d start ack) (o : Opened)
     (opened : OpenedAs (e .history) (e .setup) d start (m .reports .count) (length p) o) (kept : o .discarded ≡ false) (x : Informed)
-    (ix : InformedAs (e .sync .phase) (e .clocks) (e .flags) (heldStatuses (e .statuses)) d (listed (m .reports)) now x) where
+    (ix : InformedAs (e .sync .phase) (e .clocks) (e .flags) (heldStatuses (e .statuses)) d (reportList (m .reports)) now x) where
   abbrev Width : ℕ
   Width = receivingWidth (termsOf (e .setup))
 
   abbrev Reports : List StatusReport
-  Reports = listed (m .reports)
+  Reports = reportList (m .reports)
 
   abbrev Ends : Ended → List ℕ → Type 0
   Ends z b′ = DidAs e (step (Call.message from (m .reports .count) (meant m p) now epoch nonce (length buffer)) (seen e)) buffer z b′
@@ -161,7 +159,7 @@ module _ (e : Endpoint) (from : ℕ) (m : Message) (p : List ℕ) (now epoch non
       spare = let-in (o .«too_long») (o .readable && o .overflows) Unanswered door weighed unshut .2
 
       abbrev Ahead : List Entry
-      Ahead = ahead (x .resumes) (x .tells)
+      Ahead = ahead (x .resumes) (x .disconnects)
 
       -- s: e after what is announced; it ends with these
       abbrev after : Endpoint → Pending → InputBytes → History → Clocks → ℕ → Ended
@@ -185,14 +183,14 @@ module _ (e : Endpoint) (from : ℕ) (m : Message) (p : List ℕ) (now epoch non
         -- r: the frames above the newest
         module _ (wide : length (o .input .bytes) ≡ 64) (r : Fresh) (nr : NewsIf (o .readable) (o .newest) start w (length p) r) where
           module _ (q : Pushed)
-              (pushed : PushedAs (e .events) (packetFits (held (e .events) ++ Ahead) (r .first) (r .count) (listedHandles (e .setup .handles)))
-              (Ahead ++ announcedAll (r .first) (e .setup .«input_size») (listedHandles (e .setup .handles)) (framesOf w (o .input .bytes) (r .count) (drop (r .at) p))) q) where
-            announced : (b : Bool) → o .readable ≡ b → PushedAs (e .events) (hasRoom (held (e .events)) (length (Ahead ++ pick b News []))) (Ahead ++ pick b News []) q
+              (pushed : PushedAs (e .events) (packetFits (heldEvents (e .events) ++ Ahead) (r .first) (r .count) (handleList (e .setup .handles)))
+              (Ahead ++ announcedAll (r .first) (e .setup .«input_size») (handleList (e .setup .handles)) (framesOf w (o .input .bytes) (r .count) (drop (r .at) p))) q) where
+            announced : (b : Bool) → o .readable ≡ b → PushedAs (e .events) (hasRoom (heldEvents (e .events)) (length (Ahead ++ pick b News []))) (Ahead ++ pick b News []) q
             announced true able =
                 rw (← opened .newest)
                 (announced-news (e .setup) (o .newest) start (o .input .bytes) p (e .events) Ahead w ew wide (packet-numbered able .1) r (nr .some able) q pushed)
             announced false unable =
-                nothing-pushed (e .events) Ahead (e .setup .«input_size») w (listedHandles (e .setup .handles)) (o .input .bytes) p q (rw (nr .none unable) at pushed)
+                nothing-pushed (e .events) Ahead (e .setup .«input_size») w (handleList (e .setup .handles)) (o .input .bytes) p q (rw (nr .none unable) at pushed)
 
             unannounced : (b : Bool) → o .readable ≡ b → q .ok ≡ false → Refused Full
             unannounced true able k =
@@ -210,10 +208,10 @@ module _ (e : Endpoint) (from : ℕ) (m : Message) (p : List ℕ) (now epoch non
           none-new true able none = rw (← opened .newest) (no-news (e .setup) (o .newest) start (o .input .bytes) p w ew wide (packet-numbered able .1) r (nr .some able) none)
           none-new false unable none = refl
 
-          pub packet-quiet : (x .resumes || x .tells) || ltb 0 (r .count) ≡ false → hasRoom (held (e .events)) 0 ≡ true → (s : Endpoint) → s ≡ e → AnnouncedAs e More s
+          pub packet-quiet : (x .resumes || x .disconnects) || ltb 0 (r .count) ≡ false → hasRoom (heldEvents (e .events)) 0 ≡ true → (s : Endpoint) → s ≡ e → AnnouncedAs e More s
           packet-quiet k room s es =
-              let y = neither (x .resumes || x .tells) (ltb 0 (r .count)) k in
-              announced-nothing e More s (rw (none-ahead (x .resumes) (x .tells) (y .0), none-new (o .readable) refl (omega (arith, ltb-false 0 (r .count) (y .1))))) room es
+              let y = neither (x .resumes || x .disconnects) (ltb 0 (r .count)) k in
+              announced-nothing e More s (rw (none-ahead (x .resumes) (x .disconnects) (y .0), none-new (o .readable) refl (omega (arith, ltb-false 0 (r .count) (y .1))))) room es
 
         -- s: e after what is announced, t: after what is dropped too, c: its clocks
         module _ (s : Endpoint) (es : AnnouncedAs e More s) (t : Endpoint) (dt : Drops ack s t) (c : Clocks) (ec : c ≡ Noted) where
@@ -227,7 +225,7 @@ module _ (e : Endpoint) (from : ℕ) (m : Message) (p : List ℕ) (now epoch non
 
           pub packet-read : o .readable ≡ true → (h : History)
               → received h ≡ take 33 (takenAbove (o .newest) (t .setup .«max_prediction») (received (t .history)) (packetOf start w (o .input .bytes) p))
-              → (newest : ℕ) → newest ≡ newestOf (received h) → (z : Queued) (b′ : List ℕ) → QueuedAs buffer (t .queued) (plainly-sent (t .setup .magic) (InputAck newest)) z b′
+              → (newest : ℕ) → newest ≡ newestOf (received h) → (z : Queued) (b′ : List ℕ) → QueuedAs buffer (t .queued) (bodyOnly (t .setup .magic) (InputAck newest)) z b′
               → Ends (after t (t .pending) (t .acked) h c (z .end)) b′
           unfolding bufferFull
           packet-read able =

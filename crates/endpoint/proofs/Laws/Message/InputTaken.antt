@@ -17,13 +17,13 @@ use Rattle.status.specs.declared.ConnectionStatus.{ConnectionStatus}
 use Rattle.codec.specs.declared.StatusReport.{StatusReport}
 use Rattle.codec.specs.declared.MessageBody.the-variants.{InputAck}
 use Rattle.codec.specs.Message.{Wire}
-use Rattle.codec.specs.Read.{plain}
+use Rattle.codec.specs.Read.{bodyOnly}
 use Rattle.timers.specs.declared.Clocks.{Clocks}
 use Rattle.timers.specs.Timers.{inputAt, sentAt}
 use Rattle.setup.specs.Setup.{termsOf, termsWith, receivingWidth}
 use Rattle.events.specs.declared.Entry.{Entry}
 use Rattle.events.specs.declared.Events.{Events}
-use Rattle.events.specs.Events.{held, hasRoom, ahead}
+use Rattle.events.specs.Events.{heldEvents, hasRoom, ahead, announcedEach}
 use Rattle.outbox.specs.declared.Queued.{Queued}
 use Rattle.outbox.specs.Outbox.{QueuedAs}
 use Rattle.endpoint_rules.specs.declared.Flags.{Flags}
@@ -32,15 +32,14 @@ use Rattle.endpoint_rules.specs.Seen.{Seen}
 use Rattle.endpoint_rules.specs.Did.{Effect, change, queueWire}
 use Rattle.endpoint_rules.specs.Handshake.{plainly}
 use Rattle.endpoint_rules.specs.Sending.{acknowledged}
-use Rattle.endpoint_rules.specs.Receiving.{inputMessage, taken, receivedIf, receive, announcedEach, informed, inputsReceived, inputTaken}
+use Rattle.endpoint_rules.specs.Receiving.{inputMessage, taken, receivedIf, receive, informed, inputsReceived, inputTaken}
 use Rattle.endpoint_rules.specs.Step.{heard, reacted}
 use Rattle.endpoint_rules.proofs.Laws.{by-hearing}
 use Rattle.endpoint.specs.declared.Endpoint.{Endpoint}
 use Rattle.endpoint.specs.declared.message.informing.Informed.{Informed}
 use Rattle.endpoint.specs.Endpoint.{seen, DidAs, DoneAs}
 use Rattle.endpoint.specs.Inside.Sending.{sent}
-use Rattle.endpoint.specs.Inside.Packet.{Readable}
-use Rattle.endpoint.specs.Inside.Packet.{news}
+use Rattle.endpoint.specs.Inside.Packet.{Readable, news}
 use Rattle.endpoint.proofs.Laws.Ends.{remade, refused-done, refused-did, done-done, queued-did}
 use Rattle.endpoint.proofs.Laws.Room.{full-events, room-none, full-buffer, room-one, reacted-full, reacted-done}
 use Rattle.endpoint.proofs.Laws.Message.Informing.{Brought, informing, by-informing}
@@ -64,24 +63,24 @@ module _ (e : Endpoint) (now ack : ℕ) (d : Bool) (reports : List StatusReport)
 
   module _ (x : Informed) where
     abbrev Ahead : List Entry
-    Ahead = ahead (x .resumes) (x .tells)
+    Ahead = ahead (x .resumes) (x .disconnects)
 
     abbrev Unreadable : Endpoint → Answer → Effect → Type 0
     Unreadable n a h = Brought h x → DoneAs e (reacted 0 (seen e) (plainly (Inputless h))) (record { answer = a; endpoint = n })
 
-    pub unreadable-full : hasRoom (held (e .events)) (length Ahead) ≡ false → Unreadable e Full Informs
+    pub unreadable-full : hasRoom (heldEvents (e .events)) (length Ahead) ≡ false → Unreadable e Full Informs
     unfolding seen
     unreadable-full k = by-informing now ack d reports (seen e) (Unreadable e Full) (λ sd c f st t i.
         rw (inputless now b (seen e) sd c f st t)
         (refused-done e Full _ (reacted-full 0 (seen e) _ refl refl (full-events [] (informing (seen e) sd (pick b (inputAt now c) c) f st t) (rw (i .events) k)))))
 
-    pub unreadable-done : (events : Events) → hasRoom (held (e .events)) (length Ahead) ≡ true → held events ≡ held (e .events) ++ Ahead → (c′ : Clocks) (pending : Pending) (acked : InputBytes)
+    pub unreadable-done : (events : Events) → hasRoom (heldEvents (e .events)) (length Ahead) ≡ true → heldEvents events ≡ heldEvents (e .events) ++ Ahead → (c′ : Clocks) (pending : Pending) (acked : InputBytes)
         → c′ ≡ pick b (inputAt now (x .clocks)) (x .clocks) → sent pending acked ≡ Informs .state .carried .sender
         → Unreadable (remade e pending acked (e .history) (e .sync) (e .nonces) c′ (x .flags) (e .quality) (x .statuses) (e .checksums) events (e .queued)) Done Informs
     unfolding seen
     unreadable-done events room view c′ pending acked ec = by-informing now ack d reports (seen e) (λ h. sent pending acked ≡ h .state .carried .sender → Unreadable (remade e pending acked (e .history) (e .sync) (e .nonces) c′ (x .flags) (e .quality) (x .statuses) (e .checksums) events (e .queued)) Done h) (λ sd c f st t es i.
         let y : Effect = informing (seen e) sd (pick b (inputAt now c) c) f st t in
-        let announced : held events ≡ held (e .events) ++ t = rw (i .events) view in
+        let announced : heldEvents events ≡ heldEvents (e .events) ++ t = rw (i .events) view in
         rw (inputless now b (seen e) sd c f st t)
         (done-done e _ y _ (reacted-done 0 (seen e) _ refl refl refl (room-none [] y refl (rw (i .events) room))) refl
         (rw (ec, es, i .clocks, i .flags, i .statuses, announced))))
@@ -124,9 +123,9 @@ module _ (e : Endpoint) (buffer : List ℕ) (now ack start : ℕ) (d : Bool) (re
   Ending n a b′ = Took n a b′ (inputTaken now (inputMessage d start ack reports payload) (heard now (seen e)))
 
   abbrev More : List Entry
-  More = ahead (x .resumes) (x .tells) ++ News
+  More = ahead (x .resumes) (x .disconnects) ++ News
 
-  pub readable-unannounced : hasRoom (held (e .events)) (length More) ≡ false → Ending e Full buffer
+  pub readable-unannounced : hasRoom (heldEvents (e .events)) (length More) ≡ false → Ending e Full buffer
   unfolding inputsReceived taken queueWire seen termsWith
   readable-unannounced k =
       readably e Full buffer (λ sd c f st t i.
@@ -139,13 +138,13 @@ module _ (e : Endpoint) (buffer : List ℕ) (now ack start : ℕ) (d : Bool) (re
   readable-full k =
       readably e Full buffer (λ sd c f st t i.
       refused-did e Full _ (reacted-full (length buffer) (seen e) _ refl refl
-      (full-buffer buffer (Taking (informing (seen e) sd c f st t)) (plain (e .setup .magic) (InputAck (newestOf Stored))) (omega arith) refl k)) buffer)
+      (full-buffer buffer (Taking (informing (seen e) sd c f st t)) (bodyOnly (e .setup .magic) (InputAck (newestOf Stored))) (omega arith) refl k)) buffer)
 
-  module _ (spare : noRoom buffer (e .queued) 10 ≡ false) (events : Events) (room : hasRoom (held (e .events)) (length More) ≡ true) (view : held events ≡ held (e .events) ++ More)
+  module _ (spare : noRoom buffer (e .queued) 10 ≡ false) (events : Events) (room : hasRoom (heldEvents (e .events)) (length More) ≡ true) (view : heldEvents events ≡ heldEvents (e .events) ++ More)
       (h′ : History) (eh : received h′ ≡ Stored) (newest : ℕ) (en : newest ≡ newestOf (received h′)) (q : Queued) (b′ : List ℕ)
-      (eq : QueuedAs buffer (e .queued) (plain (e .setup .magic) (InputAck newest)) q b′) where
+      (eq : QueuedAs buffer (e .queued) (bodyOnly (e .setup .magic) (InputAck newest)) q b′) where
     abbrev Ack : ℕ → List Wire
-    Ack n = plain (e .setup .magic) (InputAck n) ∷ []
+    Ack n = bodyOnly (e .setup .magic) (InputAck n) ∷ []
 
     acked : Ack (newestOf Stored) ≡ Ack newest
     acked = ap Ack (rw (← eh) (sym en))
@@ -157,9 +156,9 @@ module _ (e : Endpoint) (buffer : List ℕ) (now ack start : ℕ) (d : Bool) (re
     readable-done c′ pending last ec es =
         rw taking (by-informing now ack d reports (seen e) (λ h. sent pending last ≡ h .state .carried .sender → Readably (remade e pending last h′ (e .sync) (e .nonces) c′ (x .flags) (e .quality) (x .statuses) (e .checksums) events (q .end)) Done b′ h) (λ sd c f st t es i.
         let y : Effect = Taking (informing (seen e) sd c f st t) in
-        let announced : held events ≡ held (e .events) ++ (t ++ News) = rw (i .events) view in
+        let announced : heldEvents events ≡ heldEvents (e .events) ++ (t ++ News) = rw (i .events) view in
         queued-did e _ y _
         (reacted-done (length buffer) (seen e) _ refl refl refl
-        (room-one buffer y (plain (e .setup .magic) (InputAck newest)) (omega arith) acked (rw (i .events) room) spare))
-        (plain (e .setup .magic) (InputAck newest)) acked buffer b′ q eq (eq .ok ∙ rw spare) refl
+        (room-one buffer y (bodyOnly (e .setup .magic) (InputAck newest)) (omega arith) acked (rw (i .events) room) spare))
+        (bodyOnly (e .setup .magic) (InputAck newest)) acked buffer b′ q eq (eq .ok ∙ rw spare) refl
         (rw (ec, es, i .clocks, i .flags, i .statuses, eh, announced))) es ex)

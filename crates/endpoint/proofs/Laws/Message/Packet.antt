@@ -18,10 +18,9 @@ use Rattle.history.specs.History.{above, numbered, packetOf}
 use Rattle.events.specs.declared.Entry.{Entry}
 use Rattle.events.specs.declared.Events.{Events}
 use Rattle.events.specs.declared.Pushed.{Pushed}
-use Rattle.events.specs.Events.{held, hasRoom, announcedAll, packetFits, PushedAs}
+use Rattle.events.specs.Events.{heldEvents, hasRoom, announcedAll, framesFrom, packetFits, PushedAs, announcedEach}
 use Rattle.events.proofs.Laws.{announced-padded, packet-fits, packet-length}
-use Rattle.endpoint_rules.specs.Receiving.{announcedEach}
-use Rattle.setup.specs.Setup.{termsOf, receivingWidth, listed}
+use Rattle.setup.specs.Setup.{termsOf, receivingWidth, handleList}
 use Rattle.setup.specs.declared.Setup.{Setup}
 use Rattle.endpoint.specs.Inside.Packet.{NewsAs, news, skipped}
 use Rattle.endpoint.specs.declared.message.packet.News.{News}
@@ -50,7 +49,7 @@ above-numbered newest start (f ∷ fs) k e =
 -- frames are stored with zeros after them, which changes nothing that is announced
 each-frames : (size : ℕ) (hs : List ℕ) (start w : ℕ) (r : List ℕ) (n : ℕ) (p : List ℕ) → length r ≤ 64
     → announcedEach size hs (numbered start (framesOf w r n p)) ≡ announcedAll start size hs (framesOf w r n p)
-unfolding announcedEach announcedAll numbered framesOf
+unfolding announcedAll announcedEach framesFrom numbered framesOf
 each-frames size hs start w r zero p h = refl
 each-frames size hs start w r (suc n) p h =
     let x = announced-padded start size (xors (take w p) r) hs (omega (arith, xors-length (take w p) r)) in
@@ -79,7 +78,7 @@ module _ (start w n : ℕ) (r p : List ℕ) (counts : n ≡ frameCount w (length
 
       at-first : (j g : ℕ) → g ≡ pick (ltb 0 j) (start + k) start
           → announcedAll (start + k) size hs (framesOf w r j (drop (k * w) p)) ≡ announcedAll g size hs (framesOf w r j (drop (k * w) p))
-      unfolding announcedAll framesOf
+      unfolding announcedAll announcedEach framesFrom framesOf
       at-first zero g eg = refl
       at-first (suc j) g eg = rw (eg, lt-ltb 0 (suc j) (omega arith))
 
@@ -94,40 +93,40 @@ module _ (start w n : ℕ) (r p : List ℕ) (counts : n ≡ frameCount w (length
 
       -- A: what is announced ahead of them
       news-pushed : (e : Events) (A : List Entry) (q : Pushed)
-          → PushedAs e (packetFits (held e ++ A) f m hs) (A ++ announcedAll f size hs (framesOf w r m (drop (k * w) p))) q
-          → PushedAs e (hasRoom (held e) (length (A ++ More))) (A ++ More) q
+          → PushedAs e (packetFits (heldEvents e ++ A) f m hs) (A ++ announcedAll f size hs (framesOf w r m (drop (k * w) p))) q
+          → PushedAs e (hasRoom (heldEvents e) (length (A ++ More))) (A ++ More) q
       unfolding hasRoom
       news-pushed e A q a =
           let all = announcedAll f size hs (framesOf w r m (drop (k * w) p)) in
-          let total : length (held e ++ A) + m * length hs ≡ length (held e) + length (A ++ all) =
-          omega (arith, length-append (held e) A, length-append A all, packet-length f size w r hs (drop (k * w) p) m) in
-          rw (news-are, ← total) (rw (packet-fits (held e ++ A) f m hs within-first) at a)
+          let total : length (heldEvents e ++ A) + m * length hs ≡ length (heldEvents e) + length (A ++ all) =
+          omega (arith, length-append (heldEvents e) A, length-append A all, packet-length f size w r hs (drop (k * w) p) m) in
+          rw (news-are, ← total) (rw (packet-fits (heldEvents e ++ A) f m hs within-first) at a)
 
 -- what is pushed of a packet by its news is what it announces, with A announced ahead
 pub announced-news : (g : Setup) (newest start : ℕ) (reference payload : List ℕ) (e : Events) (A : List Entry) (w : ℕ) → w ≡ receivingWidth (termsOf g)
     → length reference ≡ 64 → start + frameCount w (length payload) ≤ 2 ^ 32 → (r : News) → NewsAs newest start w (length payload) r → (q : Pushed)
-    → PushedAs e (packetFits (held e ++ A) (r .first) (r .count) (listed (g .handles))) (A ++ announcedAll (r .first) (g .«input_size») (listed (g .handles)) (framesOf w reference (r .count) (drop (r .at) payload))) q
-    → PushedAs e (hasRoom (held e) (length (A ++ news g newest start reference payload))) (A ++ news g newest start reference payload) q
+    → PushedAs e (packetFits (heldEvents e ++ A) (r .first) (r .count) (handleList (g .handles))) (A ++ announcedAll (r .first) (g .«input_size») (handleList (g .handles)) (framesOf w reference (r .count) (drop (r .at) payload))) q
+    → PushedAs e (hasRoom (heldEvents e) (length (A ++ news g newest start reference payload))) (A ++ news g newest start reference payload) q
 announced-news g newest start reference payload e A w ew hr within r er q a =
     rw (← ew)
-    (news-pushed start w (frameCount w (length payload)) reference payload refl within newest (skipped newest start w (length payload)) refl (g .«input_size») (listed (g .handles)) (r .count) (r .first) (er .count) (er .first) hr e A q
+    (news-pushed start w (frameCount w (length payload)) reference payload refl within newest (skipped newest start w (length payload)) refl (g .«input_size») (handleList (g .handles)) (r .count) (r .first) (er .count) (er .first) hr e A q
     (rw (er .at) at a))
 
 -- none above the newest are no news
 pub no-news : (g : Setup) (newest start : ℕ) (reference payload : List ℕ) (w : ℕ) → w ≡ receivingWidth (termsOf g)
     → length reference ≡ 64 → start + frameCount w (length payload) ≤ 2 ^ 32 → (r : News) → NewsAs newest start w (length payload) r → r .count ≡ 0
     → news g newest start reference payload ≡ []
-unfolding announcedAll framesOf
+unfolding announcedAll announcedEach framesFrom framesOf
 no-news g newest start reference payload w ew hr within r er none =
     rw (← ew)
-    (news-are start w (frameCount w (length payload)) reference payload refl within newest (skipped newest start w (length payload)) refl (g .«input_size») (listed (g .handles)) (r .count) (r .first) (er .count) (er .first) hr
+    (news-are start w (frameCount w (length payload)) reference payload refl within newest (skipped newest start w (length payload)) refl (g .«input_size») (handleList (g .handles)) (r .count) (r .first) (er .count) (er .first) hr
     ∙ rw none)
 
 -- what is pushed of no frames is what is announced ahead
 pub nothing-pushed : (e : Events) (A : List Entry) (size w : ℕ) (hs reference payload : List ℕ) (q : Pushed)
-    → PushedAs e (packetFits (held e ++ A) 0 0 hs) (A ++ announcedAll 0 size hs (framesOf w reference 0 (drop 0 payload))) q
-    → PushedAs e (hasRoom (held e) (length (A ++ []))) (A ++ []) q
-unfolding hasRoom announcedAll framesOf
+    → PushedAs e (packetFits (heldEvents e ++ A) 0 0 hs) (A ++ announcedAll 0 size hs (framesOf w reference 0 (drop 0 payload))) q
+    → PushedAs e (hasRoom (heldEvents e) (length (A ++ []))) (A ++ []) q
+unfolding hasRoom announcedAll announcedEach framesFrom framesOf
 nothing-pushed e A size w hs reference payload q a =
-    let total : length (held e ++ A) + 0 * length hs ≡ length (held e) + length (A ++ []) = omega (arith, length-append (held e) A, length-append A []) in
-    rw (← total) (rw (packet-fits (held e ++ A) 0 0 hs (omega arith)) at a)
+    let total : length (heldEvents e ++ A) + 0 * length hs ≡ length (heldEvents e) + length (A ++ []) = omega (arith, length-append (heldEvents e) A, length-append A []) in
+    rw (← total) (rw (packet-fits (heldEvents e ++ A) 0 0 hs (omega arith)) at a)

@@ -5,7 +5,7 @@ use mathlib.Core.Path.{_≡_, refl}
 use native.Mathlib.Omega.{arith}
 use Prim.Native.Nat.{ℕ}
 use lib.ListN.{length}
-use Rattle.codec.specs.Read.{plain}
+use Rattle.codec.specs.Read.{bodyOnly}
 use Rattle.codec.specs.declared.Wide.{Wide}
 use Rattle.codec.specs.declared.MessageBody.the-variants.{QualityReply}
 use Rattle.answer.specs.declared.Answer.{Answer}
@@ -34,7 +34,7 @@ module _ (e : Endpoint) (now : ℕ) where
     unfolding remoteAdvantage
     aside = record { setup = λ s. refl; events = λ s. refl; queued = λ s. refl }
 
-    pub report-full : (q : Queued) (b′ : List ℕ) → QueuedAs buffer (e .queued) (plain (e .setup .magic) (QualityReply ping)) q b′ → q .ok ≡ false → Reported e Full b′
+    pub report-full : (q : Queued) (b′ : List ℕ) → QueuedAs buffer (e .queued) (bodyOnly (e .setup .magic) (QualityReply ping)) q b′ → q .ok ≡ false → Reported e Full b′
     unfolding onQualityReport
     report-full q b′ eq k = reply-full e buffer now (QualityReply ping) (remoteAdvantage advantage) aside q b′ eq (omega arith) k
 
@@ -48,7 +48,7 @@ module _ (e : Endpoint) (now : ℕ) where
       unfolding onQualityReport
       report-unannounced k = reply-unannounced e buffer now (QualityReply ping) (remoteAdvantage advantage) (aside buffer advantage ping) x k ex
 
-      pub report-done : (q : Queued) (b′ : List ℕ) → QueuedAs buffer (e .queued) (plain (e .setup .magic) (QualityReply ping)) q b′ → (c : Clocks) (y : Quality) → x .ok ≡ true
+      pub report-done : (q : Queued) (b′ : List ℕ) → QueuedAs buffer (e .queued) (bodyOnly (e .setup .magic) (QualityReply ping)) q b′ → (c : Clocks) (y : Quality) → x .ok ≡ true
           → q .ok ≡ true → c ≡ sentAt now (x .clocks) → y ≡ remoteSet advantage (e .quality) → Reported buffer advantage ping (Noted c y (q .end)) Done b′
       unfolding onQualityReport remoteAdvantage seen
       report-done q b′ eq c y k ok ec ey =

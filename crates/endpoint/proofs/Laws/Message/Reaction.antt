@@ -18,7 +18,7 @@ use Rattle.quality.specs.Quality.{roundTrip, remoteSet, tripNoted}
 use Rattle.timers.specs.declared.Clocks.{Clocks}
 use Rattle.timers.specs.Timers.{badClock, sentAt, heardAt}
 use Rattle.events.specs.declared.Events.{Events}
-use Rattle.events.specs.Events.{held}
+use Rattle.events.specs.Events.{heldEvents}
 use Rattle.endpoint_rules.specs.Seen.{isRunning}
 use Rattle.endpoint_rules.specs.Step.{ignoredBy, heard}
 use Rattle.endpoint.specs.declared.Endpoint.{Endpoint}
@@ -26,8 +26,7 @@ use Rattle.endpoint.specs.declared.message.reaction.Reacted.{Reacted}
 use Rattle.endpoint.specs.Endpoint.{seen, DidAs}
 use Rattle.endpoint.specs.Inside.Hearing.{resumedFlags}
 use Rattle.endpoint.specs.Inside.Reaction.{ReactedAs}
-use Rattle.endpoint.proofs.Laws.Message.Hearing.{Ears, HeardAs}
-use Rattle.endpoint.proofs.Laws.Message.Hearing.{heardWith, ears-full}
+use Rattle.endpoint.proofs.Laws.Message.Hearing.{Ears, HeardAs, heardWith, ears-full}
 use Rattle.endpoint.proofs.Laws.Ends.{remade}
 use Rattle.endpoint.proofs.Laws.Message.Quiet.{only-full, only-heard}
 use Rattle.endpoint.proofs.Laws.Message.SyncRequest.{request-unannounced, request-full, request-done}
@@ -47,7 +46,7 @@ ratedBy y q =
 -- r: whether an interruption ends, n: how many events there are, f: whether that cannot be announced
 module _ (e : Endpoint) (from : ℕ) (m : Message) (p : List ℕ) (now epoch nonce : ℕ) (buffer : List ℕ) (good : badClock now || badClock epoch ≡ false)
     (heeded : ignoredBy (e .sync .phase) (e .setup .«peer_addr») (e .sync .«remote_magic») from (m .magic) ≡ false)
-    (r : Bool) (er : r ≡ (isRunning (e .sync .phase) && e .flags .«disconnect_notify_sent»)) (n : ℕ) (en : n ≡ length (held (e .events)))
+    (r : Bool) (er : r ≡ (isRunning (e .sync .phase) && e .flags .«disconnect_notify_sent»)) (n : ℕ) (en : n ≡ length (heldEvents (e .events)))
     (f : Bool) (ef : f ≡ (r && leb 640 n)) (y : Reacted) (b′ : List ℕ) where
   abbrev Reacting : MessageBody → Type 0
   Reacting b = ReactedAs b f (e .quality) (e .clocks .«last_send_time») now epoch (e .setup .magic) buffer (e .queued) y b′
@@ -64,11 +63,11 @@ module _ (e : Endpoint) (from : ℕ) (m : Message) (p : List ℕ) (now epoch non
 
   refuses : (b : MessageBody) (g : Bool) → f ≡ g → m .body ≡ b → y .ok ≡ false → Reacting b → Other b → Ends e Full
   refuses (SyncRequest asked) true h eb k ey _ =
-      rw (ey .untold h .1) (sync-requested e from m p now epoch nonce buffer good heeded _ asked buffer eb (request-unannounced e buffer now asked Unheard (ears-full e now r er n en f ef h) refl))
+      rw (ey .unqueued h .1) (sync-requested e from m p now epoch nonce buffer good heeded _ asked buffer eb (request-unannounced e buffer now asked Unheard (ears-full e now r er n en f ef h) refl))
   refuses (SyncRequest asked) false h eb k ey _ =
       sync-requested e from m p now epoch nonce buffer good heeded _ asked b′ eb (request-full e buffer now asked (record { ok = y .ok; end = y .end }) b′ (ey .queued h) k)
   refuses (QualityReport advantage ping) true h eb k ey _ =
-      rw (ey .untold h .1) (quality-reported e from m p now epoch nonce buffer good heeded _ advantage ping buffer eb
+      rw (ey .unqueued h .1) (quality-reported e from m p now epoch nonce buffer good heeded _ advantage ping buffer eb
       (report-unannounced e now Unheard (ears-full e now r er n en f ef h) buffer advantage ping refl))
   refuses (QualityReport advantage ping) false h eb k ey _ =
       quality-reported e from m p now epoch nonce buffer good heeded _ advantage ping b′ eb
@@ -88,8 +87,8 @@ module _ (e : Endpoint) (from : ℕ) (m : Message) (p : List ℕ) (now epoch non
 
   roomy : (b : MessageBody) (g : Bool) → f ≡ g → Reacting b → y .ok ≡ true → f ≡ false
   roomy b false h ey k = h
-  roomy (SyncRequest _) true h ey k = let u = ey .untold h .0 in cc
-  roomy (QualityReport _ _) true h ey k = let u = ey .untold h .0 in cc
+  roomy (SyncRequest _) true h ey k = let u = ey .unqueued h .0 in cc
+  roomy (QualityReport _ _) true h ey k = let u = ey .unqueued h .0 in cc
   roomy (QualityReply _) true h ey k = let u = ey .ok in cc
   roomy KeepAlive true h ey k = let u = ey .ok in cc
   roomy (SyncReply _) true h ey k = let u = ey .ok in cc

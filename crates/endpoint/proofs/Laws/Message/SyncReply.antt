@@ -18,7 +18,7 @@ use Rattle.nonces.specs.declared.Issued.{Issued}
 use Rattle.nonces.specs.Nonces.{outstanding, isOutstanding, spent, fits, IssuedAs}
 use Rattle.events.specs.declared.Pushed.{Pushed}
 use Rattle.events.specs.declared.Event.the-variants as Event
-use Rattle.events.specs.Events.{held, hasRoom, withoutInput, PushedAs}
+use Rattle.events.specs.Events.{heldEvents, hasRoom, withoutInput, PushedAs}
 use Rattle.endpoint_rules.specs.declared.Phase.the-variants.{Synchronizing, Running}
 use Rattle.endpoint_rules.specs.Seen.{isSynchronizing, isRunning, heardAt as heardSeen}
 use Rattle.endpoint_rules.specs.Did.{decided, begin, queueWire}
@@ -42,7 +42,7 @@ module _ (e : Endpoint) (now nonce magic reply : ℕ) where
   Counting more = replied now nonce magic reply true more (begin (heardSeen now (seen e)))
 
   -- no room to announce it
-  module _ (crowded : hasRoom (held (e .events)) 1 ≡ false) where
+  module _ (crowded : hasRoom (heldEvents (e .events)) 1 ≡ false) where
     pub early-unannounced : (buffer : List ℕ) → DidAs e (reacted (length buffer) (seen e) (Counting true)) buffer (record { answer = Full; endpoint = e }) buffer
     unfolding replied request counted nonceIssued queueWire seen
     early-unannounced buffer = refused-did e Full _ (reacted-full (length buffer) (seen e) (Counting true) refl refl (full-events buffer (Counting true .effect) crowded)) buffer
@@ -68,8 +68,8 @@ module _ (e : Endpoint) (now nonce magic reply : ℕ) where
             rw (er .same k) (refused-did e Full _
             (rw (request-full buffer (e .setup .magic) nonce (spent reply (outstanding (e .nonces))) (Counting true .effect) refl (r .ok) fit k)) buffer)
 
-        pub early-done : (p : Pushed) → hasRoom (held (e .events)) 1 ≡ true
-            → PushedAs (e .events) (hasRoom (held (e .events)) 1) (withoutInput (Event.Synchronizing 5 (5 - left)) ∷ []) p → r .ok ≡ true
+        pub early-done : (p : Pushed) → hasRoom (heldEvents (e .events)) 1 ≡ true
+            → PushedAs (e .events) (hasRoom (heldEvents (e .events)) 1) (withoutInput (Event.Synchronizing 5 (5 - left)) ∷ []) p → r .ok ≡ true
             → Early (remade e (e .pending) (e .acked) (e .history) (record { phase = e .sync .phase; remaining = left; «remote_magic» = e .sync .«remote_magic» }) (i .nonces) (r .clocks) (e .flags) (e .quality) (e .statuses) (e .checksums) (p .events) (r .end)) Done buffer′
         unfolding reacted decided replied request counted nonceIssued queueWire seen termsWith
         early-done p room ep k =
@@ -81,8 +81,8 @@ module _ (e : Endpoint) (now nonce magic reply : ℕ) where
     abbrev Last : Endpoint → Type 0
     Last n = DoneAs e (reacted 0 (seen e) (Counting false)) (record { answer = Done; endpoint = n })
 
-    pub last-done : (d : Clocks) (p : Pushed) → hasRoom (held (e .events)) 1 ≡ true → d ≡ heardAt now (e .clocks)
-        → PushedAs (e .events) (hasRoom (held (e .events)) 1) (withoutInput Event.Synchronized ∷ []) p
+    pub last-done : (d : Clocks) (p : Pushed) → hasRoom (heldEvents (e .events)) 1 ≡ true → d ≡ heardAt now (e .clocks)
+        → PushedAs (e .events) (hasRoom (heldEvents (e .events)) 1) (withoutInput Event.Synchronized ∷ []) p
         → Last (remade e (e .pending) (e .acked) (e .history) (record { phase = Running; remaining = left; «remote_magic» = magic }) v d (e .flags) (e .quality) (e .statuses) (e .checksums) (p .events) (e .queued))
     unfolding replied counted running seen
     last-done d p room ed ep =

@@ -5,7 +5,7 @@ use mathlib.Core.Path.{_≡_, refl}
 use native.Mathlib.Omega.{arith}
 use Prim.Native.Nat.{ℕ}
 use lib.ListN.{length}
-use Rattle.codec.specs.Read.{plain}
+use Rattle.codec.specs.Read.{bodyOnly}
 use Rattle.codec.specs.declared.MessageBody.the-variants.{SyncReply}
 use Rattle.answer.specs.declared.Answer.{Answer}
 use Rattle.answer.specs.declared.Answer.the-variants.{Done, Full}
@@ -28,7 +28,7 @@ module _ (e : Endpoint) (buffer : List ℕ) (now asked : ℕ) where
   aside : Aside (λ s. s)
   aside = record { setup = λ s. refl; events = λ s. refl; queued = λ s. refl }
 
-  pub request-full : (q : Queued) (b′ : List ℕ) → QueuedAs buffer (e .queued) (plain (e .setup .magic) (SyncReply asked)) q b′ → q .ok ≡ false → Asked e Full b′
+  pub request-full : (q : Queued) (b′ : List ℕ) → QueuedAs buffer (e .queued) (bodyOnly (e .setup .magic) (SyncReply asked)) q b′ → q .ok ≡ false → Asked e Full b′
   unfolding onSyncRequest
   request-full q b′ eq k = reply-full e buffer now (SyncReply asked) (λ s. s) aside q b′ eq (omega arith) k
 
@@ -37,7 +37,7 @@ module _ (e : Endpoint) (buffer : List ℕ) (now asked : ℕ) where
     unfolding onSyncRequest
     request-unannounced k = reply-unannounced e buffer now (SyncReply asked) (λ s. s) aside x k ex
 
-    pub request-done : (q : Queued) (b′ : List ℕ) → QueuedAs buffer (e .queued) (plain (e .setup .magic) (SyncReply asked)) q b′ → (c : Clocks) → x .ok ≡ true → q .ok ≡ true
+    pub request-done : (q : Queued) (b′ : List ℕ) → QueuedAs buffer (e .queued) (bodyOnly (e .setup .magic) (SyncReply asked)) q b′ → (c : Clocks) → x .ok ≡ true → q .ok ≡ true
         → c ≡ sentAt now (x .clocks)
         → Asked (remade e (e .pending) (e .acked) (e .history) (e .sync) (e .nonces) c (x .flags) (e .quality) (e .statuses) (e .checksums) (x .events) (q .end)) Done b′
     unfolding onSyncRequest seen

@@ -7,7 +7,7 @@ use lib.Dec.{eqb}
 use lib.ListN.{length}
 use Rattle.base.specs.Pick.{pick}
 use Rattle.base.proofs.Lay.{laid-none}
-use Rattle.outbox.specs.Outbox.{sizes}
+use Rattle.outbox.specs.Outbox.{queueSize}
 use Rattle.endpoint_rules.specs.Seen.{Seen}
 use Rattle.endpoint_rules.specs.Did.{Did, refused, decided, done}
 use Rattle.endpoint_rules.specs.Room.{bufferFull, isFull}
@@ -31,7 +31,7 @@ module _ (e : Endpoint) (r : Reaction) (o : r .effect .out ≡ []) where
   reacted-out = decided-out _ (seen e) (done (r .effect)) o
 
   reacted-any : (n : ℕ) → reacted n (seen e) r ≡ reacted 0 (seen e) r
-  unfolding reacted isFull bufferFull sizes
+  unfolding reacted isFull bufferFull queueSize
   reacted-any n = rw o
 
   pub unqueued : (buffer : List ℕ) (x : Ended) → DoneAs e (reacted 0 (seen e) r) x → DidAs e (reacted (length buffer) (seen e) r) buffer x buffer

@@ -12,7 +12,7 @@ use Rattle.answer.specs.declared.Answer.{Answer}
 use Rattle.answer.specs.declared.Answer.the-variants.{Done, Full, Overflow}
 use Rattle.base.specs.Pick.{pick}
 use Rattle.base.proofs.Bools.{both, neither}
-use Rattle.codec.specs.Message.{listed, kindOf}
+use Rattle.codec.specs.Message.{reportList, kindOf}
 use Rattle.codec.specs.declared.Wide.{Wide}
 use Rattle.codec.specs.declared.Message.{Message}
 use Rattle.codec.specs.declared.MessageBody.the-variants.{SyncReply, Input, InputAck, ChecksumReport}
@@ -30,7 +30,7 @@ use Rattle.events.specs.declared.Entry.{Entry}
 use Rattle.events.specs.declared.Events.{Events}
 use Rattle.events.specs.declared.Pushed.{Pushed}
 use Rattle.events.specs.declared.Event.the-variants as Event
-use Rattle.events.specs.Events.{held, hasRoom, withoutInput, PushedAs}
+use Rattle.events.specs.Events.{heldEvents, hasRoom, withoutInput, PushedAs}
 use Rattle.endpoint_rules.specs.declared.Phase.the-variants.{Synchronizing, Running}
 use Rattle.endpoint_rules.specs.Seen.{isSynchronizing, isRunning}
 use Rattle.endpoint_rules.specs.Handshake.{plainly}
@@ -49,11 +49,10 @@ use Rattle.endpoint.specs.Inside.Handshake.{RequestedAs, progressOf, Cou
 use Rattle.endpoint.specs.Inside.Hearing.{resumedFlags}
 use Rattle.endpoint.specs.Inside.Packet.{OpenedAs}
 use Rattle.endpoint.specs.Inside.Reaction.{ReactedAs}
-use Rattle.endpoint.proofs.Laws.Message.Hearing.{Ears, HeardAs}
+use Rattle.endpoint.proofs.Laws.Message.Hearing.{Ears, HeardAs, heardWith, ears-full, ears-quiet, ears-announced}
 use Rattle.endpoint.proofs.Laws.Handshake.{false-true}
 use Rattle.endpoint.proofs.Laws.Room.{one-crowds, one-fits}
 use Rattle.endpoint.proofs.Laws.Message.Admission.{let-in, kept-out}
-use Rattle.endpoint.proofs.Laws.Message.Hearing.{heardWith, ears-full, ears-quiet, ears-announced}
 use Rattle.endpoint.proofs.Laws.Ends.{remade}
 use Rattle.endpoint.proofs.Laws.Message.Quiet.{only-full, only-heard}
 use Rattle.endpoint.proofs.Laws.Message.InputAck.{ack-full, ack-done, dropped-sent}
@@ -95,7 +94,7 @@ module _ (e : Endpoint) (from : ℕ) (m : Message) (p : List ℕ) (now epoch non
       last one x d =
           sync-replied e from m p now epoch nonce buffer good heeded x reply buffer eb (reply-last e now nonce (m .magic) reply buffer phase outstood one x d)
 
-      unannounced : (more : Bool) → ltb 1 (e .sync .remaining) ≡ more → hasRoom (held (e .events)) 1 ≡ false → Ends e Full buffer
+      unannounced : (more : Bool) → ltb 1 (e .sync .remaining) ≡ more → hasRoom (heldEvents (e .events)) 1 ≡ false → Ends e Full buffer
       unannounced true h k = early (ltb-true 1 (e .sync .remaining) h) _ buffer (early-unannounced e now nonce (m .magic) reply k buffer)
       unannounced false h k = last (ltb-false 1 (e .sync .remaining) h) _ (last-unannounced e now nonce (m .magic) reply k)
 
@@ -125,7 +124,7 @@ module _ (e : Endpoint) (from : ℕ) (m : Message) (p : List ℕ) (now epoch non
       none-issued none = ey .view ∙ rw (outstood, le-ltb 0 l none)
 
       -- n: how many events there are, f: whether no other can be announced; g: what it leaves
-      module _ (n : ℕ) (en : n ≡ length (held (e .events))) (f : Bool) (ef : f ≡ leb 640 n) (g : Counted) (b′ : List ℕ)
+      module _ (n : ℕ) (en : n ≡ length (heldEvents (e .events))) (f : Bool) (ef : f ≡ leb 640 n) (g : Counted) (b′ : List ℕ)
           (eg : CountedAs (not f) (e .sync) l (m .magic) (e .clocks) (e .setup .magic) now nonce buffer (e .queued) g b′) where
         abbrev Gone : Requested
         Gone = record { clocks = g .clocks; end = g .end; ok = g .ok }
@@ -148,8 +147,8 @@ module _ (e : Endpoint) (from : ℕ) (m : Message) (p : List ℕ) (now epoch non
         reply-choked = choked (ltb 0 l) f refl refl
 
         -- q: the events with what is announced of it
-        module _ (x : Entry) (ex : x ≡ withoutInput (progressOf l)) (q : Pushed) (eq : PushedAs (e .events) (hasRoom (held (e .events)) 1) (x ∷ []) q) where
-          room : f ≡ false → hasRoom (held (e .events)) 1 ≡ true
+        module _ (x : Entry) (ex : x ≡ withoutInput (progressOf l)) (q : Pushed) (eq : PushedAs (e .events) (hasRoom (heldEvents (e .events)) 1) (x ∷ []) q) where
+          room : f ≡ false → hasRoom (heldEvents (e .events)) 1 ≡ true
           room roomy = one-fits (e .events) n en (sym ef ∙ roomy)
 
           counted : (more : Bool) → ltb 0 l ≡ more → g .ok ≡ true
@@ -175,10 +174,10 @@ module _ (e : Endpoint) (from : ℕ) (m : Message) (p : List ℕ) (now epoch non
       → o .discarded ≡ true → OnlyHeard
   input-passes d start ack eb o eo h x dx =
       input-came e from m p now epoch nonce buffer good heeded x d start ack buffer eb
-      (input-discarded e buffer now (m .reports .count) ack start d (listed (m .reports)) p (o .discarded) (eo .discarded) h x dx)
+      (input-discarded e buffer now (m .reports .count) ack start d (reportList (m .reports)) p (o .discarded) (eo .discarded) h x dx)
 
   -- r: whether an interruption ends, n: how many events there are, f: whether that cannot be announced
-  module _ (r : Bool) (er : r ≡ (isRunning (e .sync .phase) && e .flags .«disconnect_notify_sent»)) (n : ℕ) (en : n ≡ length (held (e .events))) (f : Bool) (ef : f ≡ (r && leb 640 n)) where
+  module _ (r : Bool) (er : r ≡ (isRunning (e .sync .phase) && e .flags .«disconnect_notify_sent»)) (n : ℕ) (en : n ≡ length (heldEvents (e .events))) (f : Bool) (ef : f ≡ (r && leb 640 n)) where
     abbrev Unheard : Ears
     Unheard = heardWith e now r er n en f ef false (e .events)
 
@@ -276,6 +275,6 @@ module _ (e : Endpoint) (from : ℕ) (m : Message) (p : List ℕ) (now epoch non
           → Ends (remade s (s .pending) (s .acked) (s .history) (s .sync) (s .nonces) (heardAt now (s .clocks)) (s .flags) (s .quality) (s .statuses) (s .checksums) (s .events) (s .queued)) Done b′
       ends-quiet h k = rw h at (l .ends (s .events) (rw (l .events) (ears-quiet e now r er n en f ef h k)))
 
-      pub ends-announced : r ≡ true → (x : Entry) → x ≡ withoutInput Event.NetworkResumed → (q : Pushed) → PushedAs (s .events) (hasRoom (held (s .events)) 1) (x ∷ []) q
+      pub ends-announced : r ≡ true → (x : Entry) → x ≡ withoutInput Event.NetworkResumed → (q : Pushed) → PushedAs (s .events) (hasRoom (heldEvents (s .events)) 1) (x ∷ []) q
           → Ends (remade s (s .pending) (s .acked) (s .history) (s .sync) (s .nonces) (heardAt now (s .clocks)) (resumedFlags true (s .flags)) (s .quality) (s .statuses) (s .checksums) (q .events) (s .queued)) Done b′
       ends-announced h x ex q eq = rw h at (l .ends (q .events) (ears-announced e now r er n en f ef (l .room) h x ex q (rw (l .events) at eq)))

@@ -11,8 +11,8 @@ returns c =
     let a = c .before .before .args in
     ask-choked (a .clocks) (a .magic) (a .now) (a .nonce) (a .out .now) (a .queued) (a .roomy) (not-true _ (c .if1 .taken))
 
-plain-requires : tie.Need-plain-requires
-plain-requires c κs = search needs
+body-only-requires : tie.Need-body-only-requires
+body-only-requires c κs = search needs
 
 same-length : tie.Need-same-length
 same-length c = search needs
@@ -20,7 +20,7 @@ same-length c = search needs
 returns-2 : tie.Need-returns-2
 returns-2 c =
     let a = c .before .before .before .before .before .before .before .before .args in
-    let q = c .before .before .before .before .plain in
+    let q = c .before .before .before .before .body-only in
     ask-full (a .clocks) (a .magic) (a .now) (a .nonce) (a .out .now) (a .queued) (a .roomy) (not-false _ (c .before .before .before .before .before .before .if1 .left)) (q .result) (q .last .0) (q .ensures) (not-true _ (c .if2 .taken))
 
 requested-requires : tie.Need-requested-requires
@@ -35,7 +35,7 @@ same-length-2 c = search needs
 returns-3 : tie.Need-returns-3
 returns-3 c =
     let a = c .before .before .before .before .before .before .before .before .before .before .args in
-    let q = c .before .before .before .before .before .before .plain in
+    let q = c .before .before .before .before .before .before .body-only in
     ask-done (a .clocks) (a .magic) (a .now) (a .nonce) (a .out .now) (a .queued) (a .roomy) (not-false _ (c .before .before .before .before .before .before .before .before .if1 .left)) (q .result) (q .last .0) (q .ensures)
     (c .sent .result) (not-false _ (c .before .before .if2 .left)) (c .sent .ensures ∙ ap (sentAt _) (c .before .requested .ensures))
 
@@ -44,7 +44,7 @@ request-spec =
     tie.close
     (tie.spec
     returns
-    plain-requires
+    body-only-requires
     same-length
     returns-2
     requested-requires

@@ -3,7 +3,7 @@ use borrow.Author.Needs.{needs}
 use native.Mathlib.Omega.{arith}
 use lib.Dec.{lit≤}
 use Rattle.text.specs.Ascii.{ascii}
-use Rattle.text.proofs.PieceLaws.{fresh, put-adds, both}
+use Rattle.text.proofs.PieceLaws.{empty-holds, put-adds, both}
 use Rattle.event_line.proofs.words.begun.Statement.{statement}
 use Rattle.event_line.proofs.words.begun.Tie as tie
 
@@ -25,7 +25,7 @@ put-requires-2 c κs = search needs
 returns : tie.Need-returns
 unfolding ascii
 returns c =
-    let n = fresh _ (c .before .before .before .before .new .ensures) in
+    let n = empty-holds _ (c .before .before .before .before .new .ensures) in
     let a = put-adds _ _ _ 1 (lit≤ tt) (omega (arith, n .used)) (c .before .before .put .ensures) in
     both _ _ _ _ _ _ (both _ _ _ _ _ _ n a) (put-adds _ _ _ 2 (lit≤ tt) (omega (arith, n .used, a .used)) (c .put2 .ensures))
 

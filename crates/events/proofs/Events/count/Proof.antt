@@ -4,20 +4,19 @@ use mathlib.Core.Path.{_≡_}
 use native.Mathlib.Omega.{arith}
 use lib.ListN.{length, length-take}
 use Rattle.base.proofs.Arrays.{unmap}
-use Rattle.events.specs.Events.{held}
+use Rattle.events.specs.Events.{heldEvents}
 use Rattle.events.proofs.Events.count.Statement.{statement}
 use Rattle.events.proofs.Events.count.Tie as tie
 
 long : (c : tie.Start) → length (c .args .self .entries) ≡ 640
 long c = search (unmap, needs)
 
-returns : tie.Need-returns
-unfolding held
-returns c = simp length-take (omega (arith, long (c .before)))
+least-requires : tie.Need-least-requires
+least-requires c κs = search needs
 
-returns-2 : tie.Need-returns-2
-unfolding held
-returns-2 c = simp length-take (omega (arith, long (c .before)))
+returns : tie.Need-returns
+unfolding heldEvents
+returns c = simp length-take (omega (arith, c .least .ensures, long (c .before)))
 
 pub count-spec : {M : Type 1} → statement M
-count-spec = tie.close (tie.spec returns returns-2)
+count-spec = tie.close (tie.spec least-requires returns)

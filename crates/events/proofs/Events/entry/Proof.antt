@@ -6,7 +6,7 @@ use native.Mathlib.Omega.{arith}
 use lib.ListN.{length, List·getD-eq-default}
 use Rattle.base.proofs.Arrays.{unmap, view-at, view-le}
 use Rattle.base.proofs.Orders.{getD-within}
-use Rattle.events.specs.Events.{held, blankEntry}
+use Rattle.events.specs.Events.{heldEvents, blankEntry}
 use Rattle.events.proofs.Events.entry.Statement.{statement}
 use Rattle.events.proofs.Events.entry.Tie as tie
 
@@ -17,23 +17,23 @@ long : (c : tie.Start) → length (c .args .t1 .entries) ≡ 640
 long c = search (unmap, needs)
 
 mul-result : tie.Need-mul-result
-unfolding held
+unfolding heldEvents
 mul-result c = let s = c .before .before .args .t1 in omega (arith, long (c .before .before), view-le (s .used) (s .entries), c .before .count .ensures)
 
 element-copy-out-result : tie.Need-element-copy-out-result
-unfolding held
+unfolding heldEvents
 element-copy-out-result c = let s = c .before .before .args .t1 in omega (arith, long (c .before .before), view-le (s .used) (s .entries), c .before .count .ensures)
 
 returns : tie.Need-returns
-unfolding held
+unfolding heldEvents
 returns c =
     let a = c .before .before .before .args in
-    let h : a .i < length (held (a .t1)) = omega (arith, c .before .before .count .ensures) in
-    sym (view-at (a .t1 .used) (a .t1 .entries) (a .i) _ h) ∙ getD-within (held (a .t1)) (a .i) _ blankEntry h
+    let h : a .i < length (heldEvents (a .t1)) = omega (arith, c .before .before .count .ensures) in
+    sym (view-at (a .t1 .used) (a .t1 .entries) (a .i) _ h) ∙ getD-within (heldEvents (a .t1)) (a .i) _ blankEntry h
 
 returns-2 : tie.Need-returns-2
-unfolding held blankEntry
-returns-2 c = sym (List·getD-eq-default (held (c .before .before .args .t1)) blankEntry (omega (arith, c .before .count .ensures)))
+unfolding heldEvents blankEntry
+returns-2 c = sym (List·getD-eq-default (heldEvents (c .before .before .args .t1)) blankEntry (omega (arith, c .before .count .ensures)))
 
 pub entry-spec : {M : Type 1} → statement M
 entry-spec = tie.close (tie.spec count-requires mul-result element-copy-out-result returns returns-2)

@@ -1,11 +1,11 @@
 -- A new store's count is 0, so its view is empty.
 use mathlib.Core.Path.{refl}
-use Rattle.events.specs.Events.{held}
+use Rattle.events.specs.Events.{heldEvents}
 use Rattle.events.proofs.Events.new.Statement.{statement}
 use Rattle.events.proofs.Events.new.Tie as tie
 
 returns : tie.Need-returns
-unfolding held
+unfolding heldEvents
 returns c = refl
 
 pub new-spec : {M : Type 1} → statement M

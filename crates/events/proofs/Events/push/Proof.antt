@@ -6,7 +6,7 @@ use Prim.Native.Nat.{_+_}
 use native.Mathlib.Omega.{arith}
 use lib.ListN.{length}
 use Rattle.base.proofs.Arrays.{unmap, store-end}
-use Rattle.events.specs.Events.{held, hasRoom}
+use Rattle.events.specs.Events.{heldEvents, hasRoom}
 use Rattle.events.proofs.Events.push.Statement.{statement}
 use Rattle.events.proofs.Events.push.Tie as tie
 
@@ -26,11 +26,11 @@ add-self : tie.Need-add-self
 add-self c = omega (arith, ltb-true)
 
 returns : tie.Need-returns
-unfolding held hasRoom
+unfolding heldEvents hasRoom
 returns c =
     let s = c .before .before .args .t1 in
     let n = c .before .count .ensures in
-    let h = le-leb (length (held s) + 1) 640 (omega (arith, ltb-true)) in
+    let h = le-leb (length (heldEvents s) + 1) 640 (omega (arith, ltb-true)) in
     record {
       ok = c .if1 .taken ∙ sym h;
       view = rw h (store-end (s .entries) (s .used) _ _ n (omega (arith, ltb-true, long (c .before .before))));
@@ -41,7 +41,7 @@ returns-2 : tie.Need-returns-2
 unfolding hasRoom
 returns-2 c =
     let s = c .before .before .args .t1 in
-    let h = lt-leb (length (held s) + 1) 640 (omega (arith, ltb-false, c .before .count .ensures)) in
+    let h = lt-leb (length (heldEvents s) + 1) 640 (omega (arith, ltb-false, c .before .count .ensures)) in
     record { ok = c .if1 .left ∙ sym h; view = rw h; same = λ _. refl }
 
 pub push-spec : {M : Type 1} → statement M

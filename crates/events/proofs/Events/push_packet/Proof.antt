@@ -17,7 +17,7 @@ use Rattle.base.proofs.Arrays.{unmap, view-le}
 use Rattle.packing.specs.Packing.{framesOf}
 use Rattle.packing.proofs.Pads.{padded-length}
 use Rattle.events.specs.declared.Event.the-variants.{NetworkResumed, Disconnected}
-use Rattle.events.specs.Events.{held, withoutInput, both, ahead, hasRoom, packetFits, announced, announcedAll}
+use Rattle.events.specs.Events.{heldEvents, withoutInput, both, ahead, hasRoom, packetFits, announced, announcedAll}
 use Rattle.events.proofs.Laws.{frame-turn, frame-end, packet-turn, packet-end, packet-room, packet-length, drop-min, each, count-if-most, count-if-one, count-if-length, both-length, Behind, behind-none, behind-one}
 use Rattle.events.proofs.Events.push_packet.Statement.{statement}
 use Rattle.events.proofs.Events.push_packet.Tie as tie
@@ -95,7 +95,7 @@ count-if-requires-2 : tie.Need-count-if-requires-2 Inv-handles μ-handles Inv-fr
 count-if-requires-2 c κs = search needs
 
 few : (c : tie.After-count Inv-handles μ-handles Inv-frames μ-frames) → c .count .result ≤ 640
-unfolding held
+unfolding heldEvents
 few c = let s = c .before .before .before .args .t1 in omega (arith, c .count .ensures, long (c .before .before .before), view-le (s .used) (s .entries))
 
 add-packet-fits : tie.Need-add-packet-fits Inv-handles μ-handles Inv-frames μ-frames
@@ -103,7 +103,7 @@ add-packet-fits c = omega (arith, few (c .before), c .count-if .ensures, count-i
 
 -- how many there are before the packet's own
 behind : (c : tie.After-count-if2 Inv-handles μ-handles Inv-frames μ-frames) → c .before .before .count .result + c .before .count-if .result + c .count-if2 .result
-    ≡ length (held (c .before .before .before .before .before .args .t1)) + length (ahead (c .before .before .before .before .before .args .resumed) (c .before .before .before .before .before .args .disconnected))
+    ≡ length (heldEvents (c .before .before .before .before .before .args .t1)) + length (ahead (c .before .before .before .before .before .args .resumed) (c .before .before .before .before .before .args .disconnected))
 unfolding ahead
 behind c =
     let a = c .before .before .before .before .before .args in
@@ -121,25 +121,25 @@ packet-fits-requires c κs =
 
 -- what the room test answers
 able : (c : tie.After-packet-fits Inv-handles μ-handles Inv-frames μ-frames)
-    → packetFits (held (c .before .before .before .before .before .before .args .t1) ++ ahead (c .before .before .before .before .before .before .args .resumed) (c .before .before .before .before .before .before .args .disconnected)) (c .before .before .before .before .before .before .args .frame) (c .before .before .before .before .before .before .args .count) (take (c .before .before .before .before .before .before .args .handle-count) (c .before .before .before .before .before .before .args .t10)) ≡ c .packet-fits .result
+    → packetFits (heldEvents (c .before .before .before .before .before .before .args .t1) ++ ahead (c .before .before .before .before .before .before .args .resumed) (c .before .before .before .before .before .before .args .disconnected)) (c .before .before .before .before .before .before .args .frame) (c .before .before .before .before .before .before .args .count) (take (c .before .before .before .before .before .before .args .handle-count) (c .before .before .before .before .before .before .args .t10)) ≡ c .packet-fits .result
 unfolding packetFits hasRoom
 able c =
     let a = c .before .before .before .before .before .before .args in
     let w = wide (c .before .before .before .before .before .before) in
     let p : c .before .before .before .before .least .result ≡ length (take (a .handle-count) (a .t10)) = omega (arith, c .before .before .before .before .least .ensures, length-take (a .handle-count) (a .t10)) in
-    rw (c .packet-fits .ensures, length-append (held (a .t1)) (ahead (a .resumed) (a .disconnected)), ← behind (c .before), ← p)
+    rw (c .packet-fits .ensures, length-append (heldEvents (a .t1)) (ahead (a .resumed) (a .disconnected)), ← behind (c .before), ← p)
 
 -- all fit
 fit : (c : tie.Then1 Inv-handles μ-handles Inv-frames μ-frames)
     → (c .before .before .before .before .before .before .before .args .frame + c .before .before .before .before .before .before .before .args .count ≤ 2 ^ 32)
-    × (length (held (c .before .before .before .before .before .before .before .args .t1)) + length (ahead (c .before .before .before .before .before .before .before .args .resumed) (c .before .before .before .before .before .before .before .args .disconnected)) + c .before .before .before .before .before .before .before .args .count * length (take (c .before .before .before .before .before .before .before .args .handle-count) (c .before .before .before .before .before .before .before .args .t10)) ≤ 640)
+    × (length (heldEvents (c .before .before .before .before .before .before .before .args .t1)) + length (ahead (c .before .before .before .before .before .before .before .args .resumed) (c .before .before .before .before .before .before .before .args .disconnected)) + c .before .before .before .before .before .before .before .args .count * length (take (c .before .before .before .before .before .before .before .args .handle-count) (c .before .before .before .before .before .before .before .args .t10)) ≤ 640)
 unfolding packetFits hasRoom
 fit c =
     let a = c .before .before .before .before .before .before .before .args in
     let hs = take (a .handle-count) (a .t10) in
-    let l = held (a .t1) ++ ahead (a .resumed) (a .disconnected) in
+    let l = heldEvents (a .t1) ++ ahead (a .resumed) (a .disconnected) in
     let b = each (leb (a .frame + a .count) (2 ^ 32)) (leb (length l + a .count * length hs) 640) (able (c .before) ∙ c .if1 .taken) in
-    (leb-true _ _ (b .0), omega (arith, length-append (held (a .t1)) (ahead (a .resumed) (a .disconnected)), leb-true (length l + a .count * length hs) 640 (b .1)))
+    (leb-true _ _ (b .0), omega (arith, length-append (heldEvents (a .t1)) (ahead (a .resumed) (a .disconnected)), leb-true (length l + a .count * length hs) 640 (b .1)))
 
 -- a place for each of the two
 free : (c : tie.Then1 Inv-handles μ-handles Inv-frames μ-frames) → c .before .before .before .before .before .before .before .args .resumed ≡ true → c .before .before .before .before .count .result < 640
@@ -154,12 +154,12 @@ element-set-from-self c = free (c .before) (c .if2 .taken)
 add-to : tie.Need-add-to Inv-handles μ-handles Inv-frames μ-frames
 add-to c = omega (arith, free (c .before) (c .if2 .taken))
 
-after-resumed : (c : tie.Joined2 Inv-handles μ-handles Inv-frames μ-frames) → Behind (held (c .before .before .before .before .before .before .before .before .args .t1)) (pick (c .before .before .before .before .before .before .before .before .args .resumed) (withoutInput NetworkResumed ∷ []) []) (c .if2 .self .entries) (c .if2 .to)
+after-resumed : (c : tie.Joined2 Inv-handles μ-handles Inv-frames μ-frames) → Behind (heldEvents (c .before .before .before .before .before .before .before .before .args .t1)) (pick (c .before .before .before .before .before .before .before .before .args .resumed) (withoutInput NetworkResumed ∷ []) []) (c .if2 .self .entries) (c .if2 .to)
 after-resumed c =
     let a = c .before .before .before .before .before .before .before .before .args in
     let none = behind-none (a .t1) (c .before .before .before .before .before .count .result) (c .before .before .before .before .before .count .ensures) (long (c .before .before .before .before .before .before .before .before)) in
     ⊎-elim {0, 0, 0}
-    (λ w. rw (w .1, w .2, w .0 .taken) (behind-one (held (a .t1)) [] (a .t1 .entries) _ (withoutInput NetworkResumed) (free (c .before) (w .0 .taken)) none))
+    (λ w. rw (w .1, w .2, w .0 .taken) (behind-one (heldEvents (a .t1)) [] (a .t1 .entries) _ (withoutInput NetworkResumed) (free (c .before) (w .0 .taken)) none))
     (λ w. rw (w .1, w .2, w .0 .left) none)
     (c .if2 .came)
 
@@ -177,13 +177,13 @@ element-set-from-self-2 c = free-2 (c .before .before) (c .before .if3 .taken)
 add-to-2 : tie.Need-add-to-2 Inv-handles μ-handles Inv-frames μ-frames
 add-to-2 c = omega (arith, free-2 (c .before .before) (c .before .if3 .taken))
 
-after-both : (c : tie.Joined3 Inv-handles μ-handles Inv-frames μ-frames) → Behind (held (c .before .before .before .before .before .before .before .before .before .args .t1)) (ahead (c .before .before .before .before .before .before .before .before .before .args .resumed) (c .before .before .before .before .before .before .before .before .before .args .disconnected)) (c .if3 .self .entries) (c .if3 .to)
+after-both : (c : tie.Joined3 Inv-handles μ-handles Inv-frames μ-frames) → Behind (heldEvents (c .before .before .before .before .before .before .before .before .before .args .t1)) (ahead (c .before .before .before .before .before .before .before .before .before .args .resumed) (c .before .before .before .before .before .before .before .before .before .args .disconnected)) (c .if3 .self .entries) (c .if3 .to)
 unfolding ahead both
 after-both c =
     let a = c .before .before .before .before .before .before .before .before .before .args in
     let first = pick (a .resumed) (withoutInput NetworkResumed ∷ []) [] in
     ⊎-elim {0, 0, 0}
-    (λ w. rw (w .2, w .3, w .0 .taken) (behind-one (held (a .t1)) first (c .before .if2 .self .entries) (c .before .if2 .to) (withoutInput Disconnected) (free-2 (c .before) (w .0 .taken)) (after-resumed (c .before))))
+    (λ w. rw (w .2, w .3, w .0 .taken) (behind-one (heldEvents (a .t1)) first (c .before .if2 .self .entries) (c .before .if2 .to) (withoutInput Disconnected) (free-2 (c .before) (w .0 .taken)) (after-resumed (c .before))))
     (λ w. rw (w .1, w .2, w .0 .left, append-nil) (after-resumed (c .before)))
     (c .if3 .came)
 
@@ -212,7 +212,7 @@ frames-holds c =
       w .1,
       f .0,
       b .long,
-      rw (b .view, length-append (held (a .t1) ++ ahead (a .resumed) (a .disconnected)) (announcedAll (a .frame) (a .size) hs fs), length-append (held (a .t1)) (ahead (a .resumed) (a .disconnected)), k) (f .1),
+      rw (b .view, length-append (heldEvents (a .t1) ++ ahead (a .resumed) (a .disconnected)) (announcedAll (a .frame) (a .size) hs fs), length-append (heldEvents (a .t1)) (ahead (a .resumed) (a .disconnected)), k) (f .1),
       rw (add-zero, sub-zero, c .least2 .ensures, drop-min (a .at) (length (a .payload .now)) (a .payload .now) refl),
     )
 
@@ -310,7 +310,7 @@ frames-again c =
     )
 
 returns : tie.Need-returns Inv-handles μ-handles Inv-frames μ-frames
-unfolding held
+unfolding heldEvents
 returns c =
     let f = c .before .frames in
     let a = c .before .before .before .before .before .before .before .before .before .before .before .before .args in

@@ -1,5 +1,5 @@
--- `append` stores the fresh frames of a payload one after the other, until there is no more room. The invariant: those stored, with the fresh
--- ones that are left, cut at 33, are what is to be held.
+-- `append` stores the frames of a payload that are new and stay, one after the other, until there is no more room. The invariant: those stored, with
+-- those of them that are left, cut at 33, are what is to be held.
 use borrow.Author.Needs.{needs}
 use borrow.Author.Tests.{ltb-true, ltb-false}
 use mathlib.Core.Path.{_≡_, sym, _∙_}
@@ -14,7 +14,7 @@ use Rattle.base.specs.Keyed.{kept}
 use Rattle.base.proofs.Arrays.{unmap, take-count}
 use Rattle.packing.specs.Packing.{framesOf}
 use Rattle.packing.specs.declared.input_bytes.InputBytes.{InputBytes}
-use Rattle.history.specs.History.{received, fresh, numbered}
+use Rattle.history.specs.History.{received, newAndKept, numbered}
 use Rattle.history.proofs.Laws.{received-le, coming, next, fill-turn, pass-turn, fill-end, fill-full}
 use Rattle.history.proofs.History.append.Statement.{statement}
 use Rattle.history.proofs.History.append.Tie as tie
@@ -22,8 +22,8 @@ use Rattle.history.proofs.History.append.Tie as tie
 abbrev Inv-loop : tie.InvT-loop
 Inv-loop payload start count width newest last max-prediction self₀ bytes at₀ place₀ k₀ self at place k =
     (k ≤ count) × (at ≤ 33) × (count ≤ 2 ^ 32 - start) × (place + (count - k) * width ≤ length payload) × (length (self .slots) ≡ 33)
-    × (take 33 (take at (self .slots) ++ kept (λ x. fresh newest last max-prediction (x .frame)) (coming start width bytes payload count k place))
-    ≡ take 33 (take at₀ (self₀ .slots) ++ kept (λ x. fresh newest last max-prediction (x .frame)) (numbered start (framesOf width bytes count payload))))
+    × (take 33 (take at (self .slots) ++ kept (λ x. newAndKept newest last max-prediction (x .frame)) (coming start width bytes payload count k place))
+    ≡ take 33 (take at₀ (self₀ .slots) ++ kept (λ x. newAndKept newest last max-prediction (x .frame)) (numbered start (framesOf width bytes count payload))))
 
 abbrev μ-loop : tie.MeasureT-loop
 μ-loop payload start count width newest last max-prediction self₀ bytes at₀ place₀ k₀ self at place k = count - k
@@ -46,8 +46,8 @@ cast-frame c = omega arith
 add-frame : tie.Need-add-frame Inv-loop μ-loop
 add-frame c = omega arith
 
-is-fresh-requires : tie.Need-is-fresh-requires Inv-loop μ-loop
-is-fresh-requires c κs = search needs
+is-new-and-kept-requires : tie.Need-is-new-and-kept-requires Inv-loop μ-loop
+is-new-and-kept-requires c κs = search needs
 
 frame-at-requires : tie.Need-frame-at-requires Inv-loop μ-loop
 frame-at-requires c κs = search needs
@@ -85,8 +85,8 @@ loop-again : tie.Need-loop-again Inv-loop μ-loop
 loop-again c =
     let a = c .before .before .before .before .before .before .before .before .args in
     let l = c .before .before .before .before .loop in
-    let p : InputBytes → Bool = (λ x. fresh (a .newest) (a .last) (a .max-prediction) (x .frame)) in
-    let e = sym (c .before .is-fresh .ensures) in
+    let p : InputBytes → Bool = (λ x. newAndKept (a .newest) (a .last) (a .max-prediction) (x .frame)) in
+    let e = sym (c .before .is-new-and-kept .ensures) in
     ⊎-elim
     (λ w.
     rw (w .2, w .3, w .1 .ensures) (
@@ -121,7 +121,7 @@ returns c =
     let a = c .before .before .before .before .before .before .args in
     let l = c .before .before .loop in
     let n : length (take (l .at) (l .self .slots)) ≡ 33 = length-take (l .at) (l .self .slots) ∙ omega (arith, ltb-false) in
-    sym (fill-full (a .start) (a .width) (a .reference .bytes) (a .payload .now) (a .count) (λ x. fresh (a .newest) (a .last) (a .max-prediction) (x .frame)) (take (l .at) (l .self .slots)) (l .k) (l .place) n) ∙ rw (held (c .before .before .before)) at (l .inv .5)
+    sym (fill-full (a .start) (a .width) (a .reference .bytes) (a .payload .now) (a .count) (λ x. newAndKept (a .newest) (a .last) (a .max-prediction) (x .frame)) (take (l .at) (l .self .slots)) (l .k) (l .place) n) ∙ rw (held (c .before .before .before)) at (l .inv .5)
 
 returns-2 : tie.Need-returns-2 Inv-loop μ-loop
 unfolding received
@@ -129,7 +129,7 @@ returns-2 c =
     let a = c .before .before .before .before .before .args in
     let l = c .before .loop in
     let n = length-take (l .at) (l .self .slots) in
-    sym (fill-end (a .start) (a .width) (a .reference .bytes) (a .payload .now) (a .count) (λ x. fresh (a .newest) (a .last) (a .max-prediction) (x .frame)) (take (l .at) (l .self .slots)) (l .k) (l .place) (omega arith) (omega arith)) ∙ rw (held (c .before .before)) at (l .inv .5)
+    sym (fill-end (a .start) (a .width) (a .reference .bytes) (a .payload .now) (a .count) (λ x. newAndKept (a .newest) (a .last) (a .max-prediction) (x .frame)) (take (l .at) (l .self .slots)) (l .k) (l .place) (omega arith) (omega arith)) ∙ rw (held (c .before .before)) at (l .inv .5)
 
 pub append-spec : {M : Type 1} → statement M
 append-spec =
@@ -141,7 +141,7 @@ append-spec =
     loop-holds
     cast-frame
     add-frame
-    is-fresh-requires
+    is-new-and-kept-requires
     frame-at-requires
     mul-t23
     element-set-from-self

@@ -9,7 +9,7 @@ use lib.ListN.{length, drop}
 use Rattle.base.proofs.Arrays.{unmap}
 use Rattle.packing.specs.declared.input_bytes.InputBytes.{InputBytes}
 use Rattle.packing.specs.Pad.{zeros}
-use Rattle.history.specs.History.{received, blank, highest, newestOf, foundIn, referenceFrame, beside, lookedAt}
+use Rattle.history.specs.History.{received, blankFrame, highest, newestOf, foundIn, referenceFrame, beside, lookedAt}
 use Rattle.history.proofs.Laws.{received-le, received-at, highest-turn, highest-end, newest-is, found-turn, found-stop, found-end, looked-none}
 use Rattle.history.proofs.History.look.Statement.{statement}
 use Rattle.history.proofs.History.look.Tie as tie
@@ -38,7 +38,7 @@ long : (c : tie.Start Inv-loop μ-loop Inv-loop2 μ-loop2) → length (c .args .
 long c = search (unmap, needs)
 
 returns : tie.Need-returns Inv-loop μ-loop Inv-loop2 μ-loop2
-unfolding blank zeros
+unfolding blankFrame zeros
 returns c =
     let a = c .before .before .args in
     sym (looked-none (a .start) (received (a .t1)) (omega (arith, c .before .count .ensures)))
@@ -124,7 +124,7 @@ loop2-again c =
     (omega arith, l .inv .1, l .inv .2, rw (← f) (l .inv .3))
 
 returns-3 : tie.Need-returns-3 Inv-loop μ-loop Inv-loop2 μ-loop2
-unfolding blank zeros
+unfolding blankFrame zeros
 returns-3 c =
     let b = c .before .before in
     let s = b .before .before .before .before .before .args .t1 in

@@ -4,7 +4,7 @@ use mathlib.Core.List.{[]}
 use native.Mathlib.Omega.{arith}
 use Rattle.text.specs.Ascii.{ascii}
 use Rattle.message_line.specs.Line.{kindName}
-use Rattle.text.proofs.PieceLaws.{fresh, wider, both}
+use Rattle.text.proofs.PieceLaws.{empty-holds, wider, both}
 use Rattle.message_line.proofs.body.kind.Statement.{statement}
 use Rattle.message_line.proofs.body.kind.Tie as tie
 
@@ -107,42 +107,42 @@ put-requires-8 c κs = search needs
 returns : tie.Need-returns
 unfolding kindName ascii
 returns c =
-    rw (c .before .before .before .enum-told .given .1) (wider _ _ _ _ (both [] _ _ _ _ _ (fresh _ (c .before .before .new .ensures)) (c .put .ensures)) (omega arith))
+    rw (c .before .before .before .enum-told .given .1) (wider _ _ _ _ (both [] _ _ _ _ _ (empty-holds _ (c .before .before .new .ensures)) (c .put .ensures)) (omega arith))
 
 returns-2 : tie.Need-returns-2
 unfolding kindName ascii
 returns-2 c =
-    rw (c .before .before .before .enum-told2 .given .1) (wider _ _ _ _ (both [] _ _ _ _ _ (fresh _ (c .before .before .new2 .ensures)) (c .put2 .ensures)) (omega arith))
+    rw (c .before .before .before .enum-told2 .given .1) (wider _ _ _ _ (both [] _ _ _ _ _ (empty-holds _ (c .before .before .new2 .ensures)) (c .put2 .ensures)) (omega arith))
 
 returns-3 : tie.Need-returns-3
 unfolding kindName ascii
 returns-3 c =
-    rw (c .before .before .before .enum-told3 .given .1) (wider _ _ _ _ (both [] _ _ _ _ _ (fresh _ (c .before .before .new3 .ensures)) (c .put3 .ensures)) (omega arith))
+    rw (c .before .before .before .enum-told3 .given .1) (wider _ _ _ _ (both [] _ _ _ _ _ (empty-holds _ (c .before .before .new3 .ensures)) (c .put3 .ensures)) (omega arith))
 
 returns-4 : tie.Need-returns-4
 unfolding kindName ascii
 returns-4 c =
-    rw (c .before .before .before .enum-told4 .given .1) (wider _ _ _ _ (both [] _ _ _ _ _ (fresh _ (c .before .before .new4 .ensures)) (c .put4 .ensures)) (omega arith))
+    rw (c .before .before .before .enum-told4 .given .1) (wider _ _ _ _ (both [] _ _ _ _ _ (empty-holds _ (c .before .before .new4 .ensures)) (c .put4 .ensures)) (omega arith))
 
 returns-5 : tie.Need-returns-5
 unfolding kindName ascii
 returns-5 c =
-    rw (c .before .before .before .enum-told5 .given .1) (wider _ _ _ _ (both [] _ _ _ _ _ (fresh _ (c .before .before .new5 .ensures)) (c .put5 .ensures)) (omega arith))
+    rw (c .before .before .before .enum-told5 .given .1) (wider _ _ _ _ (both [] _ _ _ _ _ (empty-holds _ (c .before .before .new5 .ensures)) (c .put5 .ensures)) (omega arith))
 
 returns-6 : tie.Need-returns-6
 unfolding kindName ascii
 returns-6 c =
-    rw (c .before .before .before .enum-told6 .given .1) (wider _ _ _ _ (both [] _ _ _ _ _ (fresh _ (c .before .before .new6 .ensures)) (c .put6 .ensures)) (omega arith))
+    rw (c .before .before .before .enum-told6 .given .1) (wider _ _ _ _ (both [] _ _ _ _ _ (empty-holds _ (c .before .before .new6 .ensures)) (c .put6 .ensures)) (omega arith))
 
 returns-7 : tie.Need-returns-7
 unfolding kindName ascii
 returns-7 c =
-    rw (c .before .before .before .enum-told7 .given .1) (wider _ _ _ _ (both [] _ _ _ _ _ (fresh _ (c .before .before .new7 .ensures)) (c .put7 .ensures)) (omega arith))
+    rw (c .before .before .before .enum-told7 .given .1) (wider _ _ _ _ (both [] _ _ _ _ _ (empty-holds _ (c .before .before .new7 .ensures)) (c .put7 .ensures)) (omega arith))
 
 returns-8 : tie.Need-returns-8
 unfolding kindName ascii
 returns-8 c =
-    rw (c .before .before .before .enum-told8 .given .1) (wider _ _ _ _ (both [] _ _ _ _ _ (fresh _ (c .before .before .new8 .ensures)) (c .put8 .ensures)) (omega arith))
+    rw (c .before .before .before .enum-told8 .given .1) (wider _ _ _ _ (both [] _ _ _ _ _ (empty-holds _ (c .before .before .new8 .ensures)) (c .put8 .ensures)) (omega arith))
 
 pub kind-spec : {M : Type 1} → statement M
 kind-spec =

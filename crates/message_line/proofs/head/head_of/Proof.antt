@@ -7,7 +7,7 @@ use native.Mathlib.Omega.{arith}
 use Rattle.base.proofs.Arrays.{unmap}
 use Rattle.text.specs.Decimal.{decimalOf}
 use Rattle.text.specs.Ascii.{ascii}
-use Rattle.text.proofs.PieceLaws.{fresh, wider, same-text, both}
+use Rattle.text.proofs.PieceLaws.{empty-holds, wider, same-text, both}
 use Rattle.message_line.proofs.HeadLaws.{few-reports, refused-head, read-head}
 use Rattle.message_line.proofs.head.head_of.Statement.{statement}
 use Rattle.message_line.proofs.head.head_of.Tie as tie
@@ -38,7 +38,7 @@ returns c =
     wider _ _ _ _
     (same-text _ _ _ _
     (ap (λ (k : ℕ). ascii "refused " ++ decimalOf k) (n .ensures) ∙ refused-head _ (r .result) (r .ensures) _ (λ e. c .before .before .before .if1 .taken (n .ensures ∙ e)))
-    (both [] _ _ _ _ _ (fresh _ (c .before .before .new .ensures)) (c .number2 .ensures))) (omega arith)
+    (both [] _ _ _ _ _ (empty-holds _ (c .before .before .new .ensures)) (c .number2 .ensures))) (omega arith)
 
 head-requires : tie.Need-head-requires
 head-requires c κs = few-reports _ (c .before .before .before .read .result) (c .before .before .before .read .ensures) (search (unmap, needs))

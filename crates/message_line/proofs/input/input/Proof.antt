@@ -4,7 +4,7 @@ use mathlib.Core.Path.{_≡_}
 use native.Mathlib.Omega.{arith}
 use lib.ListN.{length, length-take}
 use Rattle.base.proofs.Arrays.{unmap}
-use Rattle.codec.specs.Message.{listed}
+use Rattle.codec.specs.Message.{reportList}
 use Rattle.text.specs.Ascii.{ascii}
 use Rattle.message_line.specs.Line.{field}
 use Rattle.text.proofs.PieceLaws.{wider, same-piece, both-adds}
@@ -51,9 +51,9 @@ returns c =
     let n : tie.After-number = search in
     let s = n .before .before in
     let a = s .args in
-    let few : a .reports .count ≡ length (listed (a .reports)) = simp length-take (omega (arith, long s)) in
+    let few : a .reports .count ≡ length (reportList (a .reports)) = simp length-take (omega (arith, long s)) in
     wider _ _ _ _
-    (same-piece _ _ _ _ _ (input-fields (listed (a .reports)) (a .reports .count) (a .disconnect-requested) (a .start-frame) (a .ack-frame) (a .length) few)
+    (same-piece _ _ _ _ _ (input-fields (reportList (a .reports)) (a .reports .count) (a .disconnect-requested) (a .start-frame) (a .ack-frame) (a .length) few)
     (both-adds (a .draft) _ _ _ _ _ _
     (both-adds (a .draft) _ _ _ _ _ _
     (both-adds (a .draft) _ _ _ _ _ _

@@ -7,7 +7,7 @@ use Prim.Native.Nat.{_+_, _-_, _<_, _≤_}
 use native.Mathlib.Omega.{arith}
 use lib.ListN.{length}
 use Rattle.base.proofs.Arrays.{unmap}
-use Rattle.status.specs.Statuses.{held}
+use Rattle.status.specs.Statuses.{heldStatuses}
 use Rattle.status.proofs.Held.{held-le}
 use Rattle.pending.specs.Pending.{waiting}
 use Rattle.pending.proofs.Widths.{payload-most}
@@ -40,7 +40,7 @@ four : (c : tie.After-reports-of) → length (c .reports-of .result .list) ≡ 4
 four c = search (unmap, needs)
 
 ready : (c : tie.After-head-size)
-    → Prepared (held (c .before .before .before .before .before .args .statuses)) (waiting (c .before .before .before .before .before .args .pending)) (c .before .before .before .before .before .args .width) (c .before .before .before .before .before .args .acked) (c .before .before .before .first-frame .result) (c .before .before .reports-of .result) (c .head-size .result) (c .before .payload-size .result)
+    → Prepared (heldStatuses (c .before .before .before .before .before .args .statuses)) (waiting (c .before .before .before .before .before .args .pending)) (c .before .before .before .before .before .args .width) (c .before .before .before .before .before .args .acked) (c .before .before .before .first-frame .result) (c .before .before .reports-of .result) (c .head-size .result) (c .before .payload-size .result)
 ready c =
     let s = c .before .before .before .before .before in
     let size = c .before .payload-size in
@@ -73,7 +73,7 @@ returns : tie.Need-returns
 returns c =
     let sized = c .before in
     let a = sized .before .before .before .before .before .args in
-    input-full (a .out .now) (a .at) (a .magic) (a .ack) (held (a .statuses)) (waiting (a .pending)) (a .width) (a .acked) (sized .before .before .before .first-frame .result) (sized .before .before .reports-of .result) (sized .head-size .result) (sized .before .payload-size .result)
+    input-full (a .out .now) (a .at) (a .magic) (a .ack) (heldStatuses (a .statuses)) (waiting (a .pending)) (a .width) (a .acked) (sized .before .before .before .first-frame .result) (sized .before .before .reports-of .result) (sized .head-size .result) (sized .before .payload-size .result)
     (ready sized) (over c)
 
 room : (c : tie.Else2)
@@ -113,7 +113,7 @@ returns-2 c =
     let tested = c .before .before .before .before .before .before .before .before in
     let sized = tested .before .before in
     let a = sized .before .before .before .before .before .args in
-    input-queued (a .out .now) (a .at) (a .magic) (a .ack) (held (a .statuses)) (waiting (a .pending)) (a .width) (a .acked) (sized .before .before .before .first-frame .result) (sized .before .before .reports-of .result) (sized .head-size .result) (sized .before .payload-size .result)
+    input-queued (a .out .now) (a .at) (a .magic) (a .ack) (heldStatuses (a .statuses)) (waiting (a .pending)) (a .width) (a .acked) (sized .before .before .before .first-frame .result) (sized .before .before .reports-of .result) (sized .head-size .result) (sized .before .payload-size .result)
     (ready sized) (room tested) (pack .result) (pack .last .1 .0) (pack .ensures) (w .result) (w .last .0) (w .ensures) (λ i. omega (arith, bytes i))
 
 pub pending-input-spec : {M : Type 1} → statement M

@@ -8,7 +8,7 @@ use lib.ListN.{length, take, length-map, length-set, List·getD-map}
 use lib.Seq.{take-length}
 use Rattle.base.proofs.Arrays.{unmap, copy-turn}
 use Rattle.status.specs.Status.{defaultStatus}
-use Rattle.status.specs.Statuses.{held}
+use Rattle.status.specs.Statuses.{heldStatuses}
 use Rattle.status.proofs.Held.{held-le}
 use Rattle.outbox.specs.Outbox.{reportOf}
 use Rattle.outbox.proofs.inputs.reports_of.Statement.{statement}
@@ -16,8 +16,8 @@ use Rattle.outbox.proofs.inputs.reports_of.Tie as tie
 
 abbrev Inv-loop : tie.InvT-loop
 Inv-loop statuses count reports₀ i₀ reports i =
-    (i ≤ count) × (count ≡ length (held statuses)) × (count ≤ 4) × (reports .count ≡ count) × (length (reports .list) ≡ 4)
-    × (take i (reports .list) ≡ take i (map reportOf (held statuses)))
+    (i ≤ count) × (count ≡ length (heldStatuses statuses)) × (count ≤ 4) × (reports .count ≡ count) × (length (reports .list) ≡ 4)
+    × (take i (reports .list) ≡ take i (map reportOf (heldStatuses statuses)))
 
 abbrev μ-loop : tie.MeasureT-loop
 μ-loop statuses count reports₀ i₀ reports i = count - i
@@ -55,7 +55,7 @@ loop-less c = omega arith
 loop-again : tie.Need-loop-again Inv-loop μ-loop
 unfolding reportOf
 loop-again c =
-    let xs = held (c .before .before .before .before .before .args .statuses) in
+    let xs = heldStatuses (c .before .before .before .before .before .args .statuses) in
     let l = c .before .before .loop in
     let four : length (l .reports .list) ≡ 4 = l .inv .4 in
     let within : l .i < length (map reportOf xs) = rw length-map (omega (arith, l .inv .1)) in (
@@ -70,7 +70,7 @@ loop-again c =
 
 returns : tie.Need-returns Inv-loop μ-loop
 returns c =
-    let xs = held (c .before .before .before .before .args .statuses) in
+    let xs = heldStatuses (c .before .before .before .before .args .statuses) in
     let l = c .before .loop in
     let all : l .reports .count ≡ l .i = omega (arith, l .inv .3) in
     let end : l .i ≡ length (map reportOf xs) = rw length-map (omega (arith, l .inv .1)) in

@@ -1,4 +1,4 @@
--- `push` tells the frame in the slot before the count, which is of the view where the count is not 0; then it adds at the end of the view, or leaves it.
+-- `push` gives the frame in the slot before the count, which is of the view where the count is not 0; then it adds at the end of the view, or leaves it.
 use borrow.Author.Needs.{needs}
 use borrow.Author.Tests.{lt-ltb, ltb-true}
 use Rattle.base.proofs.Arrays.{unmap, store-end}
@@ -32,9 +32,9 @@ mul-x c = omega (arith, inside c, waiting-le (c .before .before .args .t1), long
 element-copy-out-x : tie.Need-element-copy-out-x
 element-copy-out-x c = omega (arith, inside c, waiting-le (c .before .before .args .t1), long (c .before .before))
 
--- the frame that is told
-told : (c : tie.Joined1) → c .if1 .last ≡ lastFrame (c .before .before .args .none) (waiting (c .before .before .args .t1))
-told c =
+-- the frame that is given
+last-given : (c : tie.Joined1) → c .if1 .last ≡ lastFrame (c .before .before .args .none) (waiting (c .before .before .args .t1))
+last-given c =
     let s = c .before .before .args in
     let k = c .before .count .result - 1 in
     ⊎-elim {0, 0, 0}
@@ -62,7 +62,7 @@ returns c =
     let h : length (waiting s) < 129 = omega (arith, ltb-true (c .before .before .count .result) 129 (c .if2 .taken)) in
     record {
       ok = rw n;
-      last = told (c .before);
+      last = last-given (c .before);
       view = simp (lt-ltb _ _ h) (store-end (s .slots) (s .used) _ _ n (omega (arith, long (c .before .before .before))));
       same = λ e. cc;
     }
@@ -72,7 +72,7 @@ unfolding waiting room pushed
 returns-2 c =
     let s = c .before .before .before .args .t1 in
     let n : c .before .before .count .result ≡ length (waiting s) = c .before .before .count .ensures in
-    record { ok = rw n; last = told (c .before); view = rw (← n, c .if2 .left); same = λ _. refl }
+    record { ok = rw n; last = last-given (c .before); view = rw (← n, c .if2 .left); same = λ _. refl }
 
 pub push-spec : {M : Type 1} → statement M
 push-spec = tie.close (tie.spec count-requires sub-at mul-x element-copy-out-x mul-input element-set-from-input add-self returns returns-2)

@@ -2,17 +2,17 @@
 use borrow.Author.Needs.{needs}
 use mathlib.Core.List.{_++_}
 use mathlib.Core.Path.{_≡_, refl, sym, _∙_}
-use Prim.Native.Nat.{_-_, _≤_}
+use Prim.Native.Nat.{_≤_}
 use native.Mathlib.Omega.{arith}
 use lib.ListN.{length, take, drop}
 use Rattle.base.proofs.Arrays.{view-le}
-use Rattle.setup.specs.Setup.{listed, ListedAs, sorted}
+use Rattle.setup.specs.Setup.{handleList, ListedAs, sorted}
 use Rattle.setup.proofs.Sorting.{sorted-start, sorted-turn}
 use Rattle.setup.proofs.Handles.sorted.Statement.{statement}
 use Rattle.setup.proofs.Handles.sorted.Tie as tie
 
 abbrev Inv-loop : tie.InvT-loop
-Inv-loop next₀ i₀ next i = (i ≤ 4) × ListedAs (take i (listed next₀) ++ sorted (drop i (listed next₀))) (next₀ .count) next
+Inv-loop next₀ i₀ next i = (i ≤ 4) × ListedAs (take i (handleList next₀) ++ sorted (drop i (handleList next₀))) (next₀ .count) next
 
 abbrev μ-loop : tie.MeasureT-loop
 μ-loop next₀ i₀ next i = i
@@ -26,7 +26,7 @@ count-requires c κs = search needs
 loop-holds : tie.Need-loop-holds Inv-loop μ-loop
 loop-holds c =
     let s = c .before .args .self in
-    (omega (arith, long (c .before), view-le (s .count) (s .list), c .count .ensures), (rw (c .count .ensures) (sym (sorted-start (listed s))), refl))
+    (omega (arith, long (c .before), view-le (s .count) (s .list), c .count .ensures), (rw (c .count .ensures) (sym (sorted-start (handleList s))), refl))
 
 sub-i : tie.Need-sub-i Inv-loop μ-loop
 sub-i c = omega arith
@@ -42,7 +42,7 @@ loop-again c =
     let l = c .before .before .loop in (
       omega arith,
       (
-        c .sink .ensures .0 ∙ rw (l .inv .1 .0) (sorted-turn (listed (c .before .before .before .before .args .self)) (l .i) (c .before .loop-test .taken)),
+        c .sink .ensures .0 ∙ rw (l .inv .1 .0) (sorted-turn (handleList (c .before .before .before .before .args .self)) (l .i) (c .before .loop-test .taken)),
         c .sink .ensures .1 ∙ l .inv .1 .1,
       ),
     )

@@ -24,8 +24,8 @@ not-advanced-requires c κs = search needs
 returns : tie.Need-returns
 returns c = refused-early (c .before .before .before .args .self) (c .before .before .advance-refusal .result) (c .before .before .advance-refusal .ensures) (not-done (c .before .before .advance-refusal .result) (c .before .match .keys2)) (c .not-advanced .result) (c .not-advanced .ensures)
 
-behind-requires : tie.Need-behind-requires
-behind-requires c κs = search needs
+minus-u32-requires : tie.Need-minus-u32-requires
+minus-u32-requires c κs = search needs
 
 frames-to-advance-requires : tie.Need-frames-to-advance-requires
 frames-to-advance-requires c κs = search needs
@@ -42,7 +42,7 @@ current-below c = search needs
 
 -- how many frames that is, and that none is past the last
 frames : (c : tie.After-struct-known) → c .before .frames-to-advance .result ≡ framesFor (c .before .before .before .before .before .before .args .self .limits) (c .before .before .before .before .before .before .args .self .«last_recv_frame» - c .before .before .before .before .before .before .args .self .«current_frame»)
-frames c = c .before .frames-to-advance .ensures ∙ ap (framesFor (c .before .before .before .before .before .before .args .self .limits)) (c .before .before .behind .ensures)
+frames c = c .before .frames-to-advance .ensures ∙ ap (framesFor (c .before .before .before .before .before .before .args .self .limits)) (c .before .before .minus-u32 .ensures)
 
 within : (c : tie.After-struct-known) → c .before .before .before .before .before .before .args .self .«current_frame» + 1 + c .before .frames-to-advance .result ≤ 2 ^ 32
 within c =
@@ -77,8 +77,8 @@ cast-players c = search needs
 requests-from-requires : tie.Need-requests-from-requires
 requests-from-requires c κs = (within (c .before .before .before .before), rw (frames (c .before .before .before .before)) (frames-most (c .before .before .before .before .before .before .before .before .before .before .args .self .limits) (c .before .before .before .before .before .before .before .before .before .before .args .self .«last_recv_frame» - c .before .before .before .before .before .before .before .before .before .before .args .self .«current_frame»)))
 
-add-t9 : tie.Need-add-t9
-add-t9 c = omega (arith, within (c .before .before .before .before .before .before))
+add-t10 : tie.Need-add-t10
+add-t10 c = omega (arith, within (c .before .before .before .before .before .before))
 
 returns-3 : tie.Need-returns-3
 returns-3 c =
@@ -92,4 +92,4 @@ returns-3 c =
 pub advance-frame-spec : {M : Type 1} → statement M
 advance-frame-spec =
     tie.close
-    (tie.spec advance-refusal-requires enum-told not-advanced-requires returns behind-requires frames-to-advance-requires add-frame frames-refusal-requires enum-told-2 not-advanced-requires-2 returns-2 least-u32-requires cast-players requests-from-requires add-t9 returns-3)
+    (tie.spec advance-refusal-requires enum-told not-advanced-requires returns minus-u32-requires frames-to-advance-requires add-frame frames-refusal-requires enum-told-2 not-advanced-requires-2 returns-2 least-u32-requires cast-players requests-from-requires add-t10 returns-3)

@@ -1,6 +1,6 @@
 use borrow.Author.Needs.{needs}
-use mathlib.Core.Path.{_≡_, sym, _∙_}
-use Rattle.spectator.proofs.Laws.Getters.{behind-overflow, behind-told}
+use mathlib.Core.Path.{sym, _∙_}
+use Rattle.spectator.proofs.Laws.Getters.{behind-overflow, behind-shown}
 use Rattle.spectator.proofs.SpectatorSession.frames_behind_host.Statement.{statement}
 use Rattle.spectator.proofs.SpectatorSession.frames_behind_host.Tie as tie
 
@@ -10,11 +10,11 @@ behind-overflows-requires c κs = search needs
 returns : tie.Need-returns
 returns c = behind-overflow (c .before .before .args .self) (sym (c .before .behind-overflows .ensures) ∙ c .if1 .taken)
 
-behind-requires : tie.Need-behind-requires
-behind-requires c κs = search needs
+minus-u32-requires : tie.Need-minus-u32-requires
+minus-u32-requires c κs = search needs
 
 returns-2 : tie.Need-returns-2
-returns-2 c = behind-told (c .before .before .before .args .self) (c .behind .result) (sym (c .before .before .behind-overflows .ensures) ∙ c .before .if1 .left) (c .behind .ensures)
+returns-2 c = behind-shown (c .before .before .before .args .self) (c .minus-u32 .result) (sym (c .before .before .behind-overflows .ensures) ∙ c .before .if1 .left) (c .minus-u32 .ensures)
 
 pub frames-behind-host-spec : {M : Type 1} → statement M
-frames-behind-host-spec = tie.close (tie.spec behind-overflows-requires returns behind-requires returns-2)
+frames-behind-host-spec = tie.close (tie.spec behind-overflows-requires returns minus-u32-requires returns-2)

@@ -1,6 +1,6 @@
 use borrow.Author.Needs.{needs}
-use mathlib.Core.Path.{_≡_, _∙_, ap}
-use Rattle.events.specs.Events.{held}
+use mathlib.Core.Path.{_∙_, ap}
+use Rattle.events.specs.Events.{heldEvents}
 use Rattle.spectator_rules.specs.Handling.{handledAll}
 use Rattle.spectator.specs.Session.{seen}
 use Rattle.spectator.proofs.SpectatorSession.handle_all.Statement.{statement}
@@ -23,7 +23,7 @@ returns c =
     let a = c .before .before .before .before .args in
     c .with-parts .ensures
     ∙ c .before .handle-all .ensures .each (seen (a .self)) (c .before .before .terms .ensures)
-    ∙ ap (handledAll (held (a .events))) (c .before .before .before .parts .ensures)
+    ∙ ap (handledAll (heldEvents (a .events))) (c .before .before .before .parts .ensures)
 
 pub handle-all-spec : {M : Type 1} → statement M
 handle-all-spec = tie.close (tie.spec parts-requires terms-requires handle-all-requires with-parts-requires returns)

@@ -1,5 +1,4 @@
 use borrow.Author.Needs.{needs}
-use mathlib.Core.Path.{_≡_}
 use Rattle.answer.proofs.Done.{not-done}
 use Rattle.spectator.proofs.Laws.Polling.{act-refuses, act-done-polls}
 use Rattle.spectator.proofs.SpectatorSession.poll_remote_clients.Statement.{statement}

@@ -1,5 +1,4 @@
 use borrow.Author.Needs.{needs}
-use mathlib.Core.Path.{_≡_}
 use Rattle.answer.proofs.Done.{not-done}
 use Rattle.spectator.proofs.Laws.Polling.{take-in-refused, take-in-done}
 use Rattle.spectator.proofs.SpectatorSession.take_in.Statement.{statement}

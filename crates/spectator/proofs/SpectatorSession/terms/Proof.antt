@@ -1,9 +1,8 @@
 use mathlib.Core.Path.{refl}
 use Rattle.setup.specs.Setup.{termsWith}
-use Rattle.endpoint_rules.specs.Value.{valueOf}
 use Rattle.endpoint.specs.Endpoint.{seen as seenHost}
 use Rattle.spectator.specs.Session.{seen}
-use Rattle.spectator.proofs.Laws.Polling.{newest-told}
+use Rattle.spectator.proofs.Laws.Polling.{newest-shown}
 use borrow.Author.Needs.{needs}
 use Rattle.spectator.proofs.SpectatorSession.terms.Statement.{statement}
 use Rattle.spectator.proofs.SpectatorSession.terms.Tie as tie
@@ -17,7 +16,7 @@ returns c =
     record {
       limits = refl;
       addr = refl;
-      newest = newest-told (c .before .before .before .args .self .host) (c .before .before .last-recv-frame .result) (c .before .before .last-recv-frame .ensures);
+      newest = newest-shown (c .before .before .before .args .self .host) (c .before .before .last-recv-frame .result) (c .before .before .last-recv-frame .ensures);
       fps = refl;
       statuses = refl;
     }

@@ -1,6 +1,5 @@
 use borrow.Author.Needs.{needs}
 use borrow.Author.Tests.{lt-ltb, le-ltb}
-use mathlib.Core.Path.{_≡_}
 use Rattle.spectator.proofs.advancing.behind_overflows.Statement.{statement}
 use Rattle.spectator.proofs.advancing.behind_overflows.Tie as tie
 

@@ -1,6 +1,6 @@
 use borrow.Author.Needs.{needs}
 use borrow.Author.Tests.{lt-ltb, le-ltb}
-use mathlib.Core.Path.{_≡_, _∙_}
+use mathlib.Core.Path.{_∙_}
 use Rattle.spectator.specs.Inside.Requests.{framesFor}
 use Rattle.spectator.proofs.advancing.frames_to_advance.Statement.{statement}
 use Rattle.spectator.proofs.advancing.frames_to_advance.Tie as tie

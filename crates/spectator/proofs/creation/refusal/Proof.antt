@@ -1,6 +1,5 @@
 use borrow.Author.Needs.{needs}
 use borrow.Author.Tests.{ne-eqb}
-use mathlib.Core.Path.{_≡_, refl, sym, _∙_}
 use Rattle.answer.specs.Number.{numberOf}
 use Rattle.answer.proofs.Done.{not-done}
 use Rattle.spectator.proofs.creation.refusal.Statement.{statement}

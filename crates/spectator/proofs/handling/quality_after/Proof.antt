@@ -1,7 +1,7 @@
 use borrow.Author.Needs.{needs}
 use borrow.Author.Tests.{eqb-true, eqb-false}
 use mathlib.Core.Logic.{⊎-elim}
-use mathlib.Core.Path.{_≡_, sym, _∙_, ap}
+use mathlib.Core.Path.{sym, _∙_, ap}
 use Rattle.quality.specs.Advantage.{shownAdvantage}
 use Rattle.spectator.proofs.Laws.Handling.{frame-unknown, newest-unknown, quality-kept, quality-set}
 use Rattle.spectator.proofs.handling.quality_after.Statement.{statement}

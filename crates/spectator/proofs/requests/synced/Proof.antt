@@ -1,7 +1,5 @@
-use borrow.Author.Needs.{needs}
 use borrow.Author.Tests.{ltb-true, ltb-false}
 use mathlib.Core.Logic.{⊎-elim}
-use mathlib.Core.Path.{_≡_}
 use Rattle.spectator.proofs.Laws.Requests.{synced-gone, synced-connected, synced-later}
 use Rattle.spectator.proofs.requests.synced.Statement.{statement}
 use Rattle.spectator.proofs.requests.synced.Tie as tie

@@ -40,7 +40,7 @@ use denote.Exit.{yes}
 use Rattle.status.specs.declared.ConnectionStatus.{ConnectionStatus}
 use Rattle.status.specs.declared.list.Statuses.{Statuses}
 use Rattle.status.specs.Status.{defaultStatus}
-use Rattle.status.specs.Statuses.{held, CopiedAs}
+use Rattle.status.specs.Statuses.{heldStatuses, CopiedAs}
 use Rattle.status.proofs.Fours.{first-four}
 use Rattle.status.proofs.ConnectionStatus as T
 use Rattle.status.proofs.ConnectionStatus.Laws as T′
@@ -61,7 +61,7 @@ use Rattle.status.proofs.lent.copied.Code as code
 
 -- what `packed` says of its answer
 abbrev Packed : ConnectionStatus → ConnectionStatus → ConnectionStatus → ConnectionStatus → ℕ → Statuses → Type 0
-Packed a b c d n r = (held r ≡ take n (a ∷ b ∷ c ∷ d ∷ [])) × (r .count ≡ min n 4)
+Packed a b c d n r = (heldStatuses r ≡ take n (a ∷ b ∷ c ∷ d ∷ [])) × (r .count ≡ min n 4)
 
 abbrev stayed : Stays (f.ended .signature .params) (f.ended .kept)
 stayed = (stay-none-slice (0 ∷ []) tt (plain (λ _. T.the-row)) yes, tt)

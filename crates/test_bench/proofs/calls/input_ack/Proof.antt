@@ -49,8 +49,8 @@ send-input-requires c κs = search needs
 frame-of-requires-2 : tie.Need-frame-of-requires-2 Inv-loop μ-loop
 frame-of-requires-2 c κs = search needs
 
-plain-requires : tie.Need-plain-requires Inv-loop μ-loop
-plain-requires c κs = search needs
+body-only-requires : tie.Need-body-only-requires Inv-loop μ-loop
+body-only-requires c κs = search needs
 
 slice-aggregate-message : tie.Need-slice-aggregate-message Inv-loop μ-loop
 slice-aggregate-message c = search needs
@@ -102,7 +102,7 @@ input-ack-spec =
     slice-aggregate-send-input-2
     send-input-requires
     frame-of-requires-2
-    plain-requires
+    body-only-requires
     slice-aggregate-message
     slice-aggregate-message-2
     message-requires

@@ -22,8 +22,8 @@ ready-requires c κs = search needs
 loop-holds : tie.Need-loop-holds Inv-loop μ-loop
 loop-holds c = search needs
 
-plain-requires : tie.Need-plain-requires Inv-loop μ-loop
-plain-requires c κs = search needs
+body-only-requires : tie.Need-body-only-requires Inv-loop μ-loop
+body-only-requires c κs = search needs
 
 slice-aggregate-message : tie.Need-slice-aggregate-message Inv-loop μ-loop
 slice-aggregate-message c = search needs
@@ -69,7 +69,7 @@ keep-alive-spec =
     small-requires
     ready-requires
     loop-holds
-    plain-requires
+    body-only-requires
     slice-aggregate-message
     cast-message
     add-message

@@ -1,9 +1,7 @@
 -- `least_from` reads inside the store.
 use borrow.Author.Needs.{needs}
 use native.Mathlib.Omega.{arith}
-use mathlib.Core.Path.{_≡_, refl, _∙_}
 use Prim.Native.Nat.{_-_, _≤_}
-use lib.ListN.{length}
 use Rattle.test_replay.proofs.snapshot.least_from.Statement.{statement}
 use Rattle.test_replay.proofs.snapshot.least_from.Tie as tie
 

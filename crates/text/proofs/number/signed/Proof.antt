@@ -3,7 +3,7 @@ use mathlib.Core.Path.{_≡_}
 use Prim.Native.Nat.{_^_, _<_, _≤_}
 use native.Mathlib.Omega.{arith}
 use lib.ListN.{length}
-use Rattle.text.proofs.NumeralLaws.{one-word, plain, sign-place, minus}
+use Rattle.text.proofs.NumeralLaws.{one-word, not-negative, sign-place, minus}
 use borrow.Author.Needs.{needs}
 use Rattle.text.proofs.number.signed.Statement.{statement}
 use Rattle.text.proofs.number.signed.Tie as tie
@@ -15,7 +15,7 @@ decimal-requires : tie.Need-decimal-requires
 decimal-requires c κs = search needs
 
 returns : tie.Need-returns
-returns c = plain (c .before .before .args .bias) (c .before .before .args .n) (c .decimal .result) (omega arith) (one-word _ _ (c .decimal .ensures))
+returns c = not-negative (c .before .before .args .bias) (c .before .before .args .n) (c .decimal .result) (omega arith) (one-word _ _ (c .decimal .ensures))
 
 sub-decimal : tie.Need-sub-decimal
 sub-decimal c = search needs

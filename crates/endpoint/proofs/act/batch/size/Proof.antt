@@ -5,11 +5,11 @@ use native.Mathlib.Omega.{arith}
 use native.Mathlib.Nat.{mul-le-mul, add-assoc}
 use lib.ListN.{length}
 use Rattle.base.proofs.Arrays.{unmap}
-use Rattle.status.specs.Statuses.{held}
+use Rattle.status.specs.Statuses.{heldStatuses}
 use Rattle.status.proofs.Held.{held-le}
 use Rattle.pending.specs.Pending.{waiting}
 use Rattle.pending.proofs.Laws.{waiting-le}
-use Rattle.endpoint.specs.Inside.Batch.{batch, reports}
+use Rattle.endpoint.specs.Inside.Batch.{batch, dueReports}
 use Rattle.endpoint.proofs.Laws.Act.Batch.{sizes-append, size-if, size-if-most}
 use borrow.Author.Needs.{needs}
 use Rattle.endpoint.proofs.act.batch.size.Statement.{statement}
@@ -25,7 +25,7 @@ long-pending c = search (unmap, needs)
 most : (c : tie.After-input-size) → c .input-size .result ≤ 8307
 most c =
     let a = c .before .args in
-    let few : length (held (a .statuses)) ≤ 4 = omega (arith, long-statuses (c .before), held-le (a .statuses)) in
+    let few : length (heldStatuses (a .statuses)) ≤ 4 = omega (arith, long-statuses (c .before), held-le (a .statuses)) in
     let many : length (waiting (a .pending)) ≤ 129 = omega (arith, long-pending (c .before), waiting-le (a .pending)) in
     let wide : min (a .width) 64 ≤ 64 = omega arith in
     let payload = mul-le-mul many wide in
@@ -60,7 +60,7 @@ add-result-2 c =
     record { fits = omega (arith, most (c .before .before .before), size-if-most (a .due .input) (c .before .before .before .input-size .result), size-if-most (a .due .report) 24, size-if-most (a .due .«keep_alive») 6, c .before .before .count-if .ensures, c .before .count-if2 .ensures, c .count-if3 .ensures) }
 
 returns : tie.Need-returns
-unfolding batch reports
+unfolding batch dueReports
 returns c = λ acked whole magic ack advantage epoch. rw (sizes-append, sizes-append, size-if, size-if, size-if, c .before .before .before .input-size .ensures .sized magic ack acked whole, ← c .count-if3 .ensures, ← c .before .count-if2 .ensures, ← c .before .before .count-if .ensures, add-assoc)
 
 pub size-spec : {M : Type 1} → statement M

@@ -1,5 +1,5 @@
 -- `write_reports` writes twice, the second time where the first message ends.
-use Rattle.endpoint.specs.Inside.Batch.{reports}
+use Rattle.endpoint.specs.Inside.Batch.{dueReports}
 use Rattle.endpoint.proofs.Laws.Act.Batch.{written-then}
 use borrow.Author.Needs.{needs}
 use Rattle.endpoint.proofs.act.batch.write_reports.Statement.{statement}
@@ -8,21 +8,21 @@ use Rattle.endpoint.proofs.act.batch.write_reports.Tie as tie
 clamped-requires : tie.Need-clamped-requires
 clamped-requires c κs = search needs
 
-plain-if-requires : tie.Need-plain-if-requires
-plain-if-requires c κs = search needs
+body-only-if-requires : tie.Need-body-only-if-requires
+body-only-if-requires c κs = search needs
 
-plain-if-requires-2 : tie.Need-plain-if-requires-2
-plain-if-requires-2 c κs = search needs
+body-only-if-requires-2 : tie.Need-body-only-if-requires-2
+body-only-if-requires-2 c κs = search needs
 
 same-length : tie.Need-same-length
 same-length c = search needs
 
 returns : tie.Need-returns
-unfolding reports
+unfolding dueReports
 returns c =
     let a = c .before .before .before .before .before .before .before .before .before .before .args in
-    let first = c .before .before .before .before .before .before .plain-if in
-    let second = c .before .before .plain-if2 in
+    let first = c .before .before .before .before .before .before .body-only-if in
+    let second = c .before .before .body-only-if2 in
     written-then (a .out .now) (a .at) _ _ (first .result) (second .result) _ _ (rw (c .before .before .before .before .before .before .before .before .clamped .ensures) at (first .ensures)) (second .ensures)
 
 pub write-reports-spec : {M : Type 1} → statement M
@@ -30,7 +30,7 @@ write-reports-spec =
     tie.close
     (tie.spec
     clamped-requires
-    plain-if-requires
-    plain-if-requires-2
+    body-only-if-requires
+    body-only-if-requires-2
     same-length
     returns)

@@ -1,4 +1,3 @@
-use borrow.Author.Needs.{needs}
 use Rattle.endpoint.proofs.message.admission.weigh.Statement.{statement}
 use Rattle.endpoint.proofs.message.admission.weigh.Tie as tie
 

@@ -7,11 +7,11 @@ use Rattle.endpoint.proofs.message.informing.inform.Tie as tie
 hear-requires : tie.Need-hear-requires
 hear-requires c κs = search needs
 
-tells-disconnect-requires : tie.Need-tells-disconnect-requires
-tells-disconnect-requires c κs = search needs
+announces-disconnect-requires : tie.Need-announces-disconnect-requires
+announces-disconnect-requires c κs = search needs
 
-told-flags-requires : tie.Need-told-flags-requires
-told-flags-requires c κs = search needs
+announced-flags-requires : tie.Need-announced-flags-requires
+announced-flags-requires c κs = search needs
 
 informed-statuses-requires : tie.Need-informed-statuses-requires
 informed-statuses-requires c κs = search needs
@@ -21,11 +21,11 @@ returns c =
     let h = c .before .before .before .before .hear .ensures in
     record {
       resumes = ap (λ (y : Heard). y .resumes) h;
-      tells = rw h at (c .before .before .before .tells-disconnect .ensures);
+      disconnects = rw h at (c .before .before .before .announces-disconnect .ensures);
       clocks = ap (λ (y : Heard). y .clocks) h;
-      flags = rw h at (c .before .before .told-flags .ensures);
+      flags = rw h at (c .before .before .announced-flags .ensures);
       statuses = c .informed-statuses .ensures;
     }
 
 pub inform-spec : {M : Type 1} → statement M
-inform-spec = tie.close (tie.spec hear-requires tells-disconnect-requires told-flags-requires informed-statuses-requires returns)
+inform-spec = tie.close (tie.spec hear-requires announces-disconnect-requires announced-flags-requires informed-statuses-requires returns)

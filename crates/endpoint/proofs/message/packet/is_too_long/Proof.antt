@@ -4,7 +4,7 @@ use native.Mathlib.Omega.{arith}
 use native.Mathlib.Nat.{mul-le-mul-right}
 use lib.ListN.{length}
 use Rattle.base.proofs.Arrays.{view-le}
-use Rattle.setup.specs.Setup.{listed, termsWith}
+use Rattle.setup.specs.Setup.{handleList, termsWith}
 use borrow.Author.Needs.{needs}
 use Rattle.endpoint.proofs.message.packet.is_too_long.Statement.{statement}
 use Rattle.endpoint.proofs.message.packet.is_too_long.Tie as tie
@@ -20,7 +20,7 @@ mul-result : tie.Need-mul-result
 unfolding termsWith
 mul-result c =
     let s = c .before .args .setup in
-    let four : length (listed (s .handles)) ≤ 4 = omega (arith, long (c .before), view-le (s .handles .count) (s .handles .list)) in
+    let four : length (handleList (s .handles)) ≤ 4 = omega (arith, long (c .before), view-le (s .handles .count) (s .handles .list)) in
     omega (arith, mul-le-mul-right (s .«input_size») four, c .receiving-width .ensures)
 
 returns : tie.Need-returns

@@ -24,7 +24,7 @@ module _ (q : Quality) (sent now epoch magic : ℕ) (o : List ℕ) (at : ℕ) (f
   unanswered : (reply : MessageBody) (p : Quality) (r : Reacted) → Noted r → f ≡ true → Answers reply f p now magic o at r o
   unanswered reply p r e t =
       let no : f ≡ false → ⊥ = λ h. false-true (sym h ∙ t) in
-      record { untold = λ _. (rw (e, t), refl); queued = λ h. absurd (no h); noted = λ h. absurd (no h) }
+      record { unqueued = λ _. (rw (e, t), refl); queued = λ h. absurd (no h); noted = λ h. absurd (no h) }
 
   unnoted : (p : Quality) (r : Reacted) → Noted r → f ≡ true → Notes f p sent o at r o
   unnoted p r e t = record { ok = rw e; noted = λ h. absurd (false-true (sym h ∙ t)); lent = refl }
@@ -32,15 +32,15 @@ module _ (q : Quality) (sent now epoch magic : ℕ) (o : List ℕ) (at : ℕ) (f
   only-noted : (r : Reacted) → Noted r → Notes f q sent o at r o
   only-noted r e = record { ok = rw e; noted = λ h. rw (e, h); lent = refl }
 
-  untold : (b : MessageBody) (r : Reacted) → Noted r → f ≡ true → ReactedAs b f q sent now epoch magic o at r o
-  untold (SyncRequest n) r e t = unanswered _ _ r e t
-  untold (SyncReply n) r e t = unnoted _ r e t
-  untold (Input d s a) r e t = unnoted _ r e t
-  untold (InputAck a) r e t = unnoted _ r e t
-  untold (QualityReport a p) r e t = unanswered _ _ r e t
-  untold (QualityReply p) r e t = unnoted _ r e t
-  untold (ChecksumReport c g) r e t = unnoted _ r e t
-  untold KeepAlive r e t = unnoted _ r e t
+  unqueued : (b : MessageBody) (r : Reacted) → Noted r → f ≡ true → ReactedAs b f q sent now epoch magic o at r o
+  unqueued (SyncRequest n) r e t = unanswered _ _ r e t
+  unqueued (SyncReply n) r e t = unnoted _ r e t
+  unqueued (Input d s a) r e t = unnoted _ r e t
+  unqueued (InputAck a) r e t = unnoted _ r e t
+  unqueued (QualityReport a p) r e t = unanswered _ _ r e t
+  unqueued (QualityReply p) r e t = unnoted _ r e t
+  unqueued (ChecksumReport c g) r e t = unnoted _ r e t
+  unqueued KeepAlive r e t = unnoted _ r e t
 
   left-over : (b : MessageBody) (k : ℕ) (r : Reacted) → Noted r → k ≡ kindOf b → (k ≡ 0 → ⊥) → (k ≡ 4 → ⊥) → (k ≡ 5 → ⊥) → ReactedAs b f q sent now epoch magic o at r o
   left-over (SyncRequest n) k r e i a0 a4 a5 = absurd (a0 (i ∙ kind-sync-request n))
@@ -55,7 +55,7 @@ module _ (q : Quality) (sent now epoch magic : ℕ) (o : List ℕ) (at : ℕ) (f
 returns : tie.Need-returns
 returns c =
     let a = c .before .before .args in
-    untold (a .quality) (a .last-send-time) (a .now) (a .epoch) (a .magic) (a .out .now) (a .queued) (a .full) (a .body) _ refl (c .if1 .taken)
+    unqueued (a .quality) (a .last-send-time) (a .now) (a .epoch) (a .magic) (a .out .now) (a .queued) (a .full) (a .body) _ refl (c .if1 .taken)
 
 kind-of-requires : tie.Need-kind-of-requires
 kind-of-requires c κs = search needs
@@ -66,8 +66,8 @@ enum-known-body c = search needs
 returns-2 : tie.Need-returns-2
 returns-2 c = absurd (kind-other (c .before .before .before .before .before .args .body) 0 (c .before .before .kind-of .result) (1 ∷ 2 ∷ 3 ∷ 4 ∷ 5 ∷ 6 ∷ 7 ∷ []) (c .before .before .kind-of .ensures) (c .before .match .keys1) tt (c .match2 .keys2))
 
-plain-requires : tie.Need-plain-requires
-plain-requires c κs = search needs
+body-only-requires : tie.Need-body-only-requires
+body-only-requires c κs = search needs
 
 enum-known-body-2 : tie.Need-enum-known-body-2
 enum-known-body-2 c = search needs
@@ -75,8 +75,8 @@ enum-known-body-2 c = search needs
 returns-3 : tie.Need-returns-3
 returns-3 c = absurd (kind-other (c .before .before .before .before .before .args .body) 4 (c .before .before .kind-of .result) (0 ∷ 1 ∷ 2 ∷ 3 ∷ 5 ∷ 6 ∷ 7 ∷ []) (c .before .before .kind-of .ensures) (c .before .match .keys2) tt (c .match3 .keys2))
 
-plain-requires-2 : tie.Need-plain-requires-2
-plain-requires-2 c κs = search needs
+body-only-requires-2 : tie.Need-body-only-requires-2
+body-only-requires-2 c κs = search needs
 
 remote-requires : tie.Need-remote-requires
 remote-requires c κs = search needs
@@ -100,7 +100,7 @@ returns-5 : tie.Need-returns-5
 returns-5 c =
     let left = c .before .before .before .before .before .before .before .before .before .if1 .left in
     rw (c .before .before .before .before .before .body .given .1)
-    (record { untold = λ t. absurd (false-true (sym left ∙ t)); queued = λ _. c .before .before .plain .ensures; noted = λ _. (refl, refl) })
+    (record { unqueued = λ t. absurd (false-true (sym left ∙ t)); queued = λ _. c .before .before .body-only .ensures; noted = λ _. (refl, refl) })
 
 same-length-2 : tie.Need-same-length-2
 same-length-2 c = search needs
@@ -109,7 +109,7 @@ returns-6 : tie.Need-returns-6
 returns-6 c =
     let left = c .before .before .before .before .before .before .before .before .before .before .if1 .left in
     rw (c .before .before .before .before .before .before .body2 .given .1)
-    (record { untold = λ t. absurd (false-true (sym left ∙ t)); queued = λ _. c .before .before .before .plain2 .ensures; noted = λ _. (c .remote .ensures, refl) })
+    (record { unqueued = λ t. absurd (false-true (sym left ∙ t)); queued = λ _. c .before .before .before .body-only2 .ensures; noted = λ _. (c .remote .ensures, refl) })
 
 returns-7 : tie.Need-returns-7
 returns-7 c =
@@ -131,10 +131,10 @@ react-spec =
     kind-of-requires
     enum-known-body
     returns-2
-    plain-requires
+    body-only-requires
     enum-known-body-2
     returns-3
-    plain-requires-2
+    body-only-requires-2
     remote-requires
     enum-known-body-3
     returns-4

@@ -1,7 +1,5 @@
 -- Each event by its kind.
 use borrow.Author.Needs.{needs}
-use mathlib.Core.Path.{_≡_}
-use Rattle.events.specs.declared.Event.the-variants as Event
 use Rattle.spectator.proofs.Laws.Handling.{by-kind, by-running}
 use Rattle.spectator.proofs.handling.Parts.handle.Statement.{statement}
 use Rattle.spectator.proofs.handling.Parts.handle.Tie as tie

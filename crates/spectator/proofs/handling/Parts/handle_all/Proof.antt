@@ -4,7 +4,7 @@ use mathlib.Core.Path.{_≡_, refl, _∙_, ap}
 use Prim.Native.Nat.{_-_, _≤_}
 use native.Mathlib.Omega.{arith}
 use lib.ListN.{length, drop}
-use Rattle.events.specs.Events.{held}
+use Rattle.events.specs.Events.{heldEvents}
 use Rattle.spectator_rules.specs.Watch.{Watch}
 use Rattle.spectator_rules.specs.Handling.{handled, handledAll}
 use Rattle.spectator.specs.Inside.Handling.{assembled, TermsOf}
@@ -14,7 +14,7 @@ use Rattle.spectator.proofs.handling.Parts.handle_all.Tie as tie
 
 abbrev Inv-loop : tie.InvT-loop
 Inv-loop terms events n parts₀ i₀ parts i =
-    (i ≤ n) × (n ≡ length (held events)) × ((w : Watch) → TermsOf terms w → handledAll (drop i (held events)) (assembled w parts) ≡ handledAll (held events) (assembled w parts₀))
+    (i ≤ n) × (n ≡ length (heldEvents events)) × ((w : Watch) → TermsOf terms w → handledAll (drop i (heldEvents events)) (assembled w parts) ≡ handledAll (heldEvents events) (assembled w parts₀))
 
 abbrev μ-loop : tie.MeasureT-loop
 μ-loop terms events n parts₀ i₀ parts i = n - i
@@ -41,13 +41,13 @@ loop-again : tie.Need-loop-again Inv-loop μ-loop
 loop-again c =
     let a = c .before .before .before .before .before .args in
     let l = c .before .before .before .loop in
-    (omega arith, l .inv .1, λ w k. handled-turn (held (a .events)) (l .i) (assembled w (c .handle .result)) (assembled w (l .parts)) (omega arith) (c .handle .ensures .each w k ∙ ap (λ x. handled x (assembled w (l .parts))) (c .before .entry .ensures)) ∙ l .inv .2 w k)
+    (omega arith, l .inv .1, λ w k. handled-turn (heldEvents (a .events)) (l .i) (assembled w (c .handle .result)) (assembled w (l .parts)) (omega arith) (c .handle .ensures .each w k ∙ ap (λ x. handled x (assembled w (l .parts))) (c .before .entry .ensures)) ∙ l .inv .2 w k)
 
 returns : tie.Need-returns Inv-loop μ-loop
 returns c =
     let a = c .before .before .before .args in
     let l = c .before .loop in
-    record { each = λ w k. handled-end (held (a .events)) (l .i) (assembled w (l .parts)) (omega arith) ∙ l .inv .2 w k }
+    record { each = λ w k. handled-end (heldEvents (a .events)) (l .i) (assembled w (l .parts)) (omega arith) ∙ l .inv .2 w k }
 
 pub handle-all-spec : {M : Type 1} → statement M
 handle-all-spec =

@@ -6,7 +6,7 @@ use native.Mathlib.Omega.{arith}
 use lib.ListN.{length, List·getD-eq-default}
 use Rattle.base.proofs.Arrays.{unmap, view-at, view-le}
 use Rattle.base.proofs.Orders.{getD-within}
-use Rattle.spectator_rules.specs.Inputs.{blankInput, placeOf, inputAt}
+use Rattle.spectator_rules.specs.Inputs.{blankInput, playerInputAt}
 use Rattle.spectator.specs.Stores.{inputsOf}
 use Rattle.spectator.proofs.inputs.Inputs.at.Statement.{statement}
 use Rattle.spectator.proofs.inputs.Inputs.at.Tie as tie
@@ -33,7 +33,7 @@ element-copy-out-result : tie.Need-element-copy-out-result
 element-copy-out-result c = inside c
 
 returns : tie.Need-returns
-unfolding inputsOf inputAt
+unfolding inputsOf playerInputAt
 returns c =
     let a = c .before .before .before .before .args in
     let p = c .before .before .before .place-of .result in
@@ -44,7 +44,7 @@ returns c =
     ∙ rw (c .before .before .before .place-of .ensures)
 
 returns-2 : tie.Need-returns-2
-unfolding inputAt blankInput
+unfolding playerInputAt blankInput
 returns-2 c =
     let a = c .before .before .before .args in
     rw (← c .before .before .place-of .ensures) (sym (List·getD-eq-default (inputsOf (a .t1)) blankInput {n = c .before .before .place-of .result} (omega (arith, c .if1 .left, c .before .count .ensures))))

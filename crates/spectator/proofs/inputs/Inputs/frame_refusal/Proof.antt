@@ -1,6 +1,5 @@
 use borrow.Author.Needs.{needs}
 use borrow.Author.Tests.{lt-ltb, le-ltb}
-use mathlib.Core.Path.{_≡_}
 use Rattle.spectator.specs.Inside.Requests.{refusalIn}
 use Rattle.spectator.proofs.inputs.Inputs.frame_refusal.Statement.{statement}
 use Rattle.spectator.proofs.inputs.Inputs.frame_refusal.Tie as tie

@@ -1,13 +1,13 @@
 -- The invariant: the first k frames are there.
 use borrow.Author.Needs.{needs}
 use mathlib.Core.List.{map}
-use mathlib.Core.Path.{_≡_, refl, sym, _∙_}
+use mathlib.Core.Path.{_≡_, refl}
 use Prim.Native.Nat.{_+_, _-_, _^_, _≤_}
 use native.Mathlib.Omega.{arith}
 use lib.ListN.{length, take, length-set}
 use Rattle.base.proofs.Arrays.{unmap}
-use Rattle.status.specs.Statuses.{held}
-use Rattle.spectator.specs.Stores.{inputsOf, requestOf, framesOf}
+use Rattle.status.specs.Statuses.{heldStatuses}
+use Rattle.spectator.specs.Stores.{inputsOf, requestOf, requestFrames}
 use Rattle.spectator.specs.Inside.Requests.{requestsIn}
 use Rattle.spectator.proofs.Laws.Requests.{request-turn}
 use Rattle.spectator.proofs.inputs.Inputs.requests_from.Statement.{statement}
@@ -16,7 +16,7 @@ use Rattle.spectator.proofs.inputs.Inputs.requests_from.Tie as tie
 abbrev Inv-loop : tie.InvT-loop
 Inv-loop self statuses slots players frame n requests₀ k₀ requests k =
     (k ≤ n) × (n ≤ 63) × (frame + n ≤ 2 ^ 32) × (length (requests .frames) ≡ 63)
-    × (map requestOf (take k (requests .frames)) ≡ requestsIn slots k frame players (inputsOf self) (held statuses))
+    × (map requestOf (take k (requests .frames)) ≡ requestsIn slots k frame players (inputsOf self) (heldStatuses statuses))
 
 abbrev μ-loop : tie.MeasureT-loop
 μ-loop self statuses slots players frame n requests₀ k₀ requests k = n - k
@@ -57,11 +57,11 @@ loop-again c =
       l .inv .1,
       l .inv .2,
       rw length-set (l .inv .3),
-      request-turn (a .slots) (a .players) (a .frame) (l .k) (inputsOf (a .self)) (held (a .statuses)) (l .requests .frames) (c .request-at .result) (omega arith) (l .inv .4) (c .request-at .ensures),
+      request-turn (a .slots) (a .players) (a .frame) (l .k) (inputsOf (a .self)) (heldStatuses (a .statuses)) (l .requests .frames) (c .request-at .result) (omega arith) (l .inv .4) (c .request-at .ensures),
     )
 
 returns : tie.Need-returns Inv-loop μ-loop
-unfolding framesOf
+unfolding requestFrames
 returns c =
     let a = c .before .before .before .args in
     let l = c .before .loop in

@@ -1,5 +1,5 @@
 use borrow.Author.Needs.{needs}
-use mathlib.Core.Path.{_≡_, _∙_}
+use mathlib.Core.Path.{_∙_}
 use Rattle.spectator.proofs.inputs.Inputs.synced_at.Statement.{statement}
 use Rattle.spectator.proofs.inputs.Inputs.synced_at.Tie as tie
 

@@ -31,13 +31,9 @@ returns c =
     let h : a .player < length (requestOf (a .t1)) = omega (arith, c .before .before .count .ensures) in
     sym (view-at (a .t1 .used) (a .t1 .inputs) (a .player) _ h) ∙ getD-within (requestOf (a .t1)) (a .player) _ blankSynced h
 
-blank-synced-requires : tie.Need-blank-synced-requires
-blank-synced-requires c κs = search needs
-
 returns-2 : tie.Need-returns-2
-returns-2 c =
-    let a = c .before .before .before .args in
-    c .blank-synced .ensures ∙ sym (List·getD-eq-default (requestOf (a .t1)) blankSynced (omega (arith, c .before .before .count .ensures)))
+unfolding requestOf blankSynced
+returns-2 c = sym (List·getD-eq-default (requestOf (c .before .before .args .t1)) blankSynced (omega (arith, c .before .count .ensures)))
 
 pub input-spec : {M : Type 1} → statement M
-input-spec = tie.close (tie.spec count-requires mul-result element-copy-out-result returns blank-synced-requires returns-2)
+input-spec = tie.close (tie.spec count-requires mul-result element-copy-out-result returns returns-2)

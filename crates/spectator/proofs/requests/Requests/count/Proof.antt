@@ -4,20 +4,19 @@ use mathlib.Core.Path.{_≡_}
 use native.Mathlib.Omega.{arith}
 use lib.ListN.{length, length-take, length-map}
 use Rattle.base.proofs.Arrays.{unmap}
-use Rattle.spectator.specs.Stores.{framesOf}
+use Rattle.spectator.specs.Stores.{requestFrames}
 use Rattle.spectator.proofs.requests.Requests.count.Statement.{statement}
 use Rattle.spectator.proofs.requests.Requests.count.Tie as tie
 
 long : (c : tie.Start) → length (c .args .self .frames) ≡ 63
 long c = search (unmap, needs)
 
-returns : tie.Need-returns
-unfolding framesOf
-returns c = simp (length-map, length-take) (omega (arith, long (c .before)))
+least-requires : tie.Need-least-requires
+least-requires c κs = search needs
 
-returns-2 : tie.Need-returns-2
-unfolding framesOf
-returns-2 c = simp (length-map, length-take) (omega (arith, long (c .before)))
+returns : tie.Need-returns
+unfolding requestFrames
+returns c = simp (length-map, length-take) (omega (arith, c .least .ensures, long (c .before)))
 
 pub count-spec : {M : Type 1} → statement M
-count-spec = tie.close (tie.spec returns returns-2)
+count-spec = tie.close (tie.spec least-requires returns)

@@ -2,11 +2,10 @@
 use borrow.Author.Needs.{needs}
 use mathlib.Core.Path.{_≡_, sym, _∙_}
 use mathlib.Core.List.{[]}
-use Prim.Native.Nat.{_<_}
 use native.Mathlib.Omega.{arith}
 use lib.ListN.{length, List·getD-eq-default}
 use Rattle.base.proofs.Arrays.{unmap}
-use Rattle.spectator.specs.Stores.{framesOf}
+use Rattle.spectator.specs.Stores.{requestFrames}
 use Rattle.spectator.proofs.Laws.Requests.{frames-fit, frame-at}
 use Rattle.spectator.proofs.requests.Requests.frame.Statement.{statement}
 use Rattle.spectator.proofs.requests.Requests.frame.Tie as tie
@@ -32,7 +31,7 @@ none-requires c κs = search needs
 returns-2 : tie.Need-returns-2
 returns-2 c =
     let a = c .before .before .before .args in
-    c .none .ensures ∙ sym (List·getD-eq-default (framesOf (a .t1)) [] (omega (arith, c .before .before .count .ensures)))
+    c .none .ensures ∙ sym (List·getD-eq-default (requestFrames (a .t1)) [] (omega (arith, c .before .before .count .ensures)))
 
 pub frame-spec : {M : Type 1} → statement M
 frame-spec = tie.close (tie.spec count-requires mul-result element-copy-out-result returns none-requires returns-2)

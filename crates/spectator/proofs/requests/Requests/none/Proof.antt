@@ -1,6 +1,6 @@
 use borrow.Author.Needs.{needs}
 use mathlib.Core.Path.{refl}
-use Rattle.spectator.specs.Stores.{framesOf}
+use Rattle.spectator.specs.Stores.{requestFrames}
 use Rattle.spectator.proofs.requests.Requests.none.Statement.{statement}
 use Rattle.spectator.proofs.requests.Requests.none.Tie as tie
 
@@ -8,7 +8,7 @@ none-requires : tie.Need-none-requires
 none-requires c κs = search needs
 
 returns : tie.Need-returns
-unfolding framesOf
+unfolding requestFrames
 returns c = refl
 
 pub none-spec : {M : Type 1} → statement M

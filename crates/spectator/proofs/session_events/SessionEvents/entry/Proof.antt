@@ -6,7 +6,7 @@ use native.Mathlib.Omega.{arith}
 use lib.ListN.{length, List·getD-eq-default}
 use Rattle.base.proofs.Arrays.{unmap, view-at, view-le}
 use Rattle.base.proofs.Orders.{getD-within}
-use Rattle.spectator.specs.Stores.{eventsOf, blankEntry}
+use Rattle.spectator.specs.Stores.{eventsOf, blankSessionEntry}
 use Rattle.spectator.proofs.session_events.SessionEvents.entry.Statement.{statement}
 use Rattle.spectator.proofs.session_events.SessionEvents.entry.Tie as tie
 
@@ -29,15 +29,11 @@ unfolding eventsOf
 returns c =
     let a = c .before .before .before .args in
     let h : a .i < length (eventsOf (a .t1)) = omega (arith, c .before .before .count .ensures) in
-    sym (view-at (a .t1 .used) (a .t1 .entries) (a .i) _ h) ∙ getD-within (eventsOf (a .t1)) (a .i) _ blankEntry h
-
-blank-entry-requires : tie.Need-blank-entry-requires
-blank-entry-requires c κs = search needs
+    sym (view-at (a .t1 .used) (a .t1 .entries) (a .i) _ h) ∙ getD-within (eventsOf (a .t1)) (a .i) _ blankSessionEntry h
 
 returns-2 : tie.Need-returns-2
-returns-2 c =
-    let a = c .before .before .before .args in
-    c .blank-entry .ensures ∙ sym (List·getD-eq-default (eventsOf (a .t1)) blankEntry (omega (arith, c .before .before .count .ensures)))
+unfolding eventsOf blankSessionEntry
+returns-2 c = sym (List·getD-eq-default (eventsOf (c .before .before .args .t1)) blankSessionEntry (omega (arith, c .before .count .ensures)))
 
 pub entry-spec : {M : Type 1} → statement M
-entry-spec = tie.close (tie.spec count-requires mul-result element-copy-out-result returns blank-entry-requires returns-2)
+entry-spec = tie.close (tie.spec count-requires mul-result element-copy-out-result returns returns-2)

@@ -1,16 +1,12 @@
 -- A new store's count is 0, so its view is empty.
-use borrow.Author.Needs.{needs}
 use mathlib.Core.Path.{refl}
 use Rattle.spectator.specs.Stores.{eventsOf}
 use Rattle.spectator.proofs.session_events.SessionEvents.new.Statement.{statement}
 use Rattle.spectator.proofs.session_events.SessionEvents.new.Tie as tie
-
-blank-entry-requires : tie.Need-blank-entry-requires
-blank-entry-requires c κs = search needs
 
 returns : tie.Need-returns
 unfolding eventsOf
 returns c = refl
 
 pub new-spec : {M : Type 1} → statement M
-new-spec = tie.close (tie.spec blank-entry-requires returns)
+new-spec = tie.close (tie.spec returns)

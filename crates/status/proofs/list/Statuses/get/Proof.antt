@@ -7,7 +7,7 @@ use Prim.Native.Nat.{_<_}
 use native.Mathlib.Omega.{arith}
 use lib.ListN.{length, List·getD-eq-default}
 use Rattle.status.specs.Status.{defaultStatus}
-use Rattle.status.specs.Statuses.{held}
+use Rattle.status.specs.Statuses.{heldStatuses}
 use Rattle.status.proofs.list.Statuses.get.Statement.{statement}
 use Rattle.status.proofs.list.Statuses.get.Tie as tie
 
@@ -18,7 +18,7 @@ long : (c : tie.Start) → length (c .args .t1 .list) ≡ 4
 long c = search (unmap, needs)
 
 inside : (c : tie.Then1) → c .before .before .args .at < 4
-unfolding held
+unfolding heldStatuses
 inside c =
     let s = c .before .before .args .t1 in
     omega (arith, c .if1 .taken, c .before .count .ensures, view-le (s .count) (s .list), long (c .before .before))
@@ -30,7 +30,7 @@ element-copy-out-result : tie.Need-element-copy-out-result
 element-copy-out-result c = inside c
 
 returns : tie.Need-returns
-unfolding held
+unfolding heldStatuses
 returns c =
     let a = c .before .before .before .args in
     let l = long (c .before .before .before) in
@@ -44,7 +44,7 @@ default-requires c κs = search needs
 returns-2 : tie.Need-returns-2
 returns-2 c =
     let a = c .before .before .before .args in
-    c .default .ensures ∙ sym (List·getD-eq-default (held (a .t1)) defaultStatus {n = a .at} (omega (arith, c .before .if1 .left, c .before .before .count .ensures)))
+    c .default .ensures ∙ sym (List·getD-eq-default (heldStatuses (a .t1)) defaultStatus {n = a .at} (omega (arith, c .before .if1 .left, c .before .before .count .ensures)))
 
 pub get-spec : {M : Type 1} → statement M
 get-spec =

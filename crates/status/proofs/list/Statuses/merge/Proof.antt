@@ -6,13 +6,13 @@ use native.Mathlib.Omega.{arith}
 use native.Mathlib.Numerals.{add-one}
 use lib.ListN.{length, take}
 use lib.Seq.{take-length}
-use Rattle.status.specs.Statuses.{held, HeldAs, mergedAll}
+use Rattle.status.specs.Statuses.{heldStatuses, HeldAs, mergedAll}
 use Rattle.status.proofs.MergeAll.{all-none, all-turn}
 use Rattle.status.proofs.list.Statuses.merge.Statement.{statement}
 use Rattle.status.proofs.list.Statuses.merge.Tie as tie
 
 abbrev Inv-loop : tie.InvT-loop
-Inv-loop other n next₀ i₀ next i = (i ≤ n) × (n ≡ length (held other)) × HeldAs (mergedAll (held next₀) (take i (held other))) (next₀ .count) next
+Inv-loop other n next₀ i₀ next i = (i ≤ n) × (n ≡ length (heldStatuses other)) × HeldAs (mergedAll (heldStatuses next₀) (take i (heldStatuses other))) (next₀ .count) next
 
 abbrev μ-loop : tie.MeasureT-loop
 μ-loop other n next₀ i₀ next i = n - i
@@ -21,7 +21,7 @@ count-requires : tie.Need-count-requires Inv-loop μ-loop
 count-requires c κs = search needs
 
 loop-holds : tie.Need-loop-holds Inv-loop μ-loop
-loop-holds c = (omega arith, c .count .ensures, (sym (all-none (held (c .before .args .self))), refl))
+loop-holds c = (omega arith, c .count .ensures, (sym (all-none (heldStatuses (c .before .args .self))), refl))
 
 get-requires : tie.Need-get-requires Inv-loop μ-loop
 get-requires c κs = search needs
@@ -42,7 +42,7 @@ loop-again c =
       omega arith,
       l .inv .1,
       (
-        c .merge-at .ensures .0 ∙ rw (c .before .get .ensures, l .inv .2 .0, add-one) (sym (all-turn (held (a .self)) (held (a .other)) (l .i) (omega arith))),
+        c .merge-at .ensures .0 ∙ rw (c .before .get .ensures, l .inv .2 .0, add-one) (sym (all-turn (heldStatuses (a .self)) (heldStatuses (a .other)) (l .i) (omega arith))),
         c .merge-at .ensures .1 ∙ l .inv .2 .1,
       ),
     )
@@ -50,7 +50,7 @@ loop-again c =
 returns : tie.Need-returns Inv-loop μ-loop
 returns c =
     let l = c .before .loop in
-    let e : l .i ≡ length (held (c .before .before .before .args .other)) = omega arith in
+    let e : l .i ≡ length (heldStatuses (c .before .before .before .args .other)) = omega arith in
     (l .inv .2 .0 ∙ rw (e, take-length), l .inv .2 .1)
 
 pub merge-spec : {M : Type 1} → statement M

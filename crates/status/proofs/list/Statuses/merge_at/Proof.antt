@@ -6,7 +6,7 @@ use Prim.Native.Nat.{_<_}
 use native.Mathlib.Omega.{arith}
 use lib.ListN.{length, length-take}
 use lib.Seq.{take-set-lt, set-out}
-use Rattle.status.specs.Statuses.{held, mergedAt}
+use Rattle.status.specs.Statuses.{heldStatuses, mergedAt}
 use Rattle.status.proofs.list.Statuses.merge_at.Statement.{statement}
 use Rattle.status.proofs.list.Statuses.merge_at.Tie as tie
 
@@ -23,7 +23,7 @@ long : (c : tie.Start) → length (c .args .self .list) ≡ 4
 long c = search (unmap, needs)
 
 inside : (c : tie.Then1) → c .before .before .args .at < 4
-unfolding held
+unfolding heldStatuses
 inside c =
     let s = c .before .before .args .self in
     omega (arith, c .if1 .taken, c .before .count .ensures, view-le (s .count) (s .list), long (c .before .before))
@@ -35,7 +35,7 @@ element-set-from-next : tie.Need-element-set-from-next
 element-set-from-next c = inside (c .before .before)
 
 returns : tie.Need-returns
-unfolding held mergedAt
+unfolding heldStatuses mergedAt
 returns c =
     let a = c .before .before .before .before .args in
     let n = c .before .before .before .count .ensures in (
@@ -51,7 +51,7 @@ returns-2 : tie.Need-returns-2
 unfolding mergedAt
 returns-2 c =
     let a = c .before .before .args in
-    (sym (set-out (held (a .self)) (a .at) _ (omega (arith, c .if1 .left, c .before .count .ensures))), refl)
+    (sym (set-out (heldStatuses (a .self)) (a .at) _ (omega (arith, c .if1 .left, c .before .count .ensures))), refl)
 
 pub merge-at-spec : {M : Type 1} → statement M
 merge-at-spec =

@@ -4,23 +4,23 @@ use Rattle.base.proofs.Orders.{take-replicate}
 use native.Mathlib.Omega.{arith}
 use Prim.Native.Nat.{min}
 use Rattle.status.specs.Status.{defaultStatus}
-use Rattle.status.specs.Statuses.{held, fresh}
+use Rattle.status.specs.Statuses.{heldStatuses, defaultStatuses}
 use Rattle.status.proofs.list.Statuses.new.Statement.{statement}
 use Rattle.status.proofs.list.Statuses.new.Tie as tie
 
 default-requires : tie.Need-default-requires
 default-requires c κs = search needs
 
-at-most-four-requires : tie.Need-at-most-four-requires
-at-most-four-requires c κs = search needs
+least-requires : tie.Need-least-requires
+least-requires c κs = search needs
 
 returns : tie.Need-returns
-unfolding held fresh
+unfolding heldStatuses defaultStatuses
 returns c = (
-  rw (c .before .default .ensures, c .at-most-four .ensures)
+  rw (c .before .default .ensures, c .least .ensures)
       (take-replicate (min (c .before .before .args .players) 4) 4 defaultStatus (omega arith)),
-  c .at-most-four .ensures,
+  c .least .ensures,
 )
 
 pub new-spec : {M : Type 1} → statement M
-new-spec = tie.close (tie.spec default-requires at-most-four-requires returns)
+new-spec = tie.close (tie.spec default-requires least-requires returns)

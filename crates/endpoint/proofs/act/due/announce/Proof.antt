@@ -1,8 +1,8 @@
 use Rattle.events.specs.Events.{both}
 use Rattle.endpoint.specs.Inside.Due.{dueEvents}
 use borrow.Author.Needs.{needs}
-use Rattle.endpoint.proofs.act.due.tell.Statement.{statement}
-use Rattle.endpoint.proofs.act.due.tell.Tie as tie
+use Rattle.endpoint.proofs.act.due.announce.Statement.{statement}
+use Rattle.endpoint.proofs.act.due.announce.Tie as tie
 
 minus-requires : tie.Need-minus-requires
 minus-requires c κs = search needs
@@ -14,5 +14,5 @@ returns : tie.Need-returns
 unfolding dueEvents both
 returns c = rw (c .before .minus .ensures) at (c .push-both .ensures)
 
-pub tell-spec : {M : Type 1} → statement M
-tell-spec = tie.close (tie.spec minus-requires push-both-requires returns)
+pub announce-spec : {M : Type 1} → statement M
+announce-spec = tie.close (tie.spec minus-requires push-both-requires returns)

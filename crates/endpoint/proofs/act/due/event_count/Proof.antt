@@ -1,9 +1,9 @@
--- `told` counts the two events.
+-- `event_count` counts the two events.
 use native.Mathlib.Omega.{arith}
 use Rattle.endpoint.proofs.Laws.Act.Batch.{size-if-most}
 use borrow.Author.Needs.{needs}
-use Rattle.endpoint.proofs.act.due.told.Statement.{statement}
-use Rattle.endpoint.proofs.act.due.told.Tie as tie
+use Rattle.endpoint.proofs.act.due.event_count.Statement.{statement}
+use Rattle.endpoint.proofs.act.due.event_count.Tie as tie
 
 count-if-requires : tie.Need-count-if-requires
 count-if-requires c κs = search needs
@@ -19,5 +19,5 @@ add-result c =
 returns : tie.Need-returns
 returns c = rw (c .before .count-if .ensures, c .count-if2 .ensures)
 
-pub told-spec : {M : Type 1} → statement M
-told-spec = tie.close (tie.spec count-if-requires count-if-requires-2 add-result returns)
+pub event-count-spec : {M : Type 1} → statement M
+event-count-spec = tie.close (tie.spec count-if-requires count-if-requires-2 add-result returns)

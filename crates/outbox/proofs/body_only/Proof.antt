@@ -1,4 +1,4 @@
--- `plain` writes a message with no reports and no payload, which is within the counts.
+-- `body_only` writes a message with no reports and no payload, which is within the counts.
 use borrow.Author.Needs.{needs}
 use mathlib.Core.List.{[]}
 use mathlib.Core.Path.{_≡_}
@@ -6,11 +6,11 @@ use native.Mathlib.Omega.{arith}
 use lib.ListN.{length}
 use Rattle.base.proofs.Arrays.{unmap}
 use Rattle.answer.proofs.Done.{not-done}
-use Rattle.codec.proofs.Meant.{meant-plain}
-use Rattle.codec.specs.Read.{plain}
+use Rattle.codec.proofs.Meant.{meant-body-only}
+use Rattle.codec.specs.Read.{bodyOnly}
 use Rattle.outbox.proofs.Writes.{queued, full}
-use Rattle.outbox.proofs.plain.Statement.{statement}
-use Rattle.outbox.proofs.plain.Tie as tie
+use Rattle.outbox.proofs.body_only.Statement.{statement}
+use Rattle.outbox.proofs.body_only.Tie as tie
 
 no-reports-requires : tie.Need-no-reports-requires
 no-reports-requires c κs = search needs
@@ -37,7 +37,7 @@ returns c =
     let none = s .before .no-reports in
     let write = c .before .before .before .write in
     full (a .out .now) (a .at) (record { magic = a .magic; body = a .body; reports = none .result }) [] (omega (arith, none .ensures)) (omega arith) (four s)
-    (plain (a .magic) (a .body)) (meant-plain (a .magic) (a .body) (none .result) (none .ensures)) (write .result) (write .last .0) (write .ensures) (not-done (write .result .answer) (c .match .keys2))
+    (bodyOnly (a .magic) (a .body)) (meant-body-only (a .magic) (a .body) (none .result) (none .ensures)) (write .result) (write .last .0) (write .ensures) (not-done (write .result .answer) (c .match .keys2))
 
 same-length-2 : tie.Need-same-length-2
 same-length-2 c = search needs
@@ -49,10 +49,10 @@ returns-2 c =
     let none = s .before .no-reports in
     let write = c .before .before .before .before .write in
     queued (a .out .now) (a .at) (record { magic = a .magic; body = a .body; reports = none .result }) [] (omega (arith, none .ensures)) (omega arith) (four s)
-    (plain (a .magic) (a .body)) (meant-plain (a .magic) (a .body) (none .result) (none .ensures)) (write .result) (write .last .0) (write .ensures) (rw (c .enum-told .given .1))
+    (bodyOnly (a .magic) (a .body)) (meant-body-only (a .magic) (a .body) (none .result) (none .ensures)) (write .result) (write .last .0) (write .ensures) (rw (c .enum-told .given .1))
 
-pub plain-spec : {M : Type 1} → statement M
-plain-spec =
+pub body-only-spec : {M : Type 1} → statement M
+body-only-spec =
     tie.close
     (tie.spec
     no-reports-requires
