@@ -1,13 +1,13 @@
 // Checksum reports in falling frame order: none is so old that it could go, so the store fills up, and the report that finds no room is refused.
 // docs/FAILURES.md goes through it.
-use answer::Answer;
 use ceilings::MOST_CHECKSUMS;
-use checksums::Checksums;
-use codec::Message;
-use codec::MessageBody;
-use codec::Wide;
+use endpoint::Answer;
+use endpoint::Checksums;
 use endpoint::Ended;
 use endpoint::Endpoint;
+use endpoint::Message;
+use endpoint::MessageBody;
+use endpoint::Wide;
 use frame::BIAS32;
 use libc::STDOUT_FILENO;
 use std::num::wrapping_sub_usize;

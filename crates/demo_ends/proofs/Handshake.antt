@@ -13,7 +13,7 @@ use Rattle.codec.specs.Read.{bodyOnly}
 use Rattle.codec.specs.declared.MessageBody.the-variants.{SyncReply}
 use Rattle.outbox.specs.Outbox.{queueSize}
 use Rattle.endpoint_rules.specs.Seen.{Seen, made, withQuality}
-use Rattle.endpoint_rules.specs.Did.{refused, decided, queueWire, done}
+use Rattle.endpoint_rules.specs.Did.{refused, tested, queueWire, done}
 use Rattle.endpoint_rules.specs.Room.{bufferFull, isFull}
 use Rattle.endpoint_rules.specs.Handshake.{nonceIssued, request, started, synchronized, counted, running, replied, onSyncReply}
 use Rattle.endpoint_rules.specs.Call.{Call}
@@ -43,5 +43,5 @@ handshake remote =
 
 pub shaken : (magic player remote : ℕ) → after (handshake remote) (new magic player)
     ≡ withQuality (startedAt 71000 (new magic player .quality)) (synchronizedWith remote (new magic player))
-unfolding kept has without issued fits defaultStatuses hasRoom inserted sorted termsWith queueSize made refused decided queueWire done bufferFull isFull nonceIssued request started synchronized counted running replied onSyncReply synchronizeStep ignored resumed heard onBody reacted messageStep takeStep step twoPlayers synchronizedWith
+unfolding kept has without issued fits defaultStatuses hasRoom inserted sorted termsWith queueSize made refused tested queueWire done bufferFull isFull nonceIssued request started synchronized counted running replied onSyncReply synchronizeStep ignored resumed heard onBody reacted messageStep takeStep step twoPlayers synchronizedWith
 shaken magic player remote = refl

@@ -1,8 +1,8 @@
 // Packets are lost both ways, and every input arrives once, under its own frame. docs/FAILURES.md goes through it.
 use endpoint::Endpoint;
+use endpoint::Statuses;
 use frame::BIAS32;
 use libc::STDOUT_FILENO;
-use status::Statuses;
 
 // The ends' magics, and their numbers as peers.
 const A: u16 = 65;

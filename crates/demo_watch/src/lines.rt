@@ -104,7 +104,7 @@ fn box_event(draft: Draft, event: SessionEvent) -> Draft {
 
 // No frame comes after the last.
 fn after(frame: u32) -> u32 {
-    if frame == 0xFFFF_FFFF {
+    if frame == frame::GREATEST_FRAME {
         return frame;
     }
     frame + 1

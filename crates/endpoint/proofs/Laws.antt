@@ -12,6 +12,6 @@ pub mod Message
 pub mod Act
 pub mod Sending
 pub mod Disconnecting
-pub mod Advantage
+pub mod Reports
 pub mod Taking
 pub mod Getters

@@ -83,7 +83,7 @@ impl Endpoint {
         }
     }
 
-    // The filled part of the buffer that `take_messages` takes: empty where it refuses, and in Shutdown.
+    // The filled part of the buffer, to be asked for before `take_messages` empties the queue: empty where that refuses, and in Shutdown.
     pub fn messages(self, out: &[u8]) -> &[u8]
         ensures { λ r. ⌜ now r ≡ take (handedBack (length (now (out .entry))) (seen self)) (now (out .entry)) ⌝ }
     {

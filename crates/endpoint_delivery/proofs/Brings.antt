@@ -8,7 +8,6 @@ use Prim.Native.Nat.{ℕ, _≤_}
 use lib.Dec.{eqb}
 use lib.ListN.{length}
 use borrow.Author.Tests.{le-ltb, eq-eqb}
-use Rattle.base.specs.First.{firstOf}
 use Rattle.base.proofs.Kept.{kept-append}
 use Rattle.frame.specs.Bias.{bias32, nullFrame}
 use Rattle.history.specs.History.{newestOf}
@@ -16,15 +15,13 @@ use Rattle.codec.specs.Message.{Wire}
 use Rattle.codec.specs.declared.StatusReport.{StatusReport}
 use Rattle.codec.specs.declared.MessageBody.the-variants.{Input}
 use Rattle.events.specs.declared.Entry.{Entry}
-use Rattle.timers.specs.Timers.{badClocks}
 use Rattle.events.specs.Events.{announcedEach}
 use Rattle.endpoint_rules.specs.Seen.{Seen}
-use Rattle.endpoint_rules.specs.Did.{Did, decided, silentIf, done}
-use Rattle.endpoint_rules.specs.Handshake.{Reaction}
+use Rattle.endpoint_rules.specs.Did.{Did, tested, decided, done}
 use Rattle.endpoint_rules.specs.Receiving.{inputMessage, receive, discarded, inputTaken, inputUnless, onInput}
 use Rattle.endpoint_rules.specs.Call.{Call}
-use Rattle.endpoint_rules.specs.Step.{ignored, heard, onBody, reactionRefusals, step, messageStep, datagramStep, reacted}
-use Rattle.endpoint_rules.proofs.Decided.{decided-done}
+use Rattle.endpoint_rules.specs.Step.{ignored, heard, onBody, step, messageStep, datagramStep}
+use Rattle.endpoint_rules.proofs.Laws.{message-done}
 use Rattle.endpoint_invariant.specs.Each.{Each}
 use Rattle.endpoint_delivery.specs.Frames.{announcedIn, lastAnnounced}
 use Rattle.endpoint_delivery.specs.Runs.{End, next, announcedBy, Run, Heard, Heeded, Brings, EachBrings}
@@ -114,31 +111,23 @@ module _ (a b : End) (t : Tied a b) where
     packet : Mem w (b .queued) → Packet (way .tape) (way .reached) (w .payload) start
     packet m = rw e at (each-mem (λ (x : Wire). OnInput (Packet (way .tape) (way .reached) (x .payload)) (x .body)) (b .queued) (way .link .packets) m)
 
-    message-done : (peer buffer : ℕ) → messageStep peer count w now epoch nonce buffer s .answer ≡ 0 → Heard peer (w .magic) s
+    taken-done : (peer buffer : ℕ) → messageStep peer count w now epoch nonce buffer s .answer ≡ 0 → Heard peer (w .magic) s
         → messageStep peer count w now epoch nonce buffer s ≡ done (inputTaken now (inputMessage d start ack (w .reports) (w .payload)) (heard now s))
-    unfolding messageStep reacted
-    message-done peer buffer z i =
-        let r : Reaction = onBody (w .body) count w now epoch nonce (heard now s) in
-        let heeded : ignored peer (w .magic) s ≡ false = heard-passes peer (w .magic) s i in
-        let first : ℕ = firstOf ((badClocks now epoch, 8) ∷ []) in
-        let then : ℕ = firstOf (reactionRefusals buffer r) in
-        let reacts : decided first s (silentIf (ignored peer (w .magic) s) s (decided then s (done (r .effect)))) ≡ decided then s (done (r .effect)) =
-        rw heeded (decided-done first s (decided then s (done (r .effect))) (rw heeded at z)) in
-        reacts ∙ decided-done then s (done (r .effect)) (ap (λ (x : Did). x .answer) (sym reacts) ∙ z) ∙ ap done effect-is
+    taken-done peer buffer z i = message-done peer count w now epoch nonce buffer s (heard-passes peer (w .magic) s i) z ∙ ap done effect-is
 
   pub each-brings : EachBrings a b
-  unfolding step datagramStep decided
+  unfolding step datagramStep tested decided
   each-brings = record {
     message = λ peer count w now epoch nonce buffer m d start ack e z i x.
         let c = Call.message peer count w now epoch nonce buffer in
         let k = message-both (side a) (side b) (t .both) (t .meet) (t .soundA) (t .soundB) peer count w now epoch nonce buffer (λ _. m) in
-        taken-brings c (rw (side-next c a) (k .both)) now d start ack (w .reports) (w .payload) (message-done count w now epoch nonce d start ack e x peer buffer z i)
+        taken-brings c (rw (side-next c a) (k .both)) now d start ack (w .reports) (w .payload) (taken-done count w now epoch nonce d start ack e x peer buffer z i)
         (packet count w now epoch nonce d start ack e x m) (x .from);
     bytes = λ peer bytes w rest now epoch nonce buffer g m d start ack e z i x.
         let c = Call.datagram peer bytes now epoch nonce buffer in
         let k = datagram-both (side a) (side b) (t .both) (t .meet) (t .soundA) (t .soundB) peer bytes now epoch nonce buffer (rw g (λ _. λ _. m)) in
         taken-brings c (rw (side-next c a) (k .both)) now d start ack (w .reports) (w .payload)
-        (rw g (message-done (length (w .reports)) w now epoch nonce d start ack e x peer buffer (rw g at z) i))
+        (rw g (taken-done (length (w .reports)) w now epoch nonce d start ack e x peer buffer (rw g at z) i))
         (packet (length (w .reports)) w now epoch nonce d start ack e x m) (x .from);
   }
 

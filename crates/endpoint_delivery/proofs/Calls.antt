@@ -1,13 +1,13 @@
 -- Every call on an end keeps both directions in order.
-use mathlib.Core.Bool.{Bool, true, false, not, _&&_, _||_}
+use mathlib.Core.Bool.{Bool, true, false, not, _&&_, and-false}
 use mathlib.Core.List.{List, [], _∷_, _++_, append-nil}
 use mathlib.Core.Path.{_≡_, refl, _∙_}
 use Prim.Native.Nat.{ℕ, _^_, _<_}
 use lib.Dec.{eqb}
 use lib.ListN.{length}
-use borrow.Author.Tests.{eqb-true, ne-eqb, not-false}
+use native.Mathlib.Omega.{arith}
+use borrow.Author.Tests.{eqb-true, ne-eqb, not-true, not-false}
 use Rattle.base.specs.Pick.{pick}
-use Rattle.base.specs.First.{firstOf}
 use Rattle.base.specs.Keyed.{kept}
 use Rattle.base.proofs.Bools.{neither}
 use Rattle.packing.specs.Pad.{padded}
@@ -22,24 +22,21 @@ use Rattle.events.specs.declared.Entry.{Entry}
 use Rattle.outbox.specs.Outbox.{pendingInput}
 use Rattle.setup.specs.Setup.{receivingWidth, sendingWidth}
 use Rattle.setup.proofs.Laws.{receiving-within}
-use Rattle.timers.specs.Timers.{badClock}
 use Rattle.events.specs.Events.{announcedEach}
-use Rattle.endpoint_rules.specs.Seen.{Seen, isRunning, withCarried, isShutdown}
-use Rattle.endpoint_rules.specs.Did.{Did, Effect, refused, decided, silent, silentIf, begin, done}
-use Rattle.endpoint_rules.specs.Room.{isFull}
+use Rattle.endpoint_rules.specs.Seen.{Seen, isRunning, withCarried}
+use Rattle.endpoint_rules.specs.Did.{Did, Effect, refused, begin, done}
 use Rattle.endpoint_rules.specs.Handshake.{synchronized}
-use Rattle.endpoint_rules.specs.Sending.{droppedTo, badFrame, badStatuses, badBytes, pendingFull, pendingIn, inputSent}
+use Rattle.endpoint_rules.specs.Sending.{droppedTo, badFrame, badStatuses, pendingIn, inputSent}
 use Rattle.endpoint_rules.specs.Act.{acted}
 use Rattle.endpoint_rules.specs.Checksum.{checksumSent}
 use Rattle.endpoint_rules.specs.Receiving.{inputMessage, Reception, receive, discarded, inputTaken, inputUnless, onInput, onInputAck}
 use Rattle.endpoint_rules.specs.Advantage.{bothKnown, localAdvantage, advantageUpdated}
 use Rattle.endpoint_rules.specs.Call.{Call}
-use Rattle.endpoint_rules.specs.Step.{changed, heard, onBody, step, synchronizeStep, messageStep, datagramStep, actStep, sendStep, disconnectStep, checksumStep, advantageStep, statsStep, statusStep, takeStep, reacted, ignored}
-use Rattle.endpoint_rules.proofs.Decided.{by-decided, decided-both, silent-both}
+use Rattle.endpoint_rules.specs.Step.{changed, heard, onBody, step, synchronizeStep, messageStep, datagramStep, actStep, sendStep, disconnectStep, checksumStep, advantageStep, statsStep, statusStep, takeStep, reacted}
+use Rattle.endpoint_rules.proofs.Tested.{by-tests, tested-both, decided-both}
 use Rattle.endpoint_invariant.specs.Each.{Each}
 use Rattle.endpoint_invariant.specs.Sound.{Sound}
 use Rattle.endpoint_invariant.specs.Typed.{Typed}
-use Rattle.endpoint_invariant.proofs.Choices.{passes}
 use Rattle.endpoint_invariant.proofs.Eaches.{each-also}
 use Rattle.endpoint_invariant.proofs.Leaves.{by-cases}
 use Rattle.endpoint_delivery.specs.Frames.{Frame, acceptedBy}
@@ -206,9 +203,8 @@ module _ (a b : Side) (both : Both a b) (meet : Meet (a .state) (b .state)) (sou
   pub message-both : (from count : ℕ) (w : Wire) (now epoch nonce buffer : ℕ) → (carries (w .body) ≡ true → Mem w (b .queued)) → Kept a b (messageStep from count w now epoch nonce buffer s) []
   unfolding messageStep reacted
   message-both from count w now epoch nonce buffer q =
-      decided-both _ s _ (λ d. Kept a b d []) refuses (λ _.
-      silent-both (ignored from (w .magic) s) s _ (λ d. Kept a b d []) (refuses 0) (λ _.
-      decided-both _ s _ (λ d. Kept a b d []) refuses (λ _. body-done (w .magic) (w .body) (w .reports) (w .payload) q count now epoch nonce)))
+      tested-both _ s _ (λ d. Kept a b d []) refuses (λ _.
+      tested-both _ s _ (λ d. Kept a b d []) refuses (λ _. body-done (w .magic) (w .body) (w .reports) (w .payload) q count now epoch nonce))
 
   pub datagram-both : (from : ℕ) (bytes : List ℕ) (now epoch nonce buffer : ℕ) → (numberIn (datagram bytes) ≡ 0 → carries (wireIn (datagram bytes) .body) ≡ true → Mem (wireIn (datagram bytes)) (b .queued))
       → Kept a b (datagramStep from bytes now epoch nonce buffer s) []
@@ -228,7 +224,7 @@ module _ (a b : Side) (both : Both a b) (meet : Meet (a .state) (b .state)) (sou
   act-both : (count : ℕ) (statuses : List ConnectionStatus) (now epoch nonce buffer : ℕ) → Kept a b (actStep count statuses now epoch nonce buffer s) []
   unfolding actStep
   act-both count statuses now epoch nonce buffer =
-      decided-both _ s _ (λ d. Kept a b d []) refuses (λ _. finished (acted (s .phase) now epoch nonce statuses (begin s)) (acts Ok quiet s statuses (pending-ok statuses) (s .phase) now epoch nonce))
+      tested-both _ s _ (λ d. Kept a b d []) refuses (λ _. finished (acted (s .phase) now epoch nonce statuses (begin s)) (acts Ok quiet s statuses (pending-ok statuses) (s .phase) now epoch nonce))
 
   -- an input is accepted: the Input of all that is pending then has it
   module _ (frame : ℕ) (bytes : List ℕ) (small : frame < 2 ^ 32) (long : length bytes ≡ sendingWidth (s .setup)) (right : badFrame frame (s .carried .sender) ≡ false) where
@@ -268,44 +264,24 @@ module _ (a b : Side) (both : Both a b) (meet : Meet (a .state) (b .state)) (sou
           comes = announces-more (acked (both .comes) (e .out) (acks-of _ _ _ _ (e .out) (h .out))) (e .events) (h .events);
         }))
 
-  -- a send is accepted in Running if it is not refused; its number 0 alone does not say so, for outside Running it silently returns
+  -- a send is accepted in Running if it is not refused; its number 0 alone does not say so, for outside Running it is ignored
   send-both : (frame : ℕ) (bytes : List ℕ) (count : ℕ) (statuses : List ConnectionStatus) (now buffer : ℕ) → frame < 2 ^ 32
       → Kept a b (sendStep frame bytes count statuses now buffer s)
       (pick (isRunning (s .phase) && eqb (sendStep frame bytes count statuses now buffer s .answer) 0) (record { number = frame; bytes = bytes } ∷ []) [])
   unfolding sendStep done refused
-  send-both frame bytes count statuses now buffer small = go (isRunning (s .phase)) refl
+  send-both frame bytes count statuses now buffer small =
+      by-tests _ s _ Sent (refuses-it 8 (omega arith), (refuses-it 3 (omega arith), (idle, (refuses-it 4 (omega arith), (refuses-it 5 (omega arith), tt))))) (λ z.
+      let long : length bytes ≡ sendingWidth (s .setup) = eqb-true _ _ (not-false _ (neither (badStatuses count s) _ (z .1 .0) .1)) in
+      rw (not-false (isRunning (s .phase)) (z .1 .1 .0)) (sent-done frame bytes small long (z .1 .1 .1 .0) now statuses))
     where
-      -- the tests before the silent return, and those after it
-      early : ℕ
-      early = firstOf ((badClock now, 8) ∷ (badStatuses count s || badBytes bytes s, 3) ∷ [])
-
-      late : ℕ
-      late = firstOf ((badFrame frame (s .carried .sender), 4) ∷ (pendingFull s || isFull buffer (inputSent now frame bytes statuses (begin s)), 5) ∷ [])
-
-      sends-it : Did
-      sends-it = done (inputSent now frame bytes statuses (begin s))
-
       Sent : Did → Type 0
-      Sent d = Kept a b d (pick (eqb (d .answer) 0) (record { number = frame; bytes = bytes } ∷ []) [])
+      Sent d = Kept a b d (pick (isRunning (s .phase) && eqb (d .answer) 0) (record { number = frame; bytes = bytes } ∷ []) [])
 
-      refuses-it : (n : ℕ) → (n ≡ 0 → ⊥) → Sent (refused n s)
-      refuses-it n z = rw (ne-eqb n 0 z) (refuses n)
+      refuses-it : {b : Bool} (n : ℕ) → 0 < n → b ≡ true → Sent (refused n s)
+      refuses-it n z h = rw (ne-eqb n 0 (λ e. omega arith), and-false (isRunning (s .phase))) (refuses n)
 
-      go : (run : Bool) → isRunning (s .phase) ≡ run
-          → Kept a b (decided early s (silentIf (not run) s (decided late s sends-it)))
-          (pick (run && eqb (decided early s (silentIf (not run) s (decided late s sends-it)) .answer) 0) (record { number = frame; bytes = bytes } ∷ []) [])
-      go false q = decided-both early s (silent s) (λ d. Kept a b d []) refuses (λ _. refuses 0)
-      go true q =
-          by-decided early s (decided late s sends-it) Sent
-          (λ z. by-decided late s sends-it Sent
-          (λ y.
-          let c = passes (badClock now) 7 _ z in
-          let l = passes (badStatuses count s || badBytes bytes s) 2 _ (c .1) in
-          let f = passes (badFrame frame (s .carried .sender)) 3 _ y in
-          let long : length bytes ≡ sendingWidth (s .setup) = eqb-true _ _ (not-false _ (neither (badStatuses count s) _ (l .0) .1)) in
-          sent-done frame bytes small long (f .0) now statuses)
-          (refuses-it late))
-          (refuses-it early)
+      idle : not (isRunning (s .phase)) ≡ true → Sent (refused 0 s)
+      idle h = rw (not-true (isRunning (s .phase)) h) (refuses 0)
 
   updated : (f : ℕ) → Kept a b (changed (advantageUpdated f s)) []
   unfolding advantageUpdated localAdvantage
@@ -315,18 +291,18 @@ module _ (a b : Side) (both : Both a b) (meet : Meet (a .state) (b .state)) (sou
   pub call-kept : (c : Call) → Typed c → Allowed c (b .queued) → Kept a b (step c s) (acceptedBy c s)
   unfolding step synchronizeStep disconnectStep checksumStep advantageStep statsStep statusStep takeStep
   call-kept (Call.synchronize now epoch nonce buffer) t q =
-      decided-both _ s _ (λ d. Kept a b d []) refuses (λ _. finished (synchronized now epoch nonce (begin s)) (starting Ok quiet s now epoch nonce))
+      tested-both _ s _ (λ d. Kept a b d []) refuses (λ _. finished (synchronized now epoch nonce (begin s)) (starting Ok quiet s now epoch nonce))
   call-kept (Call.message from count w now epoch nonce buffer) t q = message-both from count w now epoch nonce buffer q
   call-kept (Call.datagram from bytes now epoch nonce buffer) t q = datagram-both from bytes now epoch nonce buffer q
   call-kept (Call.act count statuses now epoch nonce buffer) t q = act-both count statuses now epoch nonce buffer
   call-kept (Call.sendInput frame bytes count statuses now buffer) t q = send-both frame bytes count statuses now buffer (t .0)
   call-kept (Call.disconnect now) t q =
-      decided-both _ s _ (λ d. Kept a b d []) refuses (λ _. silent-both (isShutdown (s .phase)) s _ (λ d. Kept a b d []) (refuses 0) (λ _. changes _ refl refl))
+      tested-both _ s _ (λ d. Kept a b d []) refuses (λ _. changes _ refl refl)
   call-kept (Call.sendChecksumReport frame checksum now buffer) t q =
-      decided-both _ s _ (λ d. Kept a b d []) refuses (λ _. finished (checksumSent now frame checksum (begin s)) (checking Ok quiet s now frame checksum))
-  call-kept (Call.updateLocalFrameAdvantage f) t q = decided-both _ s _ (λ d. Kept a b d []) refuses (λ _. updated f)
-  call-kept (Call.networkStats epoch) t q = decided-both _ s _ (λ d. Kept a b d []) refuses (λ _. changes s refl refl)
-  call-kept (Call.peerConnectStatus handle) t q = decided-both _ s _ (λ d. Kept a b d []) refuses (λ _. changes s refl refl)
+      tested-both _ s _ (λ d. Kept a b d []) refuses (λ _. finished (checksumSent now frame checksum (begin s)) (checking Ok quiet s now frame checksum))
+  call-kept (Call.updateLocalFrameAdvantage f) t q = tested-both _ s _ (λ d. Kept a b d []) refuses (λ _. updated f)
+  call-kept (Call.networkStats epoch) t q = tested-both _ s _ (λ d. Kept a b d []) refuses (λ _. changes s refl refl)
+  call-kept (Call.peerConnectStatus handle) t q = tested-both _ s _ (λ d. Kept a b d []) refuses (λ _. changes s refl refl)
   call-kept Call.takeEvents t q = changes _ refl refl
-  call-kept (Call.takeMessages buffer) t q = decided-both _ s _ (λ d. Kept a b d []) refuses (λ _. changes _ refl refl)
+  call-kept (Call.takeMessages buffer) t q = tested-both _ s _ (λ d. Kept a b d []) refuses (λ _. changes _ refl refl)
   call-kept (Call.ask question) t q = changes s refl refl

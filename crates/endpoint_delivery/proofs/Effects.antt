@@ -26,7 +26,7 @@ use Rattle.endpoint_rules.specs.declared.Phase.the-variants.{Initializing, Sync
 use Rattle.endpoint_rules.specs.Seen.{Seen, Carried, withCarried}
 use Rattle.endpoint_rules.specs.Did.{Effect, begin, change, queueWire, queue, announceEvent}
 use Rattle.endpoint_rules.specs.Handshake.{request, nonceIssued, started, synchronized, counted, running, replied, onSyncRequest, onSyncReply}
-use Rattle.endpoint_rules.specs.Sending.{droppedTo, acknowledged, accepted, tooMany, pendingIn, pendingQueued, queuePending, inputSent}
+use Rattle.endpoint_rules.specs.Sending.{droppedTo, acknowledged, accepted, announcesMost, pendingIn, pendingQueued, queuePending, inputSent}
 use Rattle.endpoint_rules.specs.Receiving.{inputMessage, Reception, receive, announces, noted, acksQueued, statusesMerged, informed, inputsReceived, inputTaken, onInputAck}
 use Rattle.endpoint_rules.specs.Act.{requestDue, resendDue, reportDue, keepAliveDue, interruptionDue, disconnectDue, resent, reportSent, keptAlive, interrupted, timedOut, acted}
 use Rattle.endpoint_rules.specs.Reports.{reportQueued, remoteAdvantage, roundTripNoted, onQualityReport, onQualityReply}
@@ -239,7 +239,7 @@ module _ (P : Wire → Type 0) (quiet : (magic : ℕ) (b : MessageBody) → carr
 
   pub sending : (now frame : ℕ) (bytes : List ℕ) (statuses : List ConnectionStatus) → P (pendingIn statuses (afterSend (inputOf frame bytes)))
       → Doing (acceptedIn (inputOf frame bytes)) [] (inputSent now frame bytes statuses (begin s))
-  unfolding inputSent accepted tooMany
+  unfolding inputSent accepted announcesMost
   sending now frame bytes statuses p =
       let x : InputBytes = inputOf frame bytes in
       let c : Carried = acceptedIn x in

@@ -36,10 +36,10 @@ use Rattle.setup.specs.Setup.{badSetup, anyAbove, anyTwice, inserted, sorted, t
 use Rattle.outbox.specs.Outbox.{queueSize, reportOf, pendingInput}
 use Rattle.endpoint_rules.specs.declared.Phase.the-variants.{Synchronizing, Running}
 use Rattle.endpoint_rules.specs.Seen.{Seen, Sender, made, withCarried, withPhase, withSync, withQuality, withEvents, withQueued, sentAt, heardAt, inputAt}
-use Rattle.endpoint_rules.specs.Did.{refused, decided, queueWire, done}
+use Rattle.endpoint_rules.specs.Did.{refused, tested, queueWire, done}
 use Rattle.endpoint_rules.specs.Room.{bufferFull, isFull}
 use Rattle.endpoint_rules.specs.Handshake.{nonceIssued, request, started, synchronized, counted, running, replied, onSyncReply}
-use Rattle.endpoint_rules.specs.Sending.{droppedTo, acknowledged, badFrame, pendingQueued, accepted, tooMany, inputSent}
+use Rattle.endpoint_rules.specs.Sending.{droppedTo, acknowledged, badFrame, pendingQueued, accepted, announcesMost, inputSent}
 use Rattle.endpoint_rules.specs.Receiving.{taken, receivedIf, receive, discarded, packetOverflows, statusesMerged, informed, inputsReceived, inputTaken, inputUnless, onInput, onInputAck}
 use Rattle.endpoint_rules.specs.Call.{Call}
 use Rattle.endpoint_rules.specs.Step.{fresh, synchronizeStep, ignored, resumed, heard, onBody, reacted, messageStep, sendStep, step}
@@ -169,22 +169,22 @@ halfway g magic =
     }
 
 a-half : nexts (first-half 9) a0 ≡ halfway wide 7
-unfolding kept has without xors framesOf unpack pack decodableLength decodable zeros padded dropTo lastTo room firstFrame lastFrame payload blankFrame highest newestOf foundIn atLine above numbered packetOf takenIn issued fits defaultStatus reported merged mergedAll defaultStatuses hasRoom inputOf inputEntry announced badSetup anyAbove anyTwice inserted sorted termsWith made refused decided queueWire queueSize reportOf pendingInput done bufferFull isFull nonceIssued request started synchronized counted running replied onSyncReply droppedTo acknowledged badFrame pendingQueued accepted tooMany inputSent referenceFrame taken receivedIf receive announcedEach discarded packetOverflows statusesMerged informed inputsReceived inputTaken inputUnless onInput onInputAck fresh synchronizeStep ignored resumed heard onBody reacted messageStep sendStep step joined announcedIn
+unfolding kept has without xors framesOf unpack pack decodableLength decodable zeros padded dropTo lastTo room firstFrame lastFrame payload blankFrame highest newestOf foundIn atLine above numbered packetOf takenIn issued fits defaultStatus reported merged mergedAll defaultStatuses hasRoom inputOf inputEntry announced badSetup anyAbove anyTwice inserted sorted termsWith made refused tested queueWire queueSize reportOf pendingInput done bufferFull isFull nonceIssued request started synchronized counted running replied onSyncReply droppedTo acknowledged badFrame pendingQueued accepted announcesMost inputSent referenceFrame taken receivedIf receive announcedEach discarded packetOverflows statusesMerged informed inputsReceived inputTaken inputUnless onInput onInputAck fresh synchronizeStep ignored resumed heard onBody reacted messageStep sendStep step joined announcedIn
 a-half = refl
 
 a-rest : nexts (second-half 9) (halfway wide 7) ≡ ready wide 7 9
-unfolding kept has without xors framesOf unpack pack decodableLength decodable zeros padded dropTo lastTo room firstFrame lastFrame payload blankFrame highest newestOf foundIn atLine above numbered packetOf takenIn issued fits defaultStatus reported merged mergedAll defaultStatuses hasRoom inputOf inputEntry announced badSetup anyAbove anyTwice inserted sorted termsWith made refused decided queueWire queueSize reportOf pendingInput done bufferFull isFull nonceIssued request started synchronized counted running replied onSyncReply droppedTo acknowledged badFrame pendingQueued accepted tooMany inputSent referenceFrame taken receivedIf receive announcedEach discarded packetOverflows statusesMerged informed inputsReceived inputTaken inputUnless onInput onInputAck fresh synchronizeStep ignored resumed heard onBody reacted messageStep sendStep step joined announcedIn
+unfolding kept has without xors framesOf unpack pack decodableLength decodable zeros padded dropTo lastTo room firstFrame lastFrame payload blankFrame highest newestOf foundIn atLine above numbered packetOf takenIn issued fits defaultStatus reported merged mergedAll defaultStatuses hasRoom inputOf inputEntry announced badSetup anyAbove anyTwice inserted sorted termsWith made refused tested queueWire queueSize reportOf pendingInput done bufferFull isFull nonceIssued request started synchronized counted running replied onSyncReply droppedTo acknowledged badFrame pendingQueued accepted announcesMost inputSent referenceFrame taken receivedIf receive announcedEach discarded packetOverflows statusesMerged informed inputsReceived inputTaken inputUnless onInput onInputAck fresh synchronizeStep ignored resumed heard onBody reacted messageStep sendStep step joined announcedIn
 a-rest = refl
 
 a-ready : nexts (greeting 9) a0 ≡ ready wide 7 9
 a-ready = ap (nexts (second-half 9)) a-half ∙ a-rest
 
 b-half : nexts (first-half 7) b0 ≡ halfway narrow 9
-unfolding kept has without xors framesOf unpack pack decodableLength decodable zeros padded dropTo lastTo room firstFrame lastFrame payload blankFrame highest newestOf foundIn atLine above numbered packetOf takenIn issued fits defaultStatus reported merged mergedAll defaultStatuses hasRoom inputOf inputEntry announced badSetup anyAbove anyTwice inserted sorted termsWith made refused decided queueWire queueSize reportOf pendingInput done bufferFull isFull nonceIssued request started synchronized counted running replied onSyncReply droppedTo acknowledged badFrame pendingQueued accepted tooMany inputSent referenceFrame taken receivedIf receive announcedEach discarded packetOverflows statusesMerged informed inputsReceived inputTaken inputUnless onInput onInputAck fresh synchronizeStep ignored resumed heard onBody reacted messageStep sendStep step joined announcedIn
+unfolding kept has without xors framesOf unpack pack decodableLength decodable zeros padded dropTo lastTo room firstFrame lastFrame payload blankFrame highest newestOf foundIn atLine above numbered packetOf takenIn issued fits defaultStatus reported merged mergedAll defaultStatuses hasRoom inputOf inputEntry announced badSetup anyAbove anyTwice inserted sorted termsWith made refused tested queueWire queueSize reportOf pendingInput done bufferFull isFull nonceIssued request started synchronized counted running replied onSyncReply droppedTo acknowledged badFrame pendingQueued accepted announcesMost inputSent referenceFrame taken receivedIf receive announcedEach discarded packetOverflows statusesMerged informed inputsReceived inputTaken inputUnless onInput onInputAck fresh synchronizeStep ignored resumed heard onBody reacted messageStep sendStep step joined announcedIn
 b-half = refl
 
 b-rest : nexts (second-half 7) (halfway narrow 9) ≡ ready narrow 9 7
-unfolding kept has without xors framesOf unpack pack decodableLength decodable zeros padded dropTo lastTo room firstFrame lastFrame payload blankFrame highest newestOf foundIn atLine above numbered packetOf takenIn issued fits defaultStatus reported merged mergedAll defaultStatuses hasRoom inputOf inputEntry announced badSetup anyAbove anyTwice inserted sorted termsWith made refused decided queueWire queueSize reportOf pendingInput done bufferFull isFull nonceIssued request started synchronized counted running replied onSyncReply droppedTo acknowledged badFrame pendingQueued accepted tooMany inputSent referenceFrame taken receivedIf receive announcedEach discarded packetOverflows statusesMerged informed inputsReceived inputTaken inputUnless onInput onInputAck fresh synchronizeStep ignored resumed heard onBody reacted messageStep sendStep step joined announcedIn
+unfolding kept has without xors framesOf unpack pack decodableLength decodable zeros padded dropTo lastTo room firstFrame lastFrame payload blankFrame highest newestOf foundIn atLine above numbered packetOf takenIn issued fits defaultStatus reported merged mergedAll defaultStatuses hasRoom inputOf inputEntry announced badSetup anyAbove anyTwice inserted sorted termsWith made refused tested queueWire queueSize reportOf pendingInput done bufferFull isFull nonceIssued request started synchronized counted running replied onSyncReply droppedTo acknowledged badFrame pendingQueued accepted announcesMost inputSent referenceFrame taken receivedIf receive announcedEach discarded packetOverflows statusesMerged informed inputsReceived inputTaken inputUnless onInput onInputAck fresh synchronizeStep ignored resumed heard onBody reacted messageStep sendStep step joined announcedIn
 b-rest = refl
 
 b-ready : nexts (greeting 7) b0 ≡ ready narrow 9 7
@@ -233,11 +233,11 @@ b1-as =
     }
 
 b1-is : b1 ≡ b1-as
-unfolding kept has without xors framesOf unpack pack decodableLength decodable zeros padded dropTo lastTo room firstFrame lastFrame payload blankFrame highest newestOf foundIn atLine above numbered packetOf takenIn issued fits defaultStatus reported merged mergedAll defaultStatuses hasRoom inputOf inputEntry announced badSetup anyAbove anyTwice inserted sorted termsWith made refused decided queueWire queueSize reportOf pendingInput done bufferFull isFull nonceIssued request started synchronized counted running replied onSyncReply droppedTo acknowledged badFrame pendingQueued accepted tooMany inputSent referenceFrame taken receivedIf receive announcedEach discarded packetOverflows statusesMerged informed inputsReceived inputTaken inputUnless onInput onInputAck fresh synchronizeStep ignored resumed heard onBody reacted messageStep sendStep step joined announcedIn
+unfolding kept has without xors framesOf unpack pack decodableLength decodable zeros padded dropTo lastTo room firstFrame lastFrame payload blankFrame highest newestOf foundIn atLine above numbered packetOf takenIn issued fits defaultStatus reported merged mergedAll defaultStatuses hasRoom inputOf inputEntry announced badSetup anyAbove anyTwice inserted sorted termsWith made refused tested queueWire queueSize reportOf pendingInput done bufferFull isFull nonceIssued request started synchronized counted running replied onSyncReply droppedTo acknowledged badFrame pendingQueued accepted announcesMost inputSent referenceFrame taken receivedIf receive announcedEach discarded packetOverflows statusesMerged informed inputsReceived inputTaken inputUnless onInput onInputAck fresh synchronizeStep ignored resumed heard onBody reacted messageStep sendStep step joined announcedIn
 b1-is = refl
 
 b2-from : nexts (send 0 1 2 ∷ send 1 3 4 ∷ []) b1-as ≡ b2
-unfolding kept has without xors framesOf unpack pack decodableLength decodable zeros padded dropTo lastTo room firstFrame lastFrame payload blankFrame highest newestOf foundIn atLine above numbered packetOf takenIn issued fits defaultStatus reported merged mergedAll defaultStatuses hasRoom inputOf inputEntry announced badSetup anyAbove anyTwice inserted sorted termsWith made refused decided queueWire queueSize reportOf pendingInput done bufferFull isFull nonceIssued request started synchronized counted running replied onSyncReply droppedTo acknowledged badFrame pendingQueued accepted tooMany inputSent referenceFrame taken receivedIf receive announcedEach discarded packetOverflows statusesMerged informed inputsReceived inputTaken inputUnless onInput onInputAck fresh synchronizeStep ignored resumed heard onBody reacted messageStep sendStep step joined announcedIn
+unfolding kept has without xors framesOf unpack pack decodableLength decodable zeros padded dropTo lastTo room firstFrame lastFrame payload blankFrame highest newestOf foundIn atLine above numbered packetOf takenIn issued fits defaultStatus reported merged mergedAll defaultStatuses hasRoom inputOf inputEntry announced badSetup anyAbove anyTwice inserted sorted termsWith made refused tested queueWire queueSize reportOf pendingInput done bufferFull isFull nonceIssued request started synchronized counted running replied onSyncReply droppedTo acknowledged badFrame pendingQueued accepted announcesMost inputSent referenceFrame taken receivedIf receive announcedEach discarded packetOverflows statusesMerged informed inputsReceived inputTaken inputUnless onInput onInputAck fresh synchronizeStep ignored resumed heard onBody reacted messageStep sendStep step joined announcedIn
 b2-from = refl
 
 b2-is : nexts (send 0 1 2 ∷ send 1 3 4 ∷ []) b1 ≡ b2
@@ -259,7 +259,7 @@ a3 =
     }
 
 a3-is : nexts (send 2 9 9 ∷ send 3 9 10 ∷ []) a2 ≡ a3
-unfolding kept has without xors framesOf unpack pack decodableLength decodable zeros padded dropTo lastTo room firstFrame lastFrame payload blankFrame highest newestOf foundIn atLine above numbered packetOf takenIn issued fits defaultStatus reported merged mergedAll defaultStatuses hasRoom inputOf inputEntry announced badSetup anyAbove anyTwice inserted sorted termsWith made refused decided queueWire queueSize reportOf pendingInput done bufferFull isFull nonceIssued request started synchronized counted running replied onSyncReply droppedTo acknowledged badFrame pendingQueued accepted tooMany inputSent referenceFrame taken receivedIf receive announcedEach discarded packetOverflows statusesMerged informed inputsReceived inputTaken inputUnless onInput onInputAck fresh synchronizeStep ignored resumed heard onBody reacted messageStep sendStep step joined announcedIn
+unfolding kept has without xors framesOf unpack pack decodableLength decodable zeros padded dropTo lastTo room firstFrame lastFrame payload blankFrame highest newestOf foundIn atLine above numbered packetOf takenIn issued fits defaultStatus reported merged mergedAll defaultStatuses hasRoom inputOf inputEntry announced badSetup anyAbove anyTwice inserted sorted termsWith made refused tested queueWire queueSize reportOf pendingInput done bufferFull isFull nonceIssued request started synchronized counted running replied onSyncReply droppedTo acknowledged badFrame pendingQueued accepted announcesMost inputSent referenceFrame taken receivedIf receive announcedEach discarded packetOverflows statusesMerged informed inputsReceived inputTaken inputUnless onInput onInputAck fresh synchronizeStep ignored resumed heard onBody reacted messageStep sendStep step joined announcedIn
 a3-is = refl
 
 abbrev b3 : End
@@ -276,11 +276,11 @@ a4 = nexts (hand (ack 9 3) 2005 0 ∷ hand J2 2006 0 ∷ []) a3
 
 -- the messages queued, so that those handed over are among them
 first-queue : a1 .queued ≡ requests 7 (I0 ∷ I1 ∷ [])
-unfolding kept has without xors framesOf unpack pack decodableLength decodable zeros padded dropTo lastTo room firstFrame lastFrame payload blankFrame highest newestOf foundIn atLine above numbered packetOf takenIn issued fits defaultStatus reported merged mergedAll defaultStatuses hasRoom inputOf inputEntry announced badSetup anyAbove anyTwice inserted sorted termsWith made refused decided queueWire queueSize reportOf pendingInput done bufferFull isFull nonceIssued request started synchronized counted running replied onSyncReply droppedTo acknowledged badFrame pendingQueued accepted tooMany inputSent referenceFrame taken receivedIf receive announcedEach discarded packetOverflows statusesMerged informed inputsReceived inputTaken inputUnless onInput onInputAck fresh synchronizeStep ignored resumed heard onBody reacted messageStep sendStep step joined announcedIn
+unfolding kept has without xors framesOf unpack pack decodableLength decodable zeros padded dropTo lastTo room firstFrame lastFrame payload blankFrame highest newestOf foundIn atLine above numbered packetOf takenIn issued fits defaultStatus reported merged mergedAll defaultStatuses hasRoom inputOf inputEntry announced badSetup anyAbove anyTwice inserted sorted termsWith made refused tested queueWire queueSize reportOf pendingInput done bufferFull isFull nonceIssued request started synchronized counted running replied onSyncReply droppedTo acknowledged badFrame pendingQueued accepted announcesMost inputSent referenceFrame taken receivedIf receive announcedEach discarded packetOverflows statusesMerged informed inputsReceived inputTaken inputUnless onInput onInputAck fresh synchronizeStep ignored resumed heard onBody reacted messageStep sendStep step joined announcedIn
 first-queue = refl
 
 last-queue : b4 .queued ≡ requests 9 (ack 9 1 ∷ ack 9 1 ∷ ack 9 1 ∷ J0 ∷ J1 ∷ ack 9 3 ∷ J2 ∷ [])
-unfolding kept has without xors framesOf unpack pack decodableLength decodable zeros padded dropTo lastTo room firstFrame lastFrame payload blankFrame highest newestOf foundIn atLine above numbered packetOf takenIn issued fits defaultStatus reported merged mergedAll defaultStatuses hasRoom inputOf inputEntry announced badSetup anyAbove anyTwice inserted sorted termsWith made refused decided queueWire queueSize reportOf pendingInput done bufferFull isFull nonceIssued request started synchronized counted running replied onSyncReply droppedTo acknowledged badFrame pendingQueued accepted tooMany inputSent referenceFrame taken receivedIf receive announcedEach discarded packetOverflows statusesMerged informed inputsReceived inputTaken inputUnless onInput onInputAck fresh synchronizeStep ignored resumed heard onBody reacted messageStep sendStep step joined announcedIn
+unfolding kept has without xors framesOf unpack pack decodableLength decodable zeros padded dropTo lastTo room firstFrame lastFrame payload blankFrame highest newestOf foundIn atLine above numbered packetOf takenIn issued fits defaultStatus reported merged mergedAll defaultStatuses hasRoom inputOf inputEntry announced badSetup anyAbove anyTwice inserted sorted termsWith made refused tested queueWire queueSize reportOf pendingInput done bufferFull isFull nonceIssued request started synchronized counted running replied onSyncReply droppedTo acknowledged badFrame pendingQueued accepted announcesMost inputSent referenceFrame taken receivedIf receive announcedEach discarded packetOverflows statusesMerged informed inputsReceived inputTaken inputUnless onInput onInputAck fresh synchronizeStep ignored resumed heard onBody reacted messageStep sendStep step joined announcedIn
 last-queue = refl
 
 -- what each accepted, and what the other announced of it: each frame once, for each player with its bytes
@@ -296,7 +296,7 @@ pub sample-facts : (a4 .accepted ≡ frame 0 5 7 ∷ frame 1 6 8 ∷ frame 2 9 9
     -- everything that the first end sent is acknowledged; of the second end's frames one is still pending
     × (a4 .state .carried .sender .pending ≡ [])
     × (length (b4 .state .carried .sender .pending) ≡ 1)
-unfolding kept has without xors framesOf unpack pack decodableLength decodable zeros padded dropTo lastTo room firstFrame lastFrame payload blankFrame highest newestOf foundIn atLine above numbered packetOf takenIn issued fits defaultStatus reported merged mergedAll defaultStatuses hasRoom inputOf inputEntry announced badSetup anyAbove anyTwice inserted sorted termsWith made refused decided queueWire queueSize reportOf pendingInput done bufferFull isFull nonceIssued request started synchronized counted running replied onSyncReply droppedTo acknowledged badFrame pendingQueued accepted tooMany inputSent referenceFrame taken receivedIf receive announcedEach discarded packetOverflows statusesMerged informed inputsReceived inputTaken inputUnless onInput onInputAck fresh synchronizeStep ignored resumed heard onBody reacted messageStep sendStep step joined announcedIn
+unfolding kept has without xors framesOf unpack pack decodableLength decodable zeros padded dropTo lastTo room firstFrame lastFrame payload blankFrame highest newestOf foundIn atLine above numbered packetOf takenIn issued fits defaultStatus reported merged mergedAll defaultStatuses hasRoom inputOf inputEntry announced badSetup anyAbove anyTwice inserted sorted termsWith made refused tested queueWire queueSize reportOf pendingInput done bufferFull isFull nonceIssued request started synchronized counted running replied onSyncReply droppedTo acknowledged badFrame pendingQueued accepted announcesMost inputSent referenceFrame taken receivedIf receive announcedEach discarded packetOverflows statusesMerged informed inputsReceived inputTaken inputUnless onInput onInputAck fresh synchronizeStep ignored resumed heard onBody reacted messageStep sendStep step joined announcedIn
 sample-facts = (refl, refl, refl, refl, refl, refl)
 
 -- ---- so they are the ends of a run
@@ -473,7 +473,7 @@ abbrev lastHistory : List InputBytes
 lastHistory = record { frame = fr 1; bytes = padded (6 ∷ 8 ∷ []) } ∷ record { frame = fr 2; bytes = padded (9 ∷ 9 ∷ []) } ∷ record { frame = fr 3; bytes = padded (9 ∷ 10 ∷ []) } ∷ []
 
 passing : Passes I1 0 2000 (ready narrow 9 7) × Passes I3 2 2004 b2 × Passes I1 0 2007 b4 × (b4 .state .carried .receiver .history ≡ lastHistory)
-unfolding kept has without xors framesOf unpack pack decodableLength decodable zeros padded dropTo lastTo room firstFrame lastFrame payload blankFrame highest newestOf foundIn atLine above numbered packetOf takenIn issued fits defaultStatus reported merged mergedAll defaultStatuses hasRoom inputOf inputEntry announced badSetup anyAbove anyTwice inserted sorted termsWith made refused decided queueWire queueSize reportOf pendingInput done bufferFull isFull nonceIssued request started synchronized counted running replied onSyncReply droppedTo acknowledged badFrame pendingQueued accepted tooMany inputSent referenceFrame taken receivedIf receive announcedEach discarded packetOverflows statusesMerged informed inputsReceived inputTaken inputUnless onInput onInputAck fresh synchronizeStep ignored resumed heard onBody reacted messageStep sendStep step joined announcedIn
+unfolding kept has without xors framesOf unpack pack decodableLength decodable zeros padded dropTo lastTo room firstFrame lastFrame payload blankFrame highest newestOf foundIn atLine above numbered packetOf takenIn issued fits defaultStatus reported merged mergedAll defaultStatuses hasRoom inputOf inputEntry announced badSetup anyAbove anyTwice inserted sorted termsWith made refused tested queueWire queueSize reportOf pendingInput done bufferFull isFull nonceIssued request started synchronized counted running replied onSyncReply droppedTo acknowledged badFrame pendingQueued accepted announcesMost inputSent referenceFrame taken receivedIf receive announcedEach discarded packetOverflows statusesMerged informed inputsReceived inputTaken inputUnless onInput onInputAck fresh synchronizeStep ignored resumed heard onBody reacted messageStep sendStep step joined announcedIn
 passing = (
   (refl, record { alive = refl; known = refl; passes = inr refl }, record { from = omega arith; complete = inr refl }),
   (refl, record { alive = refl; known = refl; passes = inr refl }, record { from = omega arith; complete = inr refl }),
@@ -483,14 +483,14 @@ passing = (
 
 -- frames 0 and 1 are brought to an end that has no frame yet
 pub sample-brought : fr 0 + 2 ≤ suc (lastAnnounced nullFrame (announcedBy (next (hand I1 2000 0) (ready narrow 9 7))))
-unfolding kept has without xors framesOf unpack pack decodableLength decodable zeros padded dropTo lastTo room firstFrame lastFrame payload blankFrame highest newestOf foundIn atLine above numbered packetOf takenIn issued fits defaultStatus reported merged mergedAll defaultStatuses hasRoom inputOf inputEntry announced badSetup anyAbove anyTwice inserted sorted termsWith made refused decided queueWire queueSize reportOf pendingInput done bufferFull isFull nonceIssued request started synchronized counted running replied onSyncReply droppedTo acknowledged badFrame pendingQueued accepted tooMany inputSent referenceFrame taken receivedIf receive announcedEach discarded packetOverflows statusesMerged informed inputsReceived inputTaken inputUnless onInput onInputAck fresh synchronizeStep ignored resumed heard onBody reacted messageStep sendStep step joined announcedIn
+unfolding kept has without xors framesOf unpack pack decodableLength decodable zeros padded dropTo lastTo room firstFrame lastFrame payload blankFrame highest newestOf foundIn atLine above numbered packetOf takenIn issued fits defaultStatus reported merged mergedAll defaultStatuses hasRoom inputOf inputEntry announced badSetup anyAbove anyTwice inserted sorted termsWith made refused tested queueWire queueSize reportOf pendingInput done bufferFull isFull nonceIssued request started synchronized counted running replied onSyncReply droppedTo acknowledged badFrame pendingQueued accepted announcesMost inputSent referenceFrame taken receivedIf receive announcedEach discarded packetOverflows statusesMerged informed inputsReceived inputTaken inputUnless onInput onInputAck fresh synchronizeStep ignored resumed heard onBody reacted messageStep sendStep step joined announcedIn
 sample-brought =
     let p = passing .0 in
     brings first .1 .message 3 2 I1 2000 (epochAt 2000) 0 65536 I1-queued false (fr 0) nullFrame refl (p .0) (p .1) (p .2) .reaches (inl refl)
 
 -- frames 2 and 3 to an end that holds frame 1
 pub sample-held : fr 2 + 2 ≤ suc (lastAnnounced nullFrame (announcedBy b3))
-unfolding kept has without xors framesOf unpack pack decodableLength decodable zeros padded dropTo lastTo room firstFrame lastFrame payload blankFrame highest newestOf foundIn atLine above numbered packetOf takenIn issued fits defaultStatus reported merged mergedAll defaultStatuses hasRoom inputOf inputEntry announced badSetup anyAbove anyTwice inserted sorted termsWith made refused decided queueWire queueSize reportOf pendingInput done bufferFull isFull nonceIssued request started synchronized counted running replied onSyncReply droppedTo acknowledged badFrame pendingQueued accepted tooMany inputSent referenceFrame taken receivedIf receive announcedEach discarded packetOverflows statusesMerged informed inputsReceived inputTaken inputUnless onInput onInputAck fresh synchronizeStep ignored resumed heard onBody reacted messageStep sendStep step joined announcedIn
+unfolding kept has without xors framesOf unpack pack decodableLength decodable zeros padded dropTo lastTo room firstFrame lastFrame payload blankFrame highest newestOf foundIn atLine above numbered packetOf takenIn issued fits defaultStatus reported merged mergedAll defaultStatuses hasRoom inputOf inputEntry announced badSetup anyAbove anyTwice inserted sorted termsWith made refused tested queueWire queueSize reportOf pendingInput done bufferFull isFull nonceIssued request started synchronized counted running replied onSyncReply droppedTo acknowledged badFrame pendingQueued accepted announcesMost inputSent referenceFrame taken receivedIf receive announcedEach discarded packetOverflows statusesMerged informed inputsReceived inputTaken inputUnless onInput onInputAck fresh synchronizeStep ignored resumed heard onBody reacted messageStep sendStep step joined announcedIn
 sample-held =
     let p = passing .1 in
     brings third .1 .message 3 2 I3 2004 (epochAt 2004) 0 65536 I3-queued false (fr 2) (fr 1) refl (p .0) (p .1) (p .2) .reaches

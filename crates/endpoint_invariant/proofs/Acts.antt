@@ -21,7 +21,7 @@ use Rattle.endpoint_rules.specs.declared.Phase.{Phase}
 use Rattle.endpoint_rules.specs.declared.Phase.the-variants.{Initializing, Synchronizing, Running, Disconnected, Shutdown}
 use Rattle.endpoint_rules.specs.Seen.{Seen, isInitializing, isSynchronizing, isRunning, withPhase, inputAt}
 use Rattle.endpoint_rules.specs.Did.{Effect, begin, change, queueWire}
-use Rattle.endpoint_rules.specs.Sending.{badFrame, badBytes, pendingFull, pendingQueued, queuePending, accepted, tooMany, inputSent}
+use Rattle.endpoint_rules.specs.Sending.{badFrame, badBytes, pendingFull, pendingQueued, queuePending, accepted, announcesMost, inputSent}
 use Rattle.endpoint_rules.specs.Act.{requestDue, resendDue, reportDue, keepAliveDue, interruptionDue, disconnectDue, resent, reportSent, keptAlive, interrupted, timedOut, acted, requestChoked}
 use Rattle.endpoint_rules.specs.Reports.{pingOf, reportQueued}
 use Rattle.endpoint_invariant.specs.Each.{Each}
@@ -103,8 +103,8 @@ module _ (now : ℕ) (statuses : List ConnectionStatus) (small : now < 2 ^ 62) (
 
   -- ---- send_input
 
-  many-good : (e : Effect) → Good e → Good (tooMany e)
-  unfolding tooMany
+  many-good : (e : Effect) → Good e → Good (announcesMost e)
+  unfolding announcesMost
   many-good e g = by-pick Good (leb 129 (length (e .state .carried .sender .pending))) _ e (λ _. event-good e g Event.Disconnected) (λ _. g)
 
   pub sent-good : (frame : ℕ) (bytes : List ℕ) (s : Seen) → frame < 2 ^ 32 → Bytes bytes → Sound s → badBytes bytes s ≡ false → badFrame frame (s .carried .sender) ≡ false → pendingFull s ≡ false

@@ -15,9 +15,9 @@ use Rattle.events.specs.declared.Event.{Event}
 use Rattle.events.specs.Events.{hasRoom}
 use Rattle.setup.specs.Setup.{Terms, SoundSetup}
 use Rattle.endpoint_rules.specs.Seen.{Seen}
-use Rattle.endpoint_rules.specs.Did.{Did, Effect, refused, decided, begin, change, queueWire, queue, announce, announceEvent, done, silentIf}
+use Rattle.endpoint_rules.specs.Did.{Did, Effect, Verdict, refused, tested, decided, begin, change, queueWire, queue, announce, announceEvent, done}
 use Rattle.endpoint_rules.specs.Room.{isFull, eventsFull}
-use Rattle.endpoint_rules.proofs.Decided.{decided-both, silent-both}
+use Rattle.endpoint_rules.proofs.Tested.{NoneHolds, tested-both, decided-both}
 use Rattle.endpoint_invariant.specs.Sound.{Sound}
 use Rattle.endpoint_invariant.proofs.Parts.{clocks-part, events-part, queued-part}
 use Rattle.endpoint_invariant.proofs.Fields.{sent-clock}
@@ -79,9 +79,9 @@ pub decided-keeps : (n : ℕ) (s : Seen) (d : Did) → Sound s → (n ≡ 0 → 
 unfolding refused
 decided-keeps n s d h f = decided-both n s d Keeps (λ _. record { after = h; out = tt }) f
 
-pub silent-keeps : (b : Bool) (s : Seen) (d : Did) → Sound s → (b ≡ false → Keeps d) → Keeps (silentIf b s d)
+pub tested-keeps : (ts : List (Bool × Verdict)) (s : Seen) (d : Did) → Sound s → (NoneHolds ts → Keeps d) → Keeps (tested ts s d)
 unfolding refused
-silent-keeps b s d h f = silent-both b s d Keeps (record { after = h; out = tt }) f
+tested-keeps ts s d h f = tested-both ts s d Keeps (λ _. record { after = h; out = tt }) f
 
 pub done-keeps : (buffer : ℕ) (e : Effect) → isFull buffer e ≡ false → Good e → Keeps (done e)
 unfolding done isFull hasRoom

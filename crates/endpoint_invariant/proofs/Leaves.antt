@@ -18,7 +18,7 @@ use Rattle.endpoint_rules.specs.declared.Phase.the-variants.{Initializing, Sync
 use Rattle.endpoint_rules.specs.Seen.{Seen}
 use Rattle.endpoint_rules.specs.Did.{Effect, begin, queueWire}
 use Rattle.endpoint_rules.specs.Handshake.{request, nonceIssued, counted, running, replied, onSyncRequest, onSyncReply}
-use Rattle.endpoint_rules.specs.Sending.{acknowledged, accepted, tooMany, pendingQueued, inputSent}
+use Rattle.endpoint_rules.specs.Sending.{acknowledged, accepted, announcesMost, pendingQueued, inputSent}
 use Rattle.endpoint_rules.specs.Receiving.{inputMessage, Reception, announces, noted, acksQueued, statusesMerged, informed, inputsReceived, inputTaken, inputUnless, onInput, onInputAck}
 use Rattle.endpoint_rules.specs.Act.{requestDue, resendDue, reportDue, keepAliveDue, interruptionDue, disconnectDue, resent, reportSent, keptAlive, interrupted, timedOut, acted}
 use Rattle.endpoint_rules.specs.Reports.{reportQueued, remoteAdvantage, roundTripNoted, onQualityReport, onQualityReply}
@@ -90,9 +90,9 @@ module _ (now : ℕ) where
   acted-leaves Shutdown epoch nonce statuses e = refl
 
 -- ---- sending
-many-leaves : (e : Effect) → Leaves e (tooMany e)
-unfolding tooMany
-many-leaves e = by-cases (leb 129 (length (e .state .carried .sender .pending))) (Leaves e (tooMany e)) (λ h. rw h) (λ h. rw h)
+many-leaves : (e : Effect) → Leaves e (announcesMost e)
+unfolding announcesMost
+many-leaves e = by-cases (leb 129 (length (e .state .carried .sender .pending))) (Leaves e (announcesMost e)) (λ h. rw h) (λ h. rw h)
 
 pub sent-leaves : (now frame : ℕ) (bytes : List ℕ) (statuses : List ConnectionStatus) (e : Effect) → Leaves e (inputSent now frame bytes statuses e)
 unfolding inputSent accepted

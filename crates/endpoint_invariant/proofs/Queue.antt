@@ -1,6 +1,6 @@
 -- Over every run with the same buffer lent each time: the bytes that left the queue and those that still stand in it are the bytes queued before the
 -- run and those of the messages that it queued, back to back and in order.
-use mathlib.Core.Bool.{Bool, true, false, not}
+use mathlib.Core.Bool.{Bool, true, false}
 use mathlib.Core.List.{List, [], _∷_, _++_, append-nil, append-assoc, flatten}
 use mathlib.Core.Path.{_≡_, refl, sym, _∙_, ap}
 use mathlib.Core.Logic.{_⊎_, inl, inr}
@@ -14,28 +14,26 @@ use Rattle.base.specs.Pick.{pick}
 use Rattle.base.specs.Lay.{laidAt}
 use Rattle.base.proofs.Lay.{laid-none, laid-front, laid-length}
 use Rattle.base.proofs.Bools.{neither}
-use Rattle.timers.specs.Timers.{badClock, badClocks}
 use Rattle.endpoint_rules.specs.declared.Phase.the-variants.{Disconnected}
 use Rattle.codec.specs.Message.{Wire, FitAll}
 use Rattle.codec.specs.Bytes.{bytes, queueOf}
 use Rattle.events.specs.declared.Entry.{Entry}
 use Rattle.outbox.specs.Outbox.{queueSize}
 use Rattle.outbox.proofs.Laws.{queue-size}
-use Rattle.endpoint_rules.specs.Seen.{Seen, isRunning, isShutdown, withPhase, withEvents, withQueued, shutdownAt}
-use Rattle.endpoint_rules.specs.Did.{Did, Effect, refused, decided, begin, queueWire, done}
+use Rattle.endpoint_rules.specs.Seen.{Seen, isShutdown, withPhase, withEvents, withQueued, shutdownAt}
+use Rattle.endpoint_rules.specs.Did.{Did, Effect, refused, tested, begin, queueWire, done}
 use Rattle.endpoint_rules.specs.Room.{eventsFull, bufferFull, isFull}
 use Rattle.endpoint_rules.specs.Call.{Call}
 use Rattle.endpoint_rules.specs.Handshake.{Reaction, noncesFull, synchronized, started}
-use Rattle.endpoint_rules.specs.Sending.{badStatuses, badFrame, pendingFull, inputSent}
+use Rattle.endpoint_rules.specs.Sending.{pendingFull, inputSent}
 use Rattle.endpoint_rules.specs.Act.{acted, requestChoked}
 use Rattle.endpoint_rules.specs.Checksum.{checksumSent}
 use Rattle.endpoint_rules.specs.Advantage.{bothKnown, localAdvantage, advantageUpdated}
-use Rattle.endpoint_rules.specs.Step.{changed, shortBuffer, wrongState, ignored, heard, onBody, step, synchronizeStep, messageStep, datagramStep, actStep, sendStep, disconnectStep, checksumStep, advantageStep, statsStep, statusStep, takeStep, reacted}
+use Rattle.endpoint_rules.specs.Step.{changed, shortBuffer, heard, onBody, step, synchronizeStep, messageStep, datagramStep, actStep, sendStep, disconnectStep, checksumStep, advantageStep, statsStep, statusStep, takeStep, reacted}
 use Rattle.endpoint_rules.specs.Value.{filledPart, handedBack}
-use Rattle.endpoint_rules.proofs.Decided.{decided-both, silent-both}
+use Rattle.endpoint_rules.proofs.Tested.{tested-both, decided-both}
 use Rattle.endpoint_invariant.specs.Runs.{ran, lentTo, Lent, lentAfter, lentRan, gone, allGone, allOut}
 use Rattle.endpoint_invariant.proofs.Leaves.{by-cases, booked, books, acted-leaves, sent-leaves, request-leaves, message-books}
-use Rattle.endpoint_invariant.proofs.Choices.{passes}
 
 updated : (f : ℕ) (s : Seen) → advantageUpdated f s .queued ≡ s .queued
 unfolding advantageUpdated localAdvantage
@@ -66,12 +64,9 @@ message-queues : (from count : ℕ) (w : Wire) (now epoch nonce n : ℕ) (s : Se
 unfolding messageStep reacted
 message-queues from count w now epoch nonce n s =
     let r : Reaction = onBody (w .body) count w now epoch nonce (heard now s) in
-    decided-both _ s _ (Queues n s) (refused-queues n s) (λ _.
-    silent-both (ignored from (w .magic) s) s _ (Queues n s) (refused-queues n s 0) (λ _.
-    decided-both _ s _ (Queues n s) (refused-queues n s) (λ z.
-    let l = passes (r .tooLong) 11 _ z in
-    done-queues n s (r .effect) (message-books count w now epoch nonce s)
-    (neither (r .storeFull) _ (passes _ 4 0 (passes (r .overflows) 5 _ (l .1) .1) .0) .1))))
+    tested-both _ s _ (Queues n s) (refused-queues n s) (λ _.
+    tested-both _ s _ (Queues n s) (refused-queues n s) (λ z.
+    done-queues n s (r .effect) (message-books count w now epoch nonce s) (neither (r .storeFull) _ (z .1 .1 .0) .1)))
 
 quiet : (n : ℕ) (s t : Seen) → t .queued ≡ s .queued → Queues n s (changed t)
 unfolding queueSize
@@ -99,11 +94,11 @@ queued-laid d b s fit w q =
     go (inr r) = r
 
 taken-refused : (buffer : ℕ) (s : Seen) → shortBuffer buffer s ≡ true → step (Call.takeMessages buffer) s ≡ refused 5 s
-unfolding step takeStep decided
+unfolding step takeStep tested
 taken-refused buffer s h = rw h
 
 taken-done : (buffer : ℕ) (s : Seen) → shortBuffer buffer s ≡ false → step (Call.takeMessages buffer) s ≡ changed (withQueued 0 s)
-unfolding step takeStep decided
+unfolding step takeStep tested
 taken-done buffer s h = rw h
 
 taken-laid : (buffer : ℕ) (b : List ℕ) (s : Seen) → s .queued ≤ length b → Laid (gone (Call.takeMessages buffer) b s) (step (Call.takeMessages buffer) s) b s
@@ -123,9 +118,7 @@ step-queues (Call.synchronize now epoch nonce buffer) n s =
     let e : Effect = synchronized now epoch nonce (begin s) in
     inr (
       λ _. refl,
-      decided-both _ s _ (Queues buffer s) (refused-queues buffer s) (λ z.
-          let f = passes _ 4 0 (passes (wrongState s) 1 _ (passes (badClocks now epoch) 7 _ z .1) .1) in
-          done-queues buffer s e (books (request-leaves now nonce _)) (neither (noncesFull nonce s) _ (f .0) .1)),
+      tested-both _ s _ (Queues buffer s) (refused-queues buffer s) (λ z. done-queues buffer s e (books (request-leaves now nonce _)) (neither (noncesFull nonce s) _ (z .1 .1 .0) .1)),
     )
 step-queues (Call.message from count w now epoch nonce buffer) n s = inr (λ _. refl, message-queues from count w now epoch nonce buffer s)
 step-queues (Call.datagram from bs now epoch nonce buffer) n s =
@@ -134,36 +127,30 @@ step-queues (Call.act count statuses now epoch nonce buffer) n s =
     let e : Effect = acted (s .phase) now epoch nonce statuses (begin s) in
     inr (
       λ _. refl,
-      decided-both _ s _ (Queues buffer s) (refused-queues buffer s) (λ z.
-          let f = passes _ 4 0 (passes (badStatuses count s) 2 _ (passes (badClocks now epoch) 7 _ z .1) .1) in
-          done-queues buffer s e (books (acted-leaves now (s .phase) epoch nonce statuses (begin s))) (neither (requestChoked (s .phase) now nonce s) _ (f .0) .1)),
+      tested-both _ s _ (Queues buffer s) (refused-queues buffer s) (λ z.
+          done-queues buffer s e (books (acted-leaves now (s .phase) epoch nonce statuses (begin s))) (neither (requestChoked (s .phase) now nonce s) _ (z .1 .1 .0) .1)),
     )
 step-queues (Call.sendInput frame bs count statuses now buffer) n s =
     let e : Effect = inputSent now frame bs statuses (begin s) in
     inr (
       λ _. refl,
-      decided-both _ s _ (Queues buffer s) (refused-queues buffer s) (λ _.
-          silent-both (not (isRunning (s .phase))) s _ (Queues buffer s) (refused-queues buffer s 0) (λ _.
-          decided-both _ s _ (Queues buffer s) (refused-queues buffer s) (λ z.
-          let f = passes _ 4 0 (passes (badFrame frame (s .carried .sender)) 3 _ z .1) in
-          done-queues buffer s e (books (sent-leaves now frame bs statuses (begin s))) (neither (pendingFull s) _ (f .0) .1)))),
+      tested-both _ s _ (Queues buffer s) (refused-queues buffer s) (λ z.
+          done-queues buffer s e (books (sent-leaves now frame bs statuses (begin s))) (neither (pendingFull s) _ (z .1 .1 .1 .1 .0) .1)),
     )
 step-queues (Call.disconnect now) n s =
     inr (
       λ _. refl,
-      decided-both _ s _ (Queues n s) (refused-queues n s) (λ _.
-          silent-both (isShutdown (s .phase)) s _ (Queues n s) (refused-queues n s 0) (λ _. quiet n s (withPhase Disconnected (shutdownAt (now + 5000) s)) refl)),
+      tested-both _ s _ (Queues n s) (refused-queues n s) (λ _. quiet n s (withPhase Disconnected (shutdownAt (now + 5000) s)) refl),
     )
 step-queues (Call.sendChecksumReport frame checksum now buffer) n s =
     inr (
       λ _. refl,
-      decided-both _ s _ (Queues buffer s) (refused-queues buffer s) (λ z.
-          done-queues buffer s (checksumSent now frame checksum (begin s)) refl (passes _ 4 0 (passes (badClock now) 7 _ z .1) .0)),
+      tested-both _ s _ (Queues buffer s) (refused-queues buffer s) (λ z. done-queues buffer s (checksumSent now frame checksum (begin s)) refl (z .1 .0)),
     )
 step-queues (Call.updateLocalFrameAdvantage f) n s =
-    inr (λ _. refl, decided-both _ s _ (Queues n s) (refused-queues n s) (λ _. quiet n s (advantageUpdated f s) (updated f s)))
-step-queues (Call.networkStats epoch) n s = inr (λ _. refl, decided-both _ s _ (Queues n s) (refused-queues n s) (λ _. quiet n s s refl))
-step-queues (Call.peerConnectStatus handle) n s = inr (λ _. refl, decided-both _ s _ (Queues n s) (refused-queues n s) (λ _. quiet n s s refl))
+    inr (λ _. refl, tested-both _ s _ (Queues n s) (refused-queues n s) (λ _. quiet n s (advantageUpdated f s) (updated f s)))
+step-queues (Call.networkStats epoch) n s = inr (λ _. refl, tested-both _ s _ (Queues n s) (refused-queues n s) (λ _. quiet n s s refl))
+step-queues (Call.peerConnectStatus handle) n s = inr (λ _. refl, tested-both _ s _ (Queues n s) (refused-queues n s) (λ _. quiet n s s refl))
 step-queues Call.takeEvents n s = inr (λ _. refl, quiet n s (withEvents [] s) refl)
 step-queues (Call.takeMessages buffer) n s = inl (buffer, refl)
 step-queues (Call.ask question) n s = inr (λ _. refl, quiet n s s refl)

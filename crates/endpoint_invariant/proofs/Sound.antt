@@ -1,6 +1,6 @@
 -- `new` gives what holds of every endpoint, and every call keeps it, whatever its arguments; what a call queues is never refused by the writer's 12.
 use borrow.Author.Tests.{leb-false, not-false}
-use mathlib.Core.Bool.{false, not, _||_}
+use mathlib.Core.Bool.{false}
 use mathlib.Core.List.{List, []}
 use mathlib.Core.Path.{_≡_, refl, _∙_}
 use Prim.Native.Nat.{ℕ, _+_, _^_, _≤_, _<_, min}
@@ -25,16 +25,16 @@ use Rattle.setup.specs.Setup.{badSetup, termsWith}
 use Rattle.setup.proofs.Laws.{setup-sound}
 use Rattle.timers.specs.Timers.{badClock, badClocks}
 use Rattle.endpoint_rules.specs.declared.Phase.the-variants.{Disconnected}
-use Rattle.endpoint_rules.specs.Seen.{Seen, made, isRunning, shutdownAt, isShutdown}
+use Rattle.endpoint_rules.specs.Seen.{Seen, made, shutdownAt}
 use Rattle.endpoint_rules.specs.Did.{begin}
 use Rattle.endpoint_rules.specs.Room.{isFull}
 use Rattle.endpoint_rules.specs.Handshake.{Reaction, noncesFull}
-use Rattle.endpoint_rules.specs.Sending.{badStatuses, badBytes, badFrame, pendingFull}
+use Rattle.endpoint_rules.specs.Sending.{badStatuses, pendingFull}
 use Rattle.endpoint_rules.specs.Act.{requestChoked}
 use Rattle.endpoint_rules.specs.Checksum.{checksumSent}
 use Rattle.endpoint_rules.specs.Advantage.{bothKnown, localAdvantage, advantageUpdated}
 use Rattle.endpoint_rules.specs.Call.{Call}
-use Rattle.endpoint_rules.specs.Step.{fresh, changed, wrongState, ignored, heard, onBody, synchronizeStep, messageStep, datagramStep, actStep, sendStep, disconnectStep, checksumStep, advantageStep, statsStep, statusStep, takeStep, step, reacted}
+use Rattle.endpoint_rules.specs.Step.{fresh, changed, heard, onBody, synchronizeStep, messageStep, datagramStep, actStep, sendStep, disconnectStep, checksumStep, advantageStep, statsStep, statusStep, takeStep, step, reacted}
 use Rattle.endpoint_invariant.specs.Each.{Each}
 use Rattle.endpoint_invariant.specs.Typed.{Typed, TypedWire, TypedSetup, TypedStatuses}
 use Rattle.endpoint_invariant.specs.Sound.{Sound}
@@ -44,7 +44,7 @@ use Rattle.endpoint_invariant.proofs.Fields.{made-clocks, made-quality,
 use Rattle.endpoint_invariant.proofs.Syncs.{made-sync}
 use Rattle.endpoint_invariant.proofs.Senders.{made-sender}
 use Rattle.endpoint_invariant.proofs.Receivers.{made-receiver, never-full}
-use Rattle.endpoint_invariant.proofs.Effects.{Keeps, begun, body-only-good, decided-keeps, done-keeps, silent-keeps}
+use Rattle.endpoint_invariant.proofs.Effects.{Keeps, begun, body-only-good, tested-keeps, decided-keeps, done-keeps}
 use Rattle.endpoint_invariant.proofs.Requests.{synchronized-good}
 use Rattle.endpoint_invariant.proofs.Hearing.{heard-good, body-good}
 use Rattle.endpoint_invariant.proofs.Acts.{closed-phase, acted-good, sent-good}
@@ -89,24 +89,19 @@ changed-keeps s h = record { after = h; out = tt }
 module _ (s : Seen) (h : Sound s) where
   synchronize-keeps : (now epoch nonce buffer : ℕ) → nonce < 2 ^ 32 → Keeps (synchronizeStep now epoch nonce buffer s)
   unfolding synchronizeStep
-  synchronize-keeps now epoch nonce buffer named = decided-keeps _ s _ h (λ z.
-      let c = passes (badClocks now epoch) 7 _ z in
-      let w = passes (wrongState s) 1 _ (c .1) in
-      let r = neither (noncesFull nonce s) _ (passes _ 4 0 (w .1) .0) in
-      let small = clocks-small now epoch (c .0) in
-      done-keeps buffer _ (r .1) (synchronized-good now nonce (small .0) named epoch s (small .1) h (not-false _ (w .0)) (r .0)))
+  synchronize-keeps now epoch nonce buffer named = tested-keeps _ s _ h (λ z.
+      let r = neither (noncesFull nonce s) _ (z .1 .1 .0) in
+      let small = clocks-small now epoch (z .0) in
+      done-keeps buffer _ (r .1) (synchronized-good now nonce (small .0) named epoch s (small .1) h (not-false _ (z .1 .0)) (r .0)))
 
   message-keeps : (from count : ℕ) (w : Wire) (now epoch nonce buffer : ℕ) → TypedWire w → nonce < 2 ^ 32 → Keeps (messageStep from count w now epoch nonce buffer s)
   unfolding messageStep reacted
-  message-keeps from count w now epoch nonce buffer t named = decided-keeps _ s _ h (λ z. silent-keeps (ignored from (w .magic) s) s _ h (λ _. decided-keeps _ s _ h (λ y.
+  message-keeps from count w now epoch nonce buffer t named = tested-keeps _ s _ h (λ z. tested-keeps _ s _ h (λ y.
       let r : Reaction = onBody (w .body) count w now epoch nonce (heard now s) in
-      let c = passes (badClocks now epoch) 7 _ z in
-      let l = passes (r .tooLong) 11 _ y in
-      let o = passes (r .overflows) 5 _ (l .1) in
-      let f = neither (r .storeFull) (isFull buffer (r .effect)) (passes _ 4 0 (o .1) .0) in
-      let small = clocks-small now epoch (c .0) in
+      let f = neither (r .storeFull) (isFull buffer (r .effect)) (y .1 .1 .0) in
+      let small = clocks-small now epoch (z .0) in
       done-keeps buffer (r .effect) (f .1)
-      (body-good now (small .0) (heard now s) (heard-good now s (small .0) h) epoch nonce (small .1) named count w t (w .body) (t .body) (f .0)))))
+      (body-good now (small .0) (heard now s) (heard-good now s (small .0) h) epoch nonce (small .1) named count w t (w .body) (t .body) (f .0))))
 
   -- what the reader gives is a message of the code's types
   datagram-typed : (bytes : List ℕ) → Bytes bytes → numberIn (datagram bytes) ≡ 0 → TypedWire (wireIn (datagram bytes))
@@ -120,42 +115,37 @@ module _ (s : Seen) (h : Sound s) where
 
   act-keeps : (count : ℕ) (statuses : List ConnectionStatus) (now epoch nonce buffer : ℕ) → TypedStatuses count statuses → nonce < 2 ^ 32 → Keeps (actStep count statuses now epoch nonce buffer s)
   unfolding actStep
-  act-keeps count statuses now epoch nonce buffer t named = decided-keeps _ s _ h (λ z.
-      let c = passes (badClocks now epoch) 7 _ z in
-      let b = passes (badStatuses count s) 2 _ (c .1) in
-      let r = neither (requestChoked (s .phase) now nonce s) _ (passes _ 4 0 (b .1) .0) in
-      let small = clocks-small now epoch (c .0) in
+  act-keeps count statuses now epoch nonce buffer t named = tested-keeps _ s _ h (λ z.
+      let r = neither (requestChoked (s .phase) now nonce s) _ (z .1 .1 .0) in
+      let small = clocks-small now epoch (z .0) in
       done-keeps buffer _ (r .1) (acted-good now statuses (small .0) (omega (arith, t .few)) (t .frames) epoch nonce (small .1) named s h (s .phase) refl (r .0)))
 
   send-keeps : (frame : ℕ) (bytes : List ℕ) (count : ℕ) (statuses : List ConnectionStatus) (now buffer : ℕ) → frame < 2 ^ 32 → Bytes bytes → TypedStatuses count statuses
       → Keeps (sendStep frame bytes count statuses now buffer s)
   unfolding sendStep
-  send-keeps frame bytes count statuses now buffer number are t = decided-keeps _ s _ h (λ z. silent-keeps (not (isRunning (s .phase))) s _ h (λ _. decided-keeps _ s _ h (λ y.
-      let c = passes (badClock now) 7 _ z in
-      let b = passes (badStatuses count s || badBytes bytes s) 2 _ (c .1) in
-      let f = passes (badFrame frame (s .carried .sender)) 3 _ y in
-      let r = neither (pendingFull s) _ (passes _ 4 0 (f .1) .0) in
-      done-keeps buffer _ (r .1)
-      (sent-good now statuses (leb-false (2 ^ 62) now (c .0)) (omega (arith, t .few)) (t .frames) frame bytes s number are h (neither (badStatuses count s) _ (b .0) .1) (f .0) (r .0)))))
+  send-keeps frame bytes count statuses now buffer number are t = tested-keeps _ s _ h (λ z.
+      let wide = neither (badStatuses count s) _ (z .1 .0) .1 in
+      let follows = z .1 .1 .1 .0 in
+      let r = neither (pendingFull s) _ (z .1 .1 .1 .1 .0) in
+      done-keeps buffer _ (r .1) (sent-good now statuses (leb-false (2 ^ 62) now (z .0)) (omega (arith, t .few)) (t .frames) frame bytes s number are h wide follows (r .0)))
 
   disconnect-keeps : (now : ℕ) → Keeps (disconnectStep now s)
   unfolding disconnectStep
-  disconnect-keeps now = decided-keeps _ s _ h (λ z. silent-keeps (isShutdown (s .phase)) s _ h (λ _.
-      let small = leb-false (2 ^ 62) now (passes (badClock now) 7 _ z .0) in
+  disconnect-keeps now = tested-keeps _ s _ h (λ z.
+      let small = leb-false (2 ^ 62) now (z .0) in
       changed-keeps _
-      (closed-phase (shutdownAt (now + 5000) s) (clocks-part s h _ (shutdown-clock (s .clocks) (h .clocks) (now + 5000) (omega arith))) Disconnected refl refl refl)))
+      (closed-phase (shutdownAt (now + 5000) s) (clocks-part s h _ (shutdown-clock (s .clocks) (h .clocks) (now + 5000) (omega arith))) Disconnected refl refl refl))
 
   checksum-keeps : (frame : ℕ) (checksum : Wide) (now buffer : ℕ) → frame < 2 ^ 32 → FitsWide checksum → Keeps (checksumStep frame checksum now buffer s)
   unfolding checksumStep checksumSent
-  checksum-keeps frame checksum now buffer number wide = decided-keeps _ s _ h (λ z.
-      let c = passes (badClock now) 7 _ z in
-      done-keeps buffer _ (passes _ 4 0 (c .1) .0) (body-only-good (begin s) (begun s h) now (leb-false (2 ^ 62) now (c .0)) (ChecksumReport checksum frame) (wide, number)))
+  checksum-keeps frame checksum now buffer number wide = tested-keeps _ s _ h (λ z.
+      done-keeps buffer _ (z .1 .0) (body-only-good (begin s) (begun s h) now (leb-false (2 ^ 62) now (z .0)) (ChecksumReport checksum frame) (wide, number)))
 
   advantage-keeps : (localFrame : ℕ) → Keeps (advantageStep localFrame s)
   unfolding advantageStep advantageUpdated localAdvantage
-  advantage-keeps localFrame = decided-keeps _ s _ h (λ z.
+  advantage-keeps localFrame = tested-keeps _ s _ h (λ z.
       by-pick (λ x. Keeps (changed x)) (bothKnown localFrame s) (localAdvantage localFrame s) s
-      (λ k. changed-keeps _ (quality-part s h _ (local-quality (s .quality) (h .quality) _ (advantage-below _ _ _ localFrame (and-none (bothKnown localFrame s) _ (passes _ 5 0 z .0) k)))))
+      (λ k. changed-keeps _ (quality-part s h _ (local-quality (s .quality) (h .quality) _ (advantage-below _ _ _ localFrame (and-none (bothKnown localFrame s) _ (z .0) k)))))
       (λ _. changed-keeps s h))
 
   pub step-keeps : (c : Call) → Typed c → Keeps (step c s)
@@ -169,10 +159,10 @@ module _ (s : Seen) (h : Sound s) where
   step-keeps (Call.disconnect now) t = disconnect-keeps now
   step-keeps (Call.sendChecksumReport frame checksum now buffer) t = checksum-keeps frame checksum now buffer (t .0) (t .1)
   step-keeps (Call.updateLocalFrameAdvantage localFrame) t = advantage-keeps localFrame
-  step-keeps (Call.networkStats epoch) t = decided-keeps _ s _ h (λ _. changed-keeps s h)
-  step-keeps (Call.peerConnectStatus handle) t = decided-keeps _ s _ h (λ _. changed-keeps s h)
+  step-keeps (Call.networkStats epoch) t = tested-keeps _ s _ h (λ _. changed-keeps s h)
+  step-keeps (Call.peerConnectStatus handle) t = tested-keeps _ s _ h (λ _. changed-keeps s h)
   step-keeps Call.takeEvents t = changed-keeps _ (events-part s h [] (omega arith))
-  step-keeps (Call.takeMessages buffer) t = decided-keeps _ s _ h (λ _. changed-keeps _ (queued-part s h 0))
+  step-keeps (Call.takeMessages buffer) t = tested-keeps _ s _ h (λ _. changed-keeps _ (queued-part s h 0))
   step-keeps (Call.ask question) t = changed-keeps s h
 
 pub step-sound : (c : Call) → Typed c → (s : Seen) → Sound s → Sound (step c s .after)

@@ -1,4 +1,4 @@
--- What holds of every endpoint that `new` made and calls brought on: `new` gives it and every call keeps it (laws `fresh-sound`, `step-sound`).
+-- What holds of every endpoint after every run of calls from `new` on: `new` gives it and every call keeps it (laws `fresh-sound`, `step-sound`).
 use mathlib.Core.Bool.{true, false, _||_}
 use mathlib.Core.List.{List, [], _∷_}
 use mathlib.Core.Path.{_≡_}

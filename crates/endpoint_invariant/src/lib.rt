@@ -1,1 +1,1 @@
-// What holds of every endpoint that `new` made and calls brought on, and that it does: definitions and laws; no code.
+// What holds of every endpoint after every run of calls from `new` on, and the proof of it: definitions and laws; no code.

@@ -1,7 +1,7 @@
 -- The public statements can be met: a version that does what `step` says, with the endpoint written anew from what is seen of it. So the laws that rule versions out
 -- do not hold for want of any version.
 use borrow.Author.Tests.{eqb-true, eqb-false}
-use mathlib.Core.Bool.{Bool, true, false, not, _||_}
+use mathlib.Core.Bool.{Bool, true, false}
 use mathlib.Core.List.{List, [], _∷_}
 use mathlib.Core.Path.{_≡_, refl, sym}
 use native.Mathlib.Omega.{arith}
@@ -29,21 +29,17 @@ use Rattle.nonces.specs.Nonces.{outstanding}
 use Rattle.checksums.specs.Checksums.{stored}
 use Rattle.events.specs.Events.{heldEvents}
 use Rattle.setup.specs.Setup.{handleList, badSetup, termsWith}
-use Rattle.timers.specs.Timers.{badClock, badClocks}
+use Rattle.timers.specs.Timers.{badClock}
 use Rattle.setup.specs.declared.Setup.{Setup}
-use Rattle.endpoint_rules.specs.Seen.{Seen, isRunning, isShutdown}
-use Rattle.endpoint_rules.specs.Did.{Did, refused, decided, silentIf, begin, done}
-use Rattle.endpoint_rules.specs.Room.{isFull}
-use Rattle.endpoint_rules.specs.Handshake.{noncesFull, synchronized}
-use Rattle.endpoint_rules.specs.Sending.{newest, badFrame, badStatuses, badBytes, pendingFull, inputSent}
-use Rattle.endpoint_rules.specs.Act.{acted, requestChoked}
-use Rattle.endpoint_rules.specs.Reports.{notSynchronized, notEnoughData, statsOf}
-use Rattle.endpoint_rules.specs.Checksum.{checksumSent}
-use Rattle.endpoint_rules.specs.Advantage.{localOverflows}
+use Rattle.endpoint_rules.specs.Seen.{Seen, isRunning}
+use Rattle.endpoint_rules.specs.Did.{Did, Verdict, refused, stopped, tested, decided, done}
+use Rattle.endpoint_rules.specs.Did.Verdict.{refuse, ignore}
+use Rattle.endpoint_rules.specs.Sending.{newest}
+use Rattle.endpoint_rules.specs.Reports.{statsOf}
 use Rattle.endpoint_rules.specs.Call.{Call}
 use Rattle.endpoint_rules.specs.Value.{Value, valueOf, synchronizedIn, handedBack}
-use Rattle.endpoint_rules.specs.Step.{fresh, badHandle, wrongState, ignored, heard, onBody, reactionRefusals, shortBuffer, synchronizeStep, messageStep, datagramStep, actStep, sendStep, disconnectStep, checksumStep, advantageStep, takeStep, statsStep, statusStep, step, reacted}
-use Rattle.endpoint_rules.proofs.Decided.{by-decided, silent-both}
+use Rattle.endpoint_rules.specs.Step.{fresh, badHandle, synchronizeStep, messageStep, datagramStep, actStep, sendStep, disconnectStep, checksumStep, advantageStep, takeStep, statsStep, statusStep, step, reacted}
+use Rattle.endpoint_rules.proofs.Tested.{EachStops, by-tests, by-decided}
 use Rattle.endpoint.specs.declared.Endpoint.{Endpoint}
 use Rattle.endpoint.specs.declared.Ended.{Ended}
 use Rattle.endpoint.specs.declared.getters.StatusResult.{StatusResult}
@@ -107,26 +103,29 @@ proper-decided : (n : ℕ) (s : Seen) (d : Did) → n ≤ 17 → Proper s d → 
 unfolding refused
 proper-decided n s d f p = by-decided n s d (Proper s) (λ _. p) (λ _. record { bound = f; keeps = λ _. refl })
 
-proper-silent : (b : Bool) (s : Seen) (d : Did) → Proper s d → Proper s (silentIf b s d)
-unfolding refused
-proper-silent b s d p = silent-both b s d (Proper s) (record { bound = omega arith; keeps = λ _. refl }) (λ _. p)
+-- the numbers of a call's tests are among the table's
+abbrev Fine : Verdict → Type 0
+Fine (refuse n) = n ≤ 17
+Fine ignore = Unit {0}
 
-abbrev AllFine : List (Bool × ℕ) → Type 0
+abbrev AllFine : List (Bool × Verdict) → Type 0
 AllFine [] = Unit {0}
-AllFine (t ∷ ts) = (t .1 ≤ 17) × AllFine ts
+AllFine (t ∷ ts) = Fine (t .1) × AllFine ts
 
-first-fine : (l : List (Bool × ℕ)) → AllFine l → firstOf l ≤ 17
-first-fine [] h = omega arith
-first-fine (t ∷ ts) h = go (t .0) (first-fine ts (h .1))
+proper-tests : (l : List (Bool × Verdict)) (s : Seen) (d : Did) → AllFine l → Proper s d → Proper s (tested l s d)
+unfolding refused
+proper-tests l s d h p = by-tests l s d (Proper s) (each l h) (λ _. p)
   where
-    go : (b : Bool) → firstOf ts ≤ 17 → pick b (t .1) (firstOf ts) ≤ 17
-    go true r = h .0
-    go false r = r
+    one : (v : Verdict) → Fine v → Proper s (stopped v s)
+    one (refuse n) f = record { bound = f; keeps = λ _. refl }
+    one ignore f = record { bound = omega arith; keeps = λ _. refl }
 
-proper-tests : (l : List (Bool × ℕ)) (s : Seen) (d : Did) → AllFine l → Proper s d → Proper s (decided (firstOf l) s d)
-proper-tests l s d h p = proper-decided (firstOf l) s d (first-fine l h) p
+    each : (m : List (Bool × Verdict)) → AllFine m → EachStops (Proper s) s m
+    each [] f = tt
+    each (t ∷ m) f = (λ _. one (t .1) (f .0), each m (f .1))
 
-proper-first : (l : List (Bool × ℕ)) (s : Seen) (d : Did) → AllFine l → d .answer ≡ 0 → Proper s (decided (firstOf l) s d)
+-- where none holds, the call is done
+proper-first : (l : List (Bool × Verdict)) (s : Seen) (d : Did) → AllFine l → d .answer ≡ 0 → Proper s (tested l s d)
 proper-first l s d h e = proper-tests l s d h (zero-proper s d e)
 
 module _ (s : Seen) where
@@ -135,14 +134,11 @@ module _ (s : Seen) where
 
   synchronize-proper : (now epoch nonce buffer : ℕ) → Goes (Call.synchronize now epoch nonce buffer)
   unfolding step synchronizeStep done
-  synchronize-proper now epoch nonce buffer =
-      proper-first ((badClocks now epoch, 8) ∷ (wrongState s, 2) ∷ (noncesFull nonce s || isFull buffer (synchronized now epoch nonce (begin s)), 5) ∷ []) s _ (omega arith, (omega arith, (omega arith, tt))) refl
+  synchronize-proper now epoch nonce buffer = proper-first _ s _ (omega arith, (omega arith, (omega arith, tt))) refl
 
   message-goes : (from count : ℕ) (w : Wire) (now epoch nonce buffer : ℕ) → Proper s (messageStep from count w now epoch nonce buffer s)
   unfolding messageStep reacted done
-  message-goes from count w now epoch nonce buffer =
-      proper-tests ((badClocks now epoch, 8) ∷ []) s _ (omega arith, tt) (proper-silent (ignored from (w .magic) s) s _
-      (proper-first (reactionRefusals buffer (onBody (w .body) count w now epoch nonce (heard now s))) s _ (omega arith, (omega arith, (omega arith, tt))) refl))
+  message-goes from count w now epoch nonce buffer = proper-tests _ s _ (omega arith, (tt, tt)) (proper-first _ s _ (omega arith, (omega arith, (omega arith, tt))) refl)
 
   message-proper : (from count : ℕ) (w : Wire) (now epoch nonce buffer : ℕ) → Goes (Call.message from count w now epoch nonce buffer)
   unfolding step
@@ -158,39 +154,31 @@ module _ (s : Seen) where
 
   act-proper : (count : ℕ) (statuses : List ConnectionStatus) (now epoch nonce buffer : ℕ) → Goes (Call.act count statuses now epoch nonce buffer)
   unfolding step actStep done
-  act-proper count statuses now epoch nonce buffer =
-      proper-first ((badClocks now epoch, 8) ∷ (badStatuses count s, 3) ∷ (requestChoked (s .phase) now nonce s || isFull buffer (acted (s .phase) now epoch nonce statuses (begin s)), 5) ∷ []) s _ (omega arith, (omega arith, (omega arith, tt))) refl
+  act-proper count statuses now epoch nonce buffer = proper-first _ s _ (omega arith, (omega arith, (omega arith, tt))) refl
 
   send-proper : (frame : ℕ) (bytes : List ℕ) (count : ℕ) (statuses : List ConnectionStatus) (now buffer : ℕ) → Goes (Call.sendInput frame bytes count statuses now buffer)
   unfolding step sendStep done
-  send-proper frame bytes count statuses now buffer =
-      proper-tests ((badClock now, 8) ∷ (badStatuses count s || badBytes bytes s, 3) ∷ []) s _ (omega arith, (omega arith, tt)) (proper-silent (not (isRunning (s .phase))) s _
-      (proper-first ((badFrame frame (s .carried .sender), 4) ∷ (pendingFull s || isFull buffer (inputSent now frame bytes statuses (begin s)), 5) ∷ []) s _ (omega arith, (omega arith, tt)) refl))
+  send-proper frame bytes count statuses now buffer = proper-first _ s _ (omega arith, (omega arith, (tt, (omega arith, (omega arith, tt))))) refl
 
   disconnect-proper : (now : ℕ) → Goes (Call.disconnect now)
   unfolding step disconnectStep
-  disconnect-proper now =
-      proper-tests ((badClock now, 8) ∷ []) s _ (omega arith, tt) (proper-silent (isShutdown (s .phase)) s _ (zero-proper s _ refl))
+  disconnect-proper now = proper-first _ s _ (omega arith, (tt, tt)) refl
 
   checksum-proper : (frame : ℕ) (checksum : Wide) (now buffer : ℕ) → Goes (Call.sendChecksumReport frame checksum now buffer)
   unfolding step checksumStep done
-  checksum-proper frame checksum now buffer =
-      proper-first ((badClock now, 8) ∷ (isFull buffer (checksumSent now frame checksum (begin s)), 5) ∷ []) s _ (omega arith, (omega arith, tt)) refl
+  checksum-proper frame checksum now buffer = proper-first _ s _ (omega arith, (omega arith, tt)) refl
 
   advantage-proper : (local : ℕ) → Goes (Call.updateLocalFrameAdvantage local)
   unfolding step advantageStep
-  advantage-proper local =
-      proper-first ((localOverflows local s, 6) ∷ []) s _ (omega arith, tt) refl
+  advantage-proper local = proper-first _ s _ (omega arith, tt) refl
 
   take-proper : (buffer : ℕ) → Goes (Call.takeMessages buffer)
   unfolding step takeStep
-  take-proper buffer =
-      proper-first ((shortBuffer buffer s, 5) ∷ []) s _ (omega arith, tt) refl
+  take-proper buffer = proper-first _ s _ (omega arith, tt) refl
 
   stats-proper : (epoch : ℕ) → Goes (Call.networkStats epoch)
   unfolding step statsStep
-  stats-proper epoch =
-      proper-first ((badClock epoch, 8) ∷ (notSynchronized s, 14) ∷ (notEnoughData epoch s, 15) ∷ []) s _ (omega arith, (omega arith, (omega arith, tt))) refl
+  stats-proper epoch = proper-first _ s _ (omega arith, (omega arith, (omega arith, tt))) refl
 
 -- ---- a call that is answered so
 
@@ -260,7 +248,7 @@ stats-shown e epoch = go (eqb n 0) refl
     go false h = rw (number-back n (stats-proper (seen e) epoch .bound))
 
 status-shown : (e : Endpoint) (handle : ℕ) → shownStatus (right .«peer_connect_status» e handle) ≡ shown (Call.peerConnectStatus handle) (seen e)
-unfolding shown valueOf step statusStep decided refused
+unfolding shown valueOf step statusStep tested refused
 status-shown e handle = go (badHandle handle (seen e)) refl
   where
     go : (b : Bool) → badHandle handle (seen e) ≡ b

@@ -1,32 +1,29 @@
 -- What the calls do to the replies still to come: a reply counts as one or not at all, and nothing else does. What three calls add to the queue, or leave in it.
-use mathlib.Core.Bool.{Bool, true, false, _||_, and-false, not}
-use mathlib.Core.List.{List, [], _∷_}
+use mathlib.Core.Bool.{Bool, true, false, and-false}
+use mathlib.Core.List.{List}
 use mathlib.Core.Logic.{_⊎_, inl, inr}
-use mathlib.Core.Path.{_≡_, refl, _∙_, sym, ap}
+use mathlib.Core.Path.{_≡_, refl, _∙_}
 use native.Mathlib.Omega.{arith}
 use Prim.Native.Nat.{ℕ, _+_, _-_, _<_}
 use lib.Dec.{ltb}
 use lib.ListN.{length}
 use Rattle.base.specs.Pick.{pick}
-use Rattle.base.specs.First.{firstOf}
 use Rattle.nonces.specs.Nonces.{isOutstanding}
 use Rattle.status.specs.Statuses.{heldStatuses}
 use Rattle.codec.specs.Message.{Wire}
 use Rattle.codec.specs.declared.Wide.{Wide}
 use Rattle.codec.specs.declared.MessageBody.the-variants.{SyncReply}
-use Rattle.timers.specs.Timers.{badClock, badClocks}
 use Rattle.outbox.specs.Outbox.{queueSize}
-use Rattle.endpoint_rules.specs.Seen.{Seen, isSynchronizing, withQueued, isShutdown, isRunning}
-use Rattle.endpoint_rules.specs.Did.{Did, Effect, refused, decided, silentIf, begin, queueWire, done}
-use Rattle.endpoint_rules.specs.Room.{isFull}
-use Rattle.endpoint_rules.specs.Handshake.{Reaction, noncesFull, nonceIssued, request, started, synchronized, counted, running, replied, onSyncReply}
+use Rattle.endpoint_rules.specs.Seen.{Seen, isSynchronizing, withQueued}
+use Rattle.endpoint_rules.specs.Did.{Did, Effect, Verdict, refused, tested, begin, queueWire, done}
+use Rattle.endpoint_rules.specs.Handshake.{nonceIssued, request, started, synchronized, counted, running, replied, onSyncReply}
 use Rattle.endpoint_rules.specs.Handshake as Handshake
 use Rattle.endpoint_rules.specs.Checksum.{checksumSent}
 use Rattle.endpoint_rules.specs.Advantage.{localAdvantage, advantageUpdated, bothKnown}
 use Rattle.endpoint_rules.specs.Call.{Call}
-use Rattle.endpoint_rules.specs.Step.{wrongState, synchronizeStep, ignored, heard, onBody, messageStep, datagramStep, actStep, sendStep, disconnectStep, checksumStep, advantageStep, takeStep, statsStep, statusStep, step, changed, shortBuffer, reactionRefusals, reacted}
-use Rattle.endpoint_rules.proofs.Decided.{decided-both, decided-done, silent-both}
-use Rattle.endpoint_rules.proofs.Laws.{by-hearing}
+use Rattle.endpoint_rules.specs.Step.{synchronizeStep, ignored, heard, onBody, messageStep, datagramStep, actStep, sendStep, disconnectStep, checksumStep, advantageStep, takeStep, statsStep, statusStep, step, changed, reacted}
+use Rattle.endpoint_rules.proofs.Tested.{tested-both, tested-done, decided-both}
+use Rattle.endpoint_rules.proofs.Laws.{message-done, by-hearing}
 use Rattle.endpoint_invariant.proofs.Leaves.{Leaves, Reply, counts, acted-leaves, sent-leaves, heard-leaves, body-leaves}
 use Rattle.endpoint_ruled_out.specs.Unusable.{Asked, callOf, functionOf}
 
@@ -38,14 +35,9 @@ Calm s d = d .after .sync .remaining ≡ s .sync .remaining
 abbrev pub CountsOne : Seen → Did → Type 0
 CountsOne s d = Calm s d ⊎ (d .after .sync .remaining ≡ s .sync .remaining - 1)
 
-calmly : (n : ℕ) (s : Seen) (d : Did) → Calm s d → Calm s (decided n s d)
+calmly : (ts : List (Bool × Verdict)) (s : Seen) (d : Did) → Calm s d → Calm s (tested ts s d)
 unfolding refused
-calmly n s d h = decided-both n s d (Calm s) (λ _. refl) (λ _. h)
-
--- the same of a call that may return silently
-calm-too : (n m : ℕ) (b : Bool) (s : Seen) (d : Did) → Calm s d → Calm s (decided n s (silentIf b s (decided m s d)))
-unfolding refused
-calm-too n m b s d h = calmly n s _ (silent-both b s (decided m s d) (Calm s) refl (λ _. calmly m s d h))
+calmly ts s d h = tested-both ts s d (Calm s) (λ _. refl) (λ _. h)
 
 -- ---- calls that are none of a handshake
 pub idle-calm : (c : Asked) (s : Seen) → 2 < functionOf c → Calm s (step (callOf c) s)
@@ -54,8 +46,8 @@ idle-calm (Asked.synchronize now epoch nonce out) s h = absurd (omega arith)
 idle-calm (Asked.message from m payload now epoch nonce out) s h = absurd (omega arith)
 idle-calm (Asked.datagram from d are now epoch nonce out) s h = absurd (omega arith)
 idle-calm (Asked.act statuses now epoch nonce out) s h = calmly _ s _ (counts (acted-leaves now (s .phase) epoch nonce (heldStatuses statuses) (begin s)))
-idle-calm (Asked.sendInput frame bytes statuses now out) s h = calm-too _ _ (not (isRunning (s .phase))) s _ (counts (sent-leaves now frame bytes (heldStatuses statuses) (begin s)))
-idle-calm (Asked.disconnect now) s h = calmly _ s _ (silent-both (isShutdown (s .phase)) s _ (Calm s) refl (λ _. refl))
+idle-calm (Asked.sendInput frame bytes statuses now out) s h = calmly _ s _ (counts (sent-leaves now frame bytes (heldStatuses statuses) (begin s)))
+idle-calm (Asked.disconnect now) s h = calmly _ s _ refl
 idle-calm (Asked.sendChecksumReport frame checksum now out) s h = calmly _ s _ refl
 idle-calm (Asked.updateLocalFrameAdvantage local) s h = calmly _ s _ (go (bothKnown local s))
   where
@@ -100,8 +92,8 @@ module _ (s : Seen) where
     pub message-counts : CountsOne s (messageStep from count w now epoch nonce buffer s)
     unfolding messageStep reacted onBody done refused
     message-counts =
-        decided-both _ s _ (CountsOne s) (λ _. inl refl) (λ _. silent-both (ignored from (w .magic) s) s _ (CountsOne s) (inl refl) (λ _.
-        decided-both _ s _ (CountsOne s) (λ _. inl refl) (λ _. go (body-leaves (w .body) count w now epoch nonce (heard now s)))))
+        tested-both _ s _ (CountsOne s) (λ _. inl refl) (λ _.
+        tested-both _ s _ (CountsOne s) (λ _. inl refl) (λ _. go (body-leaves (w .body) count w now epoch nonce (heard now s))))
       where
         go : Reply (w .body) ⊎ Leaves (heard now s) Hears → CountsOne s (done Hears)
         go (inl r) = rw (r .1) (simp (counts (heard-leaves now s)) at (reply-counts now nonce (w .magic) (r .0) (heard now s)))
@@ -109,7 +101,7 @@ module _ (s : Seen) where
 
     pub other-message : ((reply : ℕ) → w .body ≡ SyncReply reply → ⊥) → Calm s (messageStep from count w now epoch nonce buffer s)
     unfolding messageStep reacted done
-    other-message h = calm-too _ _ (ignored from (w .magic) s) s _ (go (body-leaves (w .body) count w now epoch nonce (heard now s)))
+    other-message h = calmly _ s _ (calmly _ s _ (go (body-leaves (w .body) count w now epoch nonce (heard now s))))
       where
         go : Reply (w .body) ⊎ Leaves (heard now s) Hears → Calm s (done Hears)
         go (inl r) = absurd (h (r .0) (r .1))
@@ -117,7 +109,7 @@ module _ (s : Seen) where
 
     pub unasked-reply : (reply : ℕ) → w .body ≡ SyncReply reply → isOutstanding reply (s .sync .nonces) ≡ false → Calm s (messageStep from count w now epoch nonce buffer s)
     unfolding messageStep reacted onBody done
-    unasked-reply reply b h = calm-too _ _ (ignored from (w .magic) s) s _ (rw b (unasked-calm now nonce (w .magic) reply (heard now s) (heard-nonces ∙ h) ∙ counts (heard-leaves now s)))
+    unasked-reply reply b h = calmly _ s _ (calmly _ s _ (rw b (unasked-calm now nonce (w .magic) reply (heard now s) (heard-nonces ∙ h) ∙ counts (heard-leaves now s))))
       where
         heard-nonces : isOutstanding reply (heard now s .state .sync .nonces) ≡ isOutstanding reply (s .sync .nonces)
         heard-nonces = by-hearing now s (λ e. isOutstanding reply (e .state .sync .nonces) ≡ isOutstanding reply (s .sync .nonces)) (λ f events. refl)
@@ -125,15 +117,9 @@ module _ (s : Seen) where
     -- a reply that is heeded, in Synchronizing and with its nonce outstanding, counts
     pub asked-reply : (reply : ℕ) → w .body ≡ SyncReply reply → isSynchronizing (s .phase) ≡ true → isOutstanding reply (s .sync .nonces) ≡ true → ignored from (w .magic) s ≡ false
         → messageStep from count w now epoch nonce buffer s .answer ≡ 0 → messageStep from count w now epoch nonce buffer s .after .sync .remaining ≡ s .sync .remaining - 1
-    unfolding messageStep reacted onBody onSyncReply done
+    unfolding onBody onSyncReply done
     asked-reply reply b p o i h =
-        let r : Reaction = onBody (w .body) count w now epoch nonce (heard now s) in
-        let first : ℕ = firstOf ((badClocks now epoch, 8) ∷ []) in
-        let then : ℕ = firstOf (reactionRefusals buffer r) in
-        let f : decided first s (silentIf (ignored from (w .magic) s) s (decided then s (done (r .effect)))) ≡ decided then s (done (r .effect)) =
-        rw i (decided-done first s (decided then s (done (r .effect))) (rw i at h)) in
-        let e : decided first s (silentIf (ignored from (w .magic) s) s (decided then s (done (r .effect)))) ≡ done (r .effect) =
-        f ∙ decided-done then s (done (r .effect)) (ap (λ (x : Did). x .answer) (sym f) ∙ h) in
+        let e = message-done from count w now epoch nonce buffer s i h in
         let c : Handshake.counts reply (heard now s .state) ≡ true = by-hearing now s (λ e. Handshake.counts reply (e .state) ≡ true) (λ f events. rw (p, o)) in
         rw (e, b, c) (replied-one now nonce (w .magic) reply (heard now s) (ltb 1 (heard now s .state .sync .remaining)) ∙ rw (counts (heard-leaves now s)))
 
@@ -142,37 +128,25 @@ module _ (s : Seen) where
   unfolding datagramStep refused
   datagram-counts from bytes now epoch nonce buffer = decided-both _ s _ (CountsOne s) (λ _. inl refl) (λ _. message-counts from _ _ now epoch nonce buffer)
 
-  -- ---- done: a call whose number is 0, and which has no silent return
+  -- ---- done: a call whose number is 0, and which is never ignored
 
   -- a handshake begins: five replies are to come, and the ten bytes of a request are queued
   pub begins : (now epoch nonce buffer : ℕ) → step (Call.synchronize now epoch nonce buffer) s .answer ≡ 0
       → (step (Call.synchronize now epoch nonce buffer) s .after .sync .remaining ≡ 5) × (step (Call.synchronize now epoch nonce buffer) s .after .queued ≡ s .queued + 10)
   unfolding step synchronizeStep synchronized started request nonceIssued queueWire done queueSize
   begins now epoch nonce buffer h =
-      let d : Did = done (synchronized now epoch nonce (begin s)) in
-      let choked : Bool = noncesFull nonce s || isFull buffer (synchronized now epoch nonce (begin s)) in
-      let l : List (Bool × ℕ) = (badClocks now epoch, 8) ∷ (wrongState s, 2) ∷ (choked, 5) ∷ [] in
-      let e : decided (firstOf l) s d ≡ d = decided-done (firstOf l) s d h in
-      rw e (refl, refl)
+      rw (tested-done _ s (done (synchronized now epoch nonce (begin s))) (omega arith, (omega arith, (omega arith, tt))) h) (refl, refl)
 
   -- a checksum report queues its 26 bytes
   pub reports : (frame : ℕ) (checksum : Wide) (now buffer : ℕ) → step (Call.sendChecksumReport frame checksum now buffer) s .answer ≡ 0
       → step (Call.sendChecksumReport frame checksum now buffer) s .after .queued ≡ s .queued + 26
   unfolding step checksumStep checksumSent queueWire done queueSize
-  reports frame checksum now buffer h =
-      let f : Effect = checksumSent now frame checksum (begin s) in
-      let l : List (Bool × ℕ) = (badClock now, 8) ∷ (isFull buffer f, 5) ∷ [] in
-      let e : decided (firstOf l) s (done f) ≡ done f = decided-done (firstOf l) s (done f) h in
-      rw e refl
+  reports frame checksum now buffer h = rw (tested-done _ s (done (checksumSent now frame checksum (begin s))) (omega arith, (omega arith, tt)) h) refl
 
   -- taken messages leave nothing
   pub takes-all : (buffer : ℕ) → step (Call.takeMessages buffer) s .answer ≡ 0 → step (Call.takeMessages buffer) s .after .queued ≡ 0
   unfolding step takeStep
-  takes-all buffer h =
-      let l : List (Bool × ℕ) = (shortBuffer buffer s, 5) ∷ [] in
-      let d : Did = changed (withQueued 0 s) in
-      let e : decided (firstOf l) s d ≡ d = decided-done (firstOf l) s d h in
-      rw e refl
+  takes-all buffer h = rw (tested-done _ s (changed (withQueued 0 s)) (omega arith, tt) h) refl
 
 -- every call but the one that begins a handshake
 pub one-counts : (c : Asked) (s : Seen) → 0 < functionOf c → CountsOne s (step (callOf c) s)

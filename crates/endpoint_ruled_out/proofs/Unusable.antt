@@ -26,7 +26,7 @@ use Rattle.codec.specs.declared.MessageBody.the-variants.{Input}
 use Rattle.codec.proofs.Meant.{input-is, meant-input, meant-magic, meant-body}
 use Rattle.codec.proofs.Octets.{bytes-bytes}
 use Rattle.endpoint_rules.specs.Seen.{Seen, made}
-use Rattle.endpoint_rules.specs.Did.{refused, decided, queueWire, done}
+use Rattle.endpoint_rules.specs.Did.{refused, tested, queueWire, done}
 use Rattle.endpoint_rules.specs.Room.{bufferFull, isFull}
 use Rattle.endpoint_rules.specs.Sending.{newest, droppedTo, acknowledged}
 use Rattle.endpoint_rules.specs.Receiving.{taken, receivedIf, receive, discarded, packetOverflows, statusesMerged, informed, inputsReceived, inputTaken, inputUnless, onInput}
@@ -34,7 +34,7 @@ use Rattle.endpoint_rules.specs.Call.{Call}
 use Rattle.endpoint_rules.specs.Step.{fresh, ignored, resumed, heard, onBody, reacted, messageStep, disconnectStep, statsStep, statusStep, step}
 use Rattle.endpoint_rules.proofs.Bouts.{setupWith, setup-taken, new, fr, wire, none, P3, P5}
 use Rattle.endpoint_rules.proofs.Datagrams.{bytes-message}
-use Rattle.endpoint_rules.proofs.Decided.{decided-both}
+use Rattle.endpoint_rules.proofs.Tested.{tested-both}
 use Rattle.endpoint_invariant.proofs.Queue.{step-queues}
 use Rattle.endpoint.specs.declared.Endpoint.{Endpoint}
 use Rattle.endpoint.specs.Endpoint.{seen}
@@ -44,15 +44,15 @@ use Rattle.endpoint_ruled_out.proofs.Steps.{idle-calm, one-counts, othe
 
 -- a disconnect of a new endpoint is done at clock 0 and sets the shutdown time; it is refused at a clock above the ceiling
 done-at-0 : step (Call.disconnect 0) new .answer ≡ 0
-unfolding decided step disconnectStep fresh made
+unfolding tested step disconnectStep fresh made
 done-at-0 = refl
 
 times-at-0 : step (Call.disconnect 0) new .after .clocks .«shutdown_timeout» ≡ 5000
-unfolding decided step disconnectStep fresh made
+unfolding tested step disconnectStep fresh made
 times-at-0 = refl
 
 refused-late : step (Call.disconnect (2 ^ 62)) new .answer ≡ 8
-unfolding refused decided step disconnectStep
+unfolding refused tested step disconnectStep
 refused-late = refl
 
 made-at : new .clocks .«shutdown_timeout» ≡ 1000
@@ -93,11 +93,11 @@ abbrev received : Seen
 received = step P3 new .after
 
 newest-one : newest received ≡ fr 1
-unfolding kept has without xors framesOf unpack pack decodableLength decodable zeros padded dropTo lastTo room blankFrame highest newestOf foundIn atLine above numbered packetOf takenIn issued fits defaultStatus reported merged mergedAll defaultStatuses hasRoom inputOf inputEntry announced badSetup anyAbove anyTwice inserted sorted termsWith made refused decided queueWire queueSize done bufferFull isFull droppedTo acknowledged referenceFrame taken receivedIf receive announcedEach discarded packetOverflows statusesMerged informed inputsReceived inputTaken inputUnless onInput fresh ignored resumed heard onBody reacted messageStep step
+unfolding kept has without xors framesOf unpack pack decodableLength decodable zeros padded dropTo lastTo room blankFrame highest newestOf foundIn atLine above numbered packetOf takenIn issued fits defaultStatus reported merged mergedAll defaultStatuses hasRoom inputOf inputEntry announced badSetup anyAbove anyTwice inserted sorted termsWith made refused tested queueWire queueSize done bufferFull isFull droppedTo acknowledged referenceFrame taken receivedIf receive announcedEach discarded packetOverflows statusesMerged informed inputsReceived inputTaken inputUnless onInput fresh ignored resumed heard onBody reacted messageStep step
 newest-one = refl
 
 newest-two : newest (step P5 received .after) ≡ fr 2
-unfolding kept has without xors framesOf unpack pack decodableLength decodable zeros padded dropTo lastTo room blankFrame highest newestOf foundIn atLine above numbered packetOf takenIn issued fits defaultStatus reported merged mergedAll defaultStatuses hasRoom inputOf inputEntry announced badSetup anyAbove anyTwice inserted sorted termsWith made refused decided queueWire queueSize done bufferFull isFull droppedTo acknowledged referenceFrame taken receivedIf receive announcedEach discarded packetOverflows statusesMerged informed inputsReceived inputTaken inputUnless onInput fresh ignored resumed heard onBody reacted messageStep step
+unfolding kept has without xors framesOf unpack pack decodableLength decodable zeros padded dropTo lastTo room blankFrame highest newestOf foundIn atLine above numbered packetOf takenIn issued fits defaultStatus reported merged mergedAll defaultStatuses hasRoom inputOf inputEntry announced badSetup anyAbove anyTwice inserted sorted termsWith made refused tested queueWire queueSize done bufferFull isFull droppedTo acknowledged referenceFrame taken receivedIf receive announcedEach discarded packetOverflows statusesMerged informed inputsReceived inputTaken inputUnless onInput fresh ignored resumed heard onBody reacted messageStep step
 newest-two = refl
 
 -- the packets as values, their reports in an array of four
@@ -211,8 +211,8 @@ module _ (v : Version) (m : Meets v) where
   after-seen e (Asked.sendChecksumReport frame checksum now out) = m .«send_checksum_report» e frame checksum now out .after
   after-seen e (Asked.updateLocalFrameAdvantage local) = m .«update_local_frame_advantage» e local .after
   after-seen e (Asked.takeMessages out) = m .«take_messages» e out .after
-  after-seen e (Asked.networkStats epoch) = decided-both _ (seen e) _ (λ d. seen e ≡ d .after) (λ _. refl) (λ _. refl)
-  after-seen e (Asked.peerConnectStatus handle) = decided-both _ (seen e) _ (λ d. seen e ≡ d .after) (λ _. refl) (λ _. refl)
+  after-seen e (Asked.networkStats epoch) = tested-both _ (seen e) _ (λ d. seen e ≡ d .after) (λ _. refl) (λ _. refl)
+  after-seen e (Asked.peerConnectStatus handle) = tested-both _ (seen e) _ (λ d. seen e ≡ d .after) (λ _. refl) (λ _. refl)
   after-seen e (Asked.takeMessagesInto out into) = m .«take_messages_into» e out into .taken .after
 
   idle-count : (e : Endpoint) (c : Asked) → 2 < functionOf c → toCome (endpointAfter v e c) ≡ toCome e

@@ -27,7 +27,7 @@ use Rattle.setup.specs.declared.DesyncDetection.the-variants.{Off}
 use Rattle.setup.specs.Setup.{badSetup, anyAbove, anyTwice, inserted, sorted, termsWith}
 use Rattle.endpoint_rules.specs.Seen.{Seen, withClocks, made}
 use Rattle.outbox.specs.Outbox.{queueSize}
-use Rattle.endpoint_rules.specs.Did.{Did, refused, decided, queueWire, done}
+use Rattle.endpoint_rules.specs.Did.{Did, refused, tested, queueWire, done}
 use Rattle.endpoint_rules.specs.Room.{bufferFull, isFull}
 use Rattle.endpoint_rules.specs.Handshake.{nonceIssued, request, started, synchronized, counted, running, replied, onSyncReply}
 use Rattle.endpoint_rules.specs.Sending.{droppedTo, acknowledged, pendingQueued}
@@ -214,5 +214,5 @@ pub bouts :
     × (reportAfter (fr 0) (fr 40000) ≡ QualityReport (bias16 - 32768) (record { low = 72000; high = 0 }) ∷ [])
     -- P14: rtt 100, fps 60, newest 10, local 12: advantage 1
     × (after (pong ∷ advanced (fr 10) (fr 12)) new .quality .«local_frame_advantage» ≡ bias32 + 1)
-unfolding kept has without xors framesOf unpack pack decodableLength decodable zeros padded dropTo lastTo room blankFrame highest newestOf foundIn atLine above numbered packetOf takenIn issued fits defaultStatus reported merged mergedAll defaultStatuses hasRoom inputOf inputEntry announced badSetup anyAbove anyTwice inserted sorted termsWith made refused decided queueWire queueSize done bufferFull isFull nonceIssued request started synchronized counted running replied onSyncReply droppedTo acknowledged pendingQueued referenceFrame taken receivedIf receive announcedEach discarded packetOverflows statusesMerged informed inputsReceived inputTaken inputUnless onInput resent reportSent keptAlive interrupted timedOut acted clamped reportQueued roundTrip roundTripNoted onQualityReply advantageOf advantageOverflows localAdvantage advantageUpdated fresh synchronizeStep ignored resumed heard onBody reacted messageStep actStep disconnectStep advantageStep step
+unfolding kept has without xors framesOf unpack pack decodableLength decodable zeros padded dropTo lastTo room blankFrame highest newestOf foundIn atLine above numbered packetOf takenIn issued fits defaultStatus reported merged mergedAll defaultStatuses hasRoom inputOf inputEntry announced badSetup anyAbove anyTwice inserted sorted termsWith made refused tested queueWire queueSize done bufferFull isFull nonceIssued request started synchronized counted running replied onSyncReply droppedTo acknowledged pendingQueued referenceFrame taken receivedIf receive announcedEach discarded packetOverflows statusesMerged informed inputsReceived inputTaken inputUnless onInput resent reportSent keptAlive interrupted timedOut acted clamped reportQueued roundTrip roundTripNoted onQualityReply advantageOf advantageOverflows localAdvantage advantageUpdated fresh synchronizeStep ignored resumed heard onBody reacted messageStep actStep disconnectStep advantageStep step
 bouts = (refl, refl, refl, refl, refl, refl, refl, refl, refl, refl, refl, refl, refl, refl, refl, refl, refl, refl, refl, refl, refl, refl, refl, refl, refl, refl, refl, refl)

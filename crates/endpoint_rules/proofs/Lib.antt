@@ -3,4 +3,4 @@ pub mod Orders
 pub mod Timings
 pub mod Laws
 pub mod Datagrams
-pub mod Decided
+pub mod Tested

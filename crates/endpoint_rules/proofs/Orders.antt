@@ -1,4 +1,4 @@
--- Worked examples of what no worked bout shows: the order of refusals, the silent returns, the handshake, room.
+-- Worked examples of what no worked bout shows: the order of refusals, which calls are ignored, the handshake, room.
 use mathlib.Core.Bool.{true, false}
 use mathlib.Core.List.{List, [], _∷_, map}
 use mathlib.Core.Path.{_≡_, refl}
@@ -22,10 +22,10 @@ use Rattle.endpoint_rules.specs.declared.Phase.the-variants.{Running, Sh
 use Rattle.setup.specs.Setup.{badSetup, anyAbove, anyTwice, inserted, sorted, termsWith}
 use Rattle.endpoint_rules.specs.Seen.{Seen, made, withPhase}
 use Rattle.outbox.specs.Outbox.{queueSize, reportOf, pendingInput}
-use Rattle.endpoint_rules.specs.Did.{refused, decided, queueWire, done}
+use Rattle.endpoint_rules.specs.Did.{refused, tested, queueWire, done}
 use Rattle.endpoint_rules.specs.Room.{bufferFull, isFull}
 use Rattle.endpoint_rules.specs.Handshake.{nonceIssued, request, started, synchronized, counted, running, replied, onSyncReply}
-use Rattle.endpoint_rules.specs.Sending.{droppedTo, acknowledged, badFrame, pendingQueued, accepted, tooMany, inputSent}
+use Rattle.endpoint_rules.specs.Sending.{droppedTo, acknowledged, badFrame, pendingQueued, accepted, announcesMost, inputSent}
 use Rattle.endpoint_rules.specs.Receiving.{taken, receivedIf, receive, discarded, packetOverflows, statusesMerged, informed, inputsReceived, inputTaken, inputUnless, onInput}
 use Rattle.endpoint_rules.specs.Checksum.{checksumSent}
 use Rattle.endpoint_rules.specs.Call.{Call}
@@ -47,7 +47,7 @@ abbrev stranger : (nonce next : ℕ) → Call
 stranger nonce next = hand (record { magic = 8; body = SyncReply nonce; reports = []; payload = [] }) 1000 next
 
 orders :
-    -- 8 before 3, 3 before the silent return, the silent return before 4
+    -- 8 before 3, 3 before a call is ignored, ignored before 4
     (step (send (fr 0) [] late 65536) new .answer ≡ 8)
     × (step (send (fr 0) [] 2000 65536) new .answer ≡ 3)
     × (step (send nullFrame (5 ∷ []) 2000 65536) new ≡ record { answer = 0; after = new; out = []; events = [] })
@@ -96,7 +96,7 @@ orders :
     × (step (hand (wire (Input true (fr 0) nullFrame) [] []) 2000 0) (after (hand (wire (Input true (fr 0) nullFrame) [] []) 2000 0 ∷ []) new) .events ≡ [])
     -- from then on another magic is not heard
     × (step (Call.message 3 0 (record { magic = 8; body = KeepAlive; reports = []; payload = [] }) 2000 2000 0 0) (after handshake new) .after .clocks .«last_recv_time» ≡ 1000)
-unfolding kept has without xors framesOf unpack pack decodableLength decodable zeros padded dropTo lastTo firstFrame lastFrame room payload blankFrame highest newestOf foundIn atLine above numbered packetOf takenIn issued fits defaultStatus reported merged mergedAll defaultStatuses hasRoom inputOf inputEntry announced badSetup anyAbove anyTwice inserted sorted termsWith made refused decided queueWire queueSize done bufferFull isFull nonceIssued request started synchronized counted running replied onSyncReply droppedTo acknowledged badFrame reportOf pendingInput pendingQueued accepted tooMany inputSent referenceFrame taken receivedIf receive announcedEach discarded packetOverflows statusesMerged informed inputsReceived inputTaken inputUnless onInput fresh synchronizeStep ignored resumed heard onBody reacted messageStep sendStep disconnectStep step statsStep statusStep takeStep checksumStep checksumSent
+unfolding kept has without xors framesOf unpack pack decodableLength decodable zeros padded dropTo lastTo firstFrame lastFrame room payload blankFrame highest newestOf foundIn atLine above numbered packetOf takenIn issued fits defaultStatus reported merged mergedAll defaultStatuses hasRoom inputOf inputEntry announced badSetup anyAbove anyTwice inserted sorted termsWith made refused tested queueWire queueSize done bufferFull isFull nonceIssued request started synchronized counted running replied onSyncReply droppedTo acknowledged badFrame reportOf pendingInput pendingQueued accepted announcesMost inputSent referenceFrame taken receivedIf receive announcedEach discarded packetOverflows statusesMerged informed inputsReceived inputTaken inputUnless onInput fresh synchronizeStep ignored resumed heard onBody reacted messageStep sendStep disconnectStep step statsStep statusStep takeStep checksumStep checksumSent
 orders = (refl, refl, refl, refl, refl, refl, refl, refl, refl, refl, refl, refl, refl, refl, refl, refl, refl, refl, refl, refl, refl, refl, refl, refl, refl, refl, refl, refl, refl, refl, refl, refl, refl)
 
 -- ---- the 129th pending input
@@ -131,5 +131,5 @@ crowded :
     × (with129 .flags .«disconnect_event_sent» ≡ false)
     -- one more does not fit
     × (step (send (fr 129) (5 ∷ []) 2000 65536) with129 .answer ≡ 5)
-unfolding kept has without xors framesOf unpack pack decodableLength decodable zeros padded dropTo lastTo firstFrame lastFrame room payload blankFrame highest newestOf foundIn atLine above numbered packetOf takenIn issued fits defaultStatus reported merged mergedAll defaultStatuses hasRoom inputOf inputEntry announced badSetup anyAbove anyTwice inserted sorted termsWith made refused decided queueWire queueSize done bufferFull isFull nonceIssued request started synchronized counted running replied onSyncReply droppedTo acknowledged badFrame reportOf pendingInput pendingQueued accepted tooMany inputSent fresh synchronizeStep ignored resumed heard onBody reacted messageStep sendStep step
+unfolding kept has without xors framesOf unpack pack decodableLength decodable zeros padded dropTo lastTo firstFrame lastFrame room payload blankFrame highest newestOf foundIn atLine above numbered packetOf takenIn issued fits defaultStatus reported merged mergedAll defaultStatuses hasRoom inputOf inputEntry announced badSetup anyAbove anyTwice inserted sorted termsWith made refused tested queueWire queueSize done bufferFull isFull nonceIssued request started synchronized counted running replied onSyncReply droppedTo acknowledged badFrame reportOf pendingInput pendingQueued accepted announcesMost inputSent fresh synchronizeStep ignored resumed heard onBody reacted messageStep sendStep step
 crowded = (refl, refl, refl, refl, refl, refl, refl, refl, refl)

@@ -17,7 +17,7 @@ use Rattle.setup.specs.Setup.{badSetup, anyAbove, anyTwice, inserted, sorted, t
 use Rattle.quality.specs.Quality.{clamped}
 use Rattle.outbox.specs.Outbox.{queueSize}
 use Rattle.endpoint_rules.specs.Seen.{Seen, made}
-use Rattle.endpoint_rules.specs.Did.{refused, decided, queueWire, done}
+use Rattle.endpoint_rules.specs.Did.{refused, tested, queueWire, done}
 use Rattle.endpoint_rules.specs.Room.{bufferFull, isFull}
 use Rattle.endpoint_rules.specs.Handshake.{nonceIssued, request, started, synchronized, counted, running, replied, onSyncReply}
 use Rattle.endpoint_rules.specs.Sending.{pendingQueued}
@@ -63,5 +63,5 @@ timings :
     × (step (actWith 73) ready .answer ≡ 5)
     × (step (actWith 73) ready .events ≡ [])
     × (step (actWith 74) ready .answer ≡ 0)
-unfolding kept has without blankFrame highest newestOf issued fits defaultStatus defaultStatuses hasRoom badSetup anyAbove anyTwice inserted sorted termsWith made refused decided queueWire queueSize done bufferFull isFull nonceIssued request started synchronized counted running replied onSyncReply pendingQueued clamped reportQueued checksumSent resent reportSent keptAlive interrupted timedOut acted fresh synchronizeStep ignored resumed heard onBody reacted messageStep actStep checksumStep step
+unfolding kept has without blankFrame highest newestOf issued fits defaultStatus defaultStatuses hasRoom badSetup anyAbove anyTwice inserted sorted termsWith made refused tested queueWire queueSize done bufferFull isFull nonceIssued request started synchronized counted running replied onSyncReply pendingQueued clamped reportQueued checksumSent resent reportSent keptAlive interrupted timedOut acted fresh synchronizeStep ignored resumed heard onBody reacted messageStep actStep checksumStep step
 timings = (refl, refl, refl, refl, refl, refl, refl, refl, refl, refl, refl, refl, refl, refl)

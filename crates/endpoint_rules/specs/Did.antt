@@ -23,19 +23,30 @@ pub record Did : Type 0 where
 unfoldable pub refused : ℕ → Seen → Did
 refused n s = record { answer = n; after = s; out = []; events = [] }
 
--- a silent return: its number is 0, and nothing changes
-abbrev pub silent : Seen → Did
-silent s = refused 0 s
+-- what a test that holds makes of a call: it is refused with a number, or ignored (N-22)
+pub data Verdict : Type 0 where
+  refuse : ℕ → Verdict
+  ignore : Verdict
 
--- refused by the number of the first test that holds; 0, where none does, goes on
+-- a call that is ignored answers 0, and nothing changes
+abbrev pub stopped : Verdict → Seen → Did
+stopped (refuse n) s = refused n s
+stopped ignore s = record { answer = 0; after = s; out = []; events = [] }
+
+-- a test as a number, 1 where it holds: the prover computes examples far faster so (CONTRIBUTING, "Definitions")
+abbrev pub holding : Bool → ℕ
+holding b = pick b 1 0
+
+-- a call's tests from top to bottom (N-20): where the first does not hold, the rest is tested; where it holds, the call stops with its verdict; where none does, the call goes on as d
+unfoldable pub tested : List (Bool × Verdict) → Seen → Did → Did
+tested [] s d = d
+tested (t ∷ ts) s d = pick (eqb (holding (t .0)) 0) (tested ts s d) (stopped (t .1) s)
+
+-- what was read before the call: refused with the reader's number; 0 goes on
 unfoldable pub decided : ℕ → Seen → Did → Did
 decided n s d = pick (eqb n 0) d (refused n s)
 
--- a test for a silent return; where it does not hold, what goes on
-abbrev pub silentIf : Bool → Seen → Did → Did
-silentIf b s d = pick b (silent s) d
-
--- ---- a call that is done, step by step. Until it is booked, the state's events and queue are those from before the call.
+-- ---- a call that is done, step by step. Until `done` books it, the state's events and queue are those from before the call.
 pub record Effect : Type 0 where
   pub state : Seen
   pub out : List Wire

@@ -39,7 +39,7 @@ lastAccepted x = lastFrame (x .acked .frame) (x .pending)
 
 -- 4 (N-4): no frame to send, or not the one that follows the last accepted
 abbrev pub badAfter : (last frame : ℕ) → Bool
-badAfter last frame = ltb frame bias32 || leb bias32 last && not (eqb frame (suc last))
+badAfter last frame = ltb frame bias32 || (leb bias32 last && not (eqb frame (suc last)))
 
 unfoldable pub badFrame : ℕ → Sender → Bool
 badFrame frame x = badAfter (lastAccepted x) frame
@@ -52,7 +52,7 @@ badStatuses count s = not (eqb count (s .setup .players))
 abbrev pub badBytes : List ℕ → Seen → Bool
 badBytes bytes s = not (eqb (length bytes) (sendingWidth (s .setup)))
 
--- 5: pending inputs 129 (C-12)
+-- 5: 129 inputs pend already (C-12)
 abbrev pub pendingFull : Seen → Bool
 pendingFull s = not (room (s .carried .sender .pending))
 
@@ -73,10 +73,10 @@ unfoldable pub accepted : InputBytes → Seen → Seen
 accepted x s = withSender (record { pending = s .carried .sender .pending ++ x ∷ []; acked = s .carried .sender .acked }) s
 
 -- the 129th pending input announces Disconnected, and does not mark it as announced (E-59)
-unfoldable pub tooMany : Effect → Effect
-tooMany e = pick (leb mostPending (length (e .state .carried .sender .pending))) (announceEvent Event.Disconnected e) e
+unfoldable pub announcesMost : Effect → Effect
+announcesMost e = pick (leb mostPending (length (e .state .carried .sender .pending))) (announceEvent Event.Disconnected e) e
 
 unfoldable pub inputSent : (now frame : ℕ) → List ℕ → List ConnectionStatus → Effect → Effect
 inputSent now frame bytes statuses e =
     let x : InputBytes = record { frame = frame; bytes = padded bytes } in
-    queuePending now statuses (tooMany (change (accepted x) e))
+    queuePending now statuses (announcesMost (change (accepted x) e))

@@ -1,5 +1,6 @@
--- What each call does: its tests from top to bottom in their order (N-20, N-21), 8, 1, 3, 7, then the silent returns, then 2, 4, 12, 6, 5 (and 14 before 15); the first
--- that holds ends the call. At the bottom stands what is done where none holds.
+-- What each call does: its tests from top to bottom in their order (N-20, N-21), 8, 1, 3, 7, then whether it is ignored, then 2, 4, 12, 6, 5 (and 14 before 15); the first
+-- that holds stops the call. At the bottom stands what is done where none holds. Of a lent send buffer the length is given (`buffer`), of a status list its count as
+-- given, too (`count`). `e` is what the call would do; a test for room looks at it. How to read a definition: docs/API.md, "For readers of contracts".
 use mathlib.Core.Bool.{Bool, false, not, _&&_, _||_}
 use mathlib.Core.List.{List, [], _∷_}
 use Prim.Native.Nat.{ℕ, _+_}
@@ -20,7 +21,8 @@ use Rattle.endpoint_rules.specs.declared.Phase.the-variants.{Disconnecte
 use Rattle.setup.specs.Setup.{badSetup}
 use Rattle.timers.specs.Timers.{badClock, badClocks}
 use Rattle.endpoint_rules.specs.Seen.{Seen, made, isInitializing, isRunning, isShutdown, withPhase, withFlags, withEvents, withQueued, heardAt, shutdownAt}
-use Rattle.endpoint_rules.specs.Did.{Did, Effect, silentIf, decided, begin, change, announceEvent, done}
+use Rattle.endpoint_rules.specs.Did.{Did, Effect, tested, decided, begin, change, announceEvent, done}
+use Rattle.endpoint_rules.specs.Did.Verdict.{refuse, ignore}
 use Rattle.endpoint_rules.specs.Room.{isFull}
 use Rattle.endpoint_rules.specs.Handshake.{Reaction, plainly, synchronized, noncesFull, onSyncRequest, onSyncReply}
 use Rattle.endpoint_rules.specs.Sending.{badFrame, badStatuses, badBytes, pendingFull, inputSent}
@@ -46,10 +48,10 @@ wrongState s = not (isInitializing (s .phase))
 unfoldable pub synchronizeStep : (now epoch nonce buffer : ℕ) → Seen → Did
 synchronizeStep now epoch nonce buffer s =
     let e : Effect = synchronized now epoch nonce (begin s) in
-    decided (firstOf ((badClocks now epoch, 8)
-    ∷ (wrongState s, 2)
-    ∷ (noncesFull nonce s || isFull buffer e, 5)
-    ∷ [])) s (done e)
+    tested ((badClocks now epoch, refuse 8)
+    ∷ (wrongState s, refuse 2)
+    ∷ (noncesFull nonce s || isFull buffer e, refuse 5)
+    ∷ []) s (done e)
 
 -- ---- messages
 
@@ -88,17 +90,18 @@ onBody (ChecksumReport checksum frame) count w now epoch nonce e = onChecksumRep
 onBody KeepAlive count w now epoch nonce e = plainly e
 
 -- a message that is heard: what its reaction is refused for, in order, and what it does
-abbrev pub reactionRefusals : (buffer : ℕ) → Reaction → List (Bool × ℕ)
-reactionRefusals buffer r = (r .tooLong, 12) ∷ (r .overflows, 6) ∷ (r .storeFull || isFull buffer (r .effect), 5) ∷ []
-
 unfoldable pub reacted : (buffer : ℕ) → Seen → Reaction → Did
-reacted buffer s r = decided (firstOf (reactionRefusals buffer r)) s (done (r .effect))
+reacted buffer s r =
+    tested ((r .tooLong, refuse 12)
+    ∷ (r .overflows, refuse 6)
+    ∷ (r .storeFull || isFull buffer (r .effect), refuse 5)
+    ∷ []) s (done (r .effect))
 
 unfoldable pub messageStep : (from count : ℕ) → Wire → (now epoch nonce buffer : ℕ) → Seen → Did
 messageStep from count w now epoch nonce buffer s =
-    decided (firstOf ((badClocks now epoch, 8) ∷ [])) s
-    (silentIf (ignored from (w .magic) s) s
-    (reacted buffer s (onBody (w .body) count w now epoch nonce (heard now s))))
+    tested ((badClocks now epoch, refuse 8)
+    ∷ (ignored from (w .magic) s, ignore)
+    ∷ []) s (reacted buffer s (onBody (w .body) count w now epoch nonce (heard now s)))
 
 -- a datagram is read first: the reader's refusal comes before all (N-23)
 unfoldable pub datagramStep : (from : ℕ) → (bytes : List ℕ) → (now epoch nonce buffer : ℕ) → Seen → Did
@@ -111,45 +114,47 @@ datagramStep from bytes now epoch nonce buffer s =
 unfoldable pub actStep : (count : ℕ) → List ConnectionStatus → (now epoch nonce buffer : ℕ) → Seen → Did
 actStep count statuses now epoch nonce buffer s =
     let e : Effect = acted (s .phase) now epoch nonce statuses (begin s) in
-    decided (firstOf ((badClocks now epoch, 8)
-    ∷ (badStatuses count s, 3)
-    ∷ (requestChoked (s .phase) now nonce s || isFull buffer e, 5)
-    ∷ [])) s (done e)
+    tested ((badClocks now epoch, refuse 8)
+    ∷ (badStatuses count s, refuse 3)
+    ∷ (requestChoked (s .phase) now nonce s || isFull buffer e, refuse 5)
+    ∷ []) s (done e)
 
--- send_input (E-55 to E-59): outside Running a silent return
+-- send_input (E-55 to E-59): outside Running ignored
 unfoldable pub sendStep : (frame : ℕ) → (bytes : List ℕ) → (count : ℕ) → List ConnectionStatus → (now buffer : ℕ) → Seen → Did
 sendStep frame bytes count statuses now buffer s =
     let e : Effect = inputSent now frame bytes statuses (begin s) in
-    decided (firstOf ((badClock now, 8) ∷ (badStatuses count s || badBytes bytes s, 3) ∷ [])) s
-    (silentIf (not (isRunning (s .phase))) s
-    (decided (firstOf ((badFrame frame (s .carried .sender), 4) ∷ (pendingFull s || isFull buffer e, 5) ∷ [])) s
-    (done e)))
+    tested ((badClock now, refuse 8)
+    ∷ (badStatuses count s || badBytes bytes s, refuse 3)
+    ∷ (not (isRunning (s .phase)), ignore)
+    ∷ (badFrame frame (s .carried .sender), refuse 4)
+    ∷ (pendingFull s || isFull buffer e, refuse 5)
+    ∷ []) s (done e)
 
--- disconnect (E-60): the wait of 5,000 ms begins anew; in Shutdown a silent return
+-- disconnect (E-60): the wait of 5,000 ms begins anew; in Shutdown ignored
 unfoldable pub disconnectStep : (now : ℕ) → Seen → Did
 disconnectStep now s =
-    decided (firstOf ((badClock now, 8) ∷ [])) s
-    (silentIf (isShutdown (s .phase)) s
-    (changed (withPhase Disconnected (shutdownAt (now + 5000) s))))
+    tested ((badClock now, refuse 8)
+    ∷ (isShutdown (s .phase), ignore)
+    ∷ []) s (changed (withPhase Disconnected (shutdownAt (now + 5000) s)))
 
 -- in every state
 unfoldable pub checksumStep : (frame : ℕ) → Wide → (now buffer : ℕ) → Seen → Did
 checksumStep frame checksum now buffer s =
     let e : Effect = checksumSent now frame checksum (begin s) in
-    decided (firstOf ((badClock now, 8) ∷ (isFull buffer e, 5) ∷ [])) s (done e)
+    tested ((badClock now, refuse 8) ∷ (isFull buffer e, refuse 5) ∷ []) s (done e)
 
 unfoldable pub advantageStep : (localFrame : ℕ) → Seen → Did
-advantageStep localFrame s = decided (firstOf ((localOverflows localFrame s, 6) ∷ [])) s (changed (advantageUpdated localFrame s))
+advantageStep localFrame s = tested ((localOverflows localFrame s, refuse 6) ∷ []) s (changed (advantageUpdated localFrame s))
 
 unfoldable pub statsStep : (epoch : ℕ) → Seen → Did
-statsStep epoch s = decided (firstOf ((badClock epoch, 8) ∷ (notSynchronized s, 14) ∷ (notEnoughData epoch s, 15) ∷ [])) s (changed s)
+statsStep epoch s = tested ((badClock epoch, refuse 8) ∷ (notSynchronized s, refuse 14) ∷ (notEnoughData epoch s, refuse 15) ∷ []) s (changed s)
 
 -- 7 (N-7): a handle that no player has
 abbrev pub badHandle : (handle : ℕ) → Seen → Bool
 badHandle handle s = leb (s .setup .players) handle
 
 unfoldable pub statusStep : (handle : ℕ) → Seen → Did
-statusStep handle s = decided (firstOf ((badHandle handle s, 7) ∷ [])) s (changed s)
+statusStep handle s = tested ((badHandle handle s, refuse 7) ∷ []) s (changed s)
 
 -- 5 (E-68): the queue does not fit the buffer; in Shutdown every buffer will do (E-67)
 abbrev pub shortBy : Phase → (queued buffer : ℕ) → Bool
@@ -159,7 +164,7 @@ abbrev pub shortBuffer : (buffer : ℕ) → Seen → Bool
 shortBuffer buffer s = shortBy (s .phase) (s .queued) buffer
 
 unfoldable pub takeStep : (buffer : ℕ) → Seen → Did
-takeStep buffer s = decided (firstOf ((shortBuffer buffer s, 5) ∷ [])) s (changed (withQueued 0 s))
+takeStep buffer s = tested ((shortBuffer buffer s, refuse 5) ∷ []) s (changed (withQueued 0 s))
 
 unfoldable pub step : Call → Seen → Did
 step (Call.synchronize now epoch nonce buffer) s = synchronizeStep now epoch nonce buffer s

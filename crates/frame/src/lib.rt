@@ -15,6 +15,9 @@ pub const FRAMES: usize = numbers::WORD as usize;
 // Frame -1: no frame.
 pub const NULL_FRAME: u32 = 0x7FFF_FFFF;
 
+// The greatest frame, 2^31 - 1: none comes after it.
+pub const GREATEST_FRAME: u32 = 0xFFFF_FFFF;
+
 // By way of i64, since the sum of an i32 and the bias leaves i32.
 pub fn from_signed(frame: i32) -> u32
     ensures { λ r. ⌜ r ≡ biased bias32 frame ⌝ }

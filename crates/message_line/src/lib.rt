@@ -16,7 +16,7 @@ ghost use Rattle.text.specs.Ascii.{ascii};
 ghost use Rattle.text.specs.Hex.{hexOf};
 ghost use Rattle.text.specs.Page.{page, writtenAll};
 ghost use Rattle.message_line.specs.Calls.{LineAs};
-ghost use Rattle.text.specs.Draft.{drafted};
+ghost use Rattle.text.specs.Draft.{mostDraft, drafted};
 ghost use Rattle.message_line.specs.Line.{lineOf};
 
 // What `line` answers, with the place after the line.
@@ -47,7 +47,7 @@ pub fn line_after(out: &mut [u8], at: usize, words: &[u8], datagram: &[u8]) -> u
 // The whole line is known to fit before the first byte is written. The room is a difference, since
 // sums of lengths can wrap.
 fn lay(out: &mut [u8], at: usize, head: Draft, payload: &[u8]) -> Laid
-    requires { ⌜ head .used ≤ 256 ⌝ }
+    requires { ⌜ head .used ≤ mostDraft ⌝ }
     ensures { λ r. ⌜ LineAs (now (out .entry)) at (drafted head ++ hexOf (now (payload .entry))) r (now (out .exit)) ⌝ }
 {
     let used = head.used;

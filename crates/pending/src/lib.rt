@@ -29,12 +29,12 @@ impl Pending {
     pub fn new() -> Pending
         ensures { λ r. ⌜ waiting r ≡ [] ⌝ }
     {
-        let blank = InputBytes {
+        let unused = InputBytes {
             frame: 0,
             bytes: [0u8; MOST_WIDTH],
         };
         Pending {
-            slots: [blank; MOST_PENDING],
+            slots: [unused; MOST_PENDING],
             used: 0,
         }
     }

@@ -7,10 +7,9 @@ ghost use Rattle.answer.specs.Number.{numberOf};
 ghost use Rattle.ceilings.specs.Ceilings.{mostAdvanced};
 ghost use Rattle.quality.specs.Advantage.{differenceOverflows};
 ghost use Rattle.spectator_rules.specs.Watch.{isRunning};
-ghost use Rattle.spectator_rules.specs.Advance.{advanceRefusals};
+ghost use Rattle.spectator_rules.specs.Advance.{framesBy, advanceTests};
 ghost use Rattle.spectator.specs.Session.{seen};
 ghost use Rattle.spectator.specs.Stores.{requestFrames};
-ghost use Rattle.spectator.specs.Inside.Requests.{framesFor};
 ghost use Rattle.spectator.specs.Answers.{AdvancedAs};
 use crate::Requests;
 use crate::SpectatorSession;
@@ -35,7 +34,7 @@ const MOST_PLAYERS: u32 = ceilings::MOST_PLAYERS as u32;
 pub(crate) fn behind_overflows(newest: u32, current: u32) -> bool
     ensures { λ r. ⌜ r ≡ differenceOverflows newest current ⌝ }
 {
-    let raised = newest as u64 + 0x8000_0000;
+    let raised = newest as u64 + frame::BIAS32 as u64;
     raised < current as u64 || numbers::WORD <= raised - current as u64
 }
 
@@ -59,7 +58,7 @@ fn most_frames(slots: u32) -> u32
 }
 
 fn frames_to_advance(limits: Limits, behind: u32) -> u32
-    ensures { λ r. ⌜ r ≡ framesFor limits behind ⌝ }
+    ensures { λ r. ⌜ r ≡ framesBy limits behind ⌝ }
 {
     if limits.max_frames_behind < behind {
         return numbers::least_u32(
@@ -73,7 +72,7 @@ fn frames_to_advance(limits: Limits, behind: u32) -> u32
 impl SpectatorSession {
     // 14, then 6.
     fn advance_refusal(self) -> Answer
-        ensures { λ r. ⌜ numberOf r ≡ firstOf (advanceRefusals (seen self)) ⌝ }
+        ensures { λ r. ⌜ numberOf r ≡ firstOf (advanceTests (seen self)) ⌝ }
     {
         let state = self.state;
         if !is_running(state) {
@@ -82,7 +81,7 @@ impl SpectatorSession {
         if behind_overflows(self.last_recv_frame, self.current_frame) {
             return Answer::Overflow;
         }
-        if self.current_frame == 0xFFFF_FFFF {
+        if self.current_frame == frame::GREATEST_FRAME {
             return Answer::Overflow;
         }
         Answer::Done

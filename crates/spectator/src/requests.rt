@@ -7,7 +7,7 @@ ghost use Rattle.answer.specs.Number.{numberOf};
 ghost use Rattle.ceilings.specs.Ceilings.{mostAdvanced};
 ghost use Rattle.status.specs.Statuses.{heldStatuses};
 ghost use Rattle.spectator.specs.Stores.{inputsOf, requestOf, requestFrames, blankSynced};
-ghost use Rattle.spectator.specs.Inside.Requests.{syncedOf, syncedIn, requestIn, requestsIn, refusalIn, refusalsIn};
+ghost use Rattle.spectator_rules.specs.Advance.{syncedOf, syncedBy, frameInputsBy, requestsBy, frameRefusalBy, framesRefusalBy};
 use crate::Inputs;
 use answer::Answer;
 use ceilings::MOST_ADVANCED;
@@ -55,7 +55,7 @@ fn synced(input: PlayerInput, status: ConnectionStatus, frame: u32) -> SyncedInp
 
 impl Inputs {
     fn synced_at(self, statuses: Statuses, slots: u32, frame: u32, player: u32) -> SyncedInput
-        ensures { λ r. ⌜ r ≡ syncedIn slots frame player (inputsOf self) (heldStatuses statuses) ⌝ }
+        ensures { λ r. ⌜ r ≡ syncedBy slots frame player (inputsOf self) (heldStatuses statuses) ⌝ }
     {
         synced(
             self.at(slots, frame, player),
@@ -66,7 +66,7 @@ impl Inputs {
 
     // Of at most 4 players.
     fn request_at(self, statuses: Statuses, slots: u32, frame: u32, players: usize) -> Request
-        ensures { λ r. ⌜ requestOf r ≡ requestIn slots frame players (inputsOf self) (heldStatuses statuses) ⌝ }
+        ensures { λ r. ⌜ requestOf r ≡ frameInputsBy slots frame players (inputsOf self) (heldStatuses statuses) ⌝ }
     {
         let inputs = [
             self.synced_at(statuses, slots, frame, 0),
@@ -80,9 +80,9 @@ impl Inputs {
         }
     }
 
-    // 16 where the frame is not received yet, 17 where another one has taken its slot.
+    // 16 where its slot holds an earlier frame (it is not received yet), 17 where it holds a later one (it is gone).
     fn frame_refusal(self, slots: u32, frame: u32) -> Answer
-        ensures { λ r. ⌜ numberOf r ≡ refusalIn slots frame (inputsOf self) ⌝ }
+        ensures { λ r. ⌜ numberOf r ≡ frameRefusalBy slots frame (inputsOf self) ⌝ }
     {
         let held = self.at(slots, frame, 0);
         if held.frame < frame {
@@ -97,7 +97,7 @@ impl Inputs {
     // Of n frames, the refusal of the first that is not there.
     pub(crate) fn frames_refusal(self, slots: u32, frame: u32, n: u32) -> Answer
         requires { ⌜ frame + n ≤ 2 ^ 32 ⌝ }
-        ensures { λ r. ⌜ numberOf r ≡ refusalsIn slots n frame (inputsOf self) ⌝ }
+        ensures { λ r. ⌜ numberOf r ≡ framesRefusalBy slots n frame (inputsOf self) ⌝ }
     {
         let mut k = 0;
         while k < n {
@@ -119,7 +119,7 @@ impl Inputs {
         n: u32,
     ) -> Requests
         requires { ⌜ (frame + n ≤ 2 ^ 32) × (n ≤ mostAdvanced) ⌝ }
-        ensures { λ r. ⌜ requestFrames r ≡ requestsIn slots n frame players (inputsOf self) (heldStatuses statuses) ⌝ }
+        ensures { λ r. ⌜ requestFrames r ≡ requestsBy slots n frame players (inputsOf self) (heldStatuses statuses) ⌝ }
     {
         let mut requests = Requests::none();
         let mut k = 0;

@@ -18,7 +18,7 @@ use Rattle.endpoint_invariant.proofs.Choices.{passes}
 use Rattle.spectator_rules.specs.declared.SyncedInput.{SyncedInput}
 use Rattle.spectator_rules.specs.Watch.{Watch, playersOf}
 use Rattle.spectator_rules.specs.Inputs.{slotOf, placeOf, playerInputAt}
-use Rattle.spectator_rules.specs.Advance.{behind, heldAt, frameRefusal, framesToAdvance, framesRefusal, syncedAt, frameInputs, requestsFrom, requestsOf, advanceRefusals, advanceRefusal}
+use Rattle.spectator_rules.specs.Advance.{behind, heldAt, frameRefusal, framesToAdvance, framesBy, framesRefusal, framesRefusalBy, syncedAt, frameInputs, frameInputsBy, requestsFrom, requestsBy, requestsOf, advanceTests, advanceRefusal}
 use Rattle.spectator_invariant.specs.Seated.{SeatedOwn, Seated}
 use Rattle.spectator_invariant.proofs.Handling.{held-most}
 
@@ -32,7 +32,7 @@ after-none n r e = go (eqb n 0) refl e
 
 module _ (w : Watch) (h : SeatedOwn w) where
   one-most : framesRefusal 1 (suc (w .current)) w ≡ 0 → w .current + 1 ≤ w .newest
-  unfolding framesRefusal playerInputAt
+  unfolding framesRefusalBy playerInputAt
   one-most z =
       let f = suc (w .current) in
       let r = after-none (frameRefusal f w) 0 z .0 in
@@ -40,8 +40,8 @@ module _ (w : Watch) (h : SeatedOwn w) where
       omega (arith, ltb-false (heldAt f w) f t, held-most w h (placeOf (w .limits .slots) f 0))
 
   pub advance-most : advanceRefusal w ≡ 0 → w .current + framesToAdvance w ≤ w .newest
-  unfolding advanceRefusal framesToAdvance
-  advance-most z = go (ltb (w .limits .«max_frames_behind») (behind w)) (after-none (firstOf (advanceRefusals w)) _ z .1)
+  unfolding advanceRefusal framesToAdvance framesBy
+  advance-most z = go (ltb (w .limits .«max_frames_behind») (behind w)) (after-none (firstOf (advanceTests w)) _ z .1)
     where
       many : ℕ
       many = min (min (w .limits .«catchup_speed») (behind w)) (min (w .limits .slots - 1) 63)
@@ -63,7 +63,7 @@ there-frame : (frame : ℕ) (w : Watch) → heldAt frame w ≡ frame → frameRe
 there-frame frame w e = rw (le-ltb (heldAt frame w) frame (omega arith), le-ltb frame (heldAt frame w) (omega arith))
 
 frames-there : (n frame : ℕ) (w : Watch) → framesRefusal n frame w ≡ 0 → (i : ℕ) → i < n → heldAt (frame + i) w ≡ frame + i
-unfolding framesRefusal
+unfolding framesRefusalBy
 frames-there zero frame w z i b = absurd (omega arith)
 frames-there (suc n) frame w z zero b = rw add-zero (frame-there frame w (after-none (frameRefusal frame w) _ z .0))
 frames-there (suc n) frame w z (suc i) b = rw (add-suc, ← suc-add) (frames-there n (suc frame) w (after-none (frameRefusal frame w) _ z .1) i (omega arith))
@@ -73,19 +73,19 @@ pub advance-there : (w : Watch) → Seated w → advanceRefusal w ≡ 0 → (i p
 unfolding advanceRefusal playerInputAt
 advance-there w h z i player b c =
     let frame = suc (w .current) + i in
-    let held = frames-there (framesToAdvance w) (suc (w .current)) w (after-none (firstOf (advanceRefusals w)) _ z .1) i b in
+    let held = frames-there (framesToAdvance w) (suc (w .current)) w (after-none (firstOf (advanceTests w)) _ z .1) i b in
     let small = mod-lt (frame - bias32) {m = w .limits .slots} (omega (arith, h .own .limits .slots .0)) in
     h .whole (slotOf (w .limits .slots) frame) player small c ∙ held
 
 -- ---- what it hands back: of each of them, every player's input
 
 from-length : (n frame : ℕ) (w : Watch) → length (requestsFrom n frame w) ≡ n
-unfolding requestsFrom
+unfolding requestsBy
 from-length zero frame w = refl
 from-length (suc n) frame w = ap suc (from-length n (suc frame) w)
 
 from-at : (n frame : ℕ) (w : Watch) (i : ℕ) → i < n → getD (requestsFrom n frame w) i [] ≡ frameInputs (frame + i) w
-unfolding requestsFrom
+unfolding requestsBy
 from-at zero frame w i b = absurd (omega arith)
 from-at (suc n) frame w zero b = rw add-zero refl
 from-at (suc n) frame w (suc i) b = rw (add-suc, ← suc-add) (from-at n (suc frame) w i (omega arith))
@@ -95,12 +95,12 @@ module _ (w : Watch) (h : Seated w) where
   few = h .host .setup .players .1
 
   request-length : (frame : ℕ) → length (frameInputs frame w) ≡ w .host .setup .players
-  unfolding frameInputs
+  unfolding frameInputsBy syncedAt
   request-length frame =
       length-take-le (playersOf w) (syncedAt frame 0 w ∷ syncedAt frame 1 w ∷ syncedAt frame 2 w ∷ syncedAt frame 3 w ∷ []) (omega arith) ∙ omega (arith, few)
 
   request-gives : (frame player : ℕ) (x : SyncedInput) → player < w .host .setup .players → getD (frameInputs frame w) player x ≡ syncedAt frame player w
-  unfolding frameInputs
+  unfolding frameInputsBy syncedAt
   request-gives frame player x b =
       getD-take (playersOf w) (syncedAt frame 0 w ∷ syncedAt frame 1 w ∷ syncedAt frame 2 w ∷ syncedAt frame 3 w ∷ []) player x (omega (arith, few)) ∙ go player (omega (arith, few))
     where
@@ -134,7 +134,7 @@ module _ (w : Watch) (h : SeatedOwn w) where
 
   -- with the first, all after it are there
   rest-there : frameRefusal first w ≡ 0 → (n k : ℕ) → w .current + k + n ≤ w .newest → framesRefusal n (first + k) w ≡ 0
-  unfolding framesRefusal playerInputAt
+  unfolding framesRefusalBy playerInputAt
   rest-there z zero k b = refl
   rest-there z (suc n) k b =
       let held : heldAt (first + k) w ≡ first + k = h .stock first k (omega (arith, h .current)) (frame-there first w z) (omega arith) in
@@ -143,7 +143,7 @@ module _ (w : Watch) (h : SeatedOwn w) where
       rw there (rw add-suc at next)
 
   first-decides : (n : ℕ) → (n ≤ 1) ⊎ (w .current + n ≤ w .newest) → framesRefusal n first w ≡ pick (eqb n 0) 0 (frameRefusal first w)
-  unfolding framesRefusal
+  unfolding framesRefusalBy
   first-decides zero b = refl
   first-decides (suc n) b = rw (ne-eqb (suc n) 0 (λ e. omega arith)) (go (eqb (frameRefusal first w) 0) refl b)
     where
@@ -157,7 +157,7 @@ module _ (w : Watch) (h : SeatedOwn w) where
 
   -- so an advance never gives up on the way: 16 or 17 is its first frame's
   pub advance-first : framesRefusal (framesToAdvance w) first w ≡ pick (eqb (framesToAdvance w) 0) 0 (frameRefusal first w)
-  unfolding framesToAdvance
+  unfolding framesToAdvance framesBy
   advance-first = go (ltb (w .limits .«max_frames_behind») (behind w))
     where
       many : ℕ

@@ -30,8 +30,8 @@ use Rattle.endpoint_rules.specs.Did.{Did, Effect, refused, begin, done}
 use Rattle.endpoint_rules.specs.Handshake.{synchronized}
 use Rattle.endpoint_rules.specs.Act.{acted}
 use Rattle.endpoint_rules.specs.Receiving.{inputMessage, reference, taken, receivedIf, receive, discarded, inputTaken, inputUnless, onInput, onInputAck}
-use Rattle.endpoint_rules.specs.Step.{changed, heard, onBody, synchronizeStep, messageStep, datagramStep, actStep, statsStep, takeStep, reacted, ignored}
-use Rattle.endpoint_rules.proofs.Decided.{decided-both, silent-both}
+use Rattle.endpoint_rules.specs.Step.{changed, heard, onBody, synchronizeStep, messageStep, datagramStep, actStep, statsStep, takeStep, reacted}
+use Rattle.endpoint_rules.proofs.Tested.{tested-both, decided-both}
 use Rattle.endpoint_invariant.specs.Each.{Each}
 use Rattle.endpoint_invariant.specs.Sound.{Sound, SoundReceiver}
 use Rattle.endpoint_invariant.proofs.Receivers.{never-full}
@@ -99,42 +99,42 @@ module _ (s : Seen) (h : Sound s) (few : Upto (s .setup .players) 0 (s .setup .h
   announces-of d news p q k = record { setup = p; rises = rising-inputs (s .setup .players) _ 0 _ (d .events) (rw q k) }
 
   -- none
-  silent : (d : Did) → d .after .setup ≡ s .setup → d .after .carried .receiver ≡ s .carried .receiver → inputsIn (d .events) ≡ [] → Announces s d
+  none-new : (d : Did) → d .after .setup ≡ s .setup → d .after .carried .receiver ≡ s .carried .receiver → inputsIn (d .events) ≡ [] → Announces s d
   unfolding Rising
-  silent d p q k = announces-of d [] p k (rw q (refl, refl))
+  none-new d p q k = announces-of d [] p k (rw q (refl, refl))
 
   refuses : (k : ℕ) → Announces s (refused k s)
   unfolding refused kept
-  refuses k = silent (refused k s) refl refl refl
+  refuses k = none-new (refused k s) refl refl refl
 
   changes : (t : Seen) → t .setup ≡ s .setup → t .carried .receiver ≡ s .carried .receiver → Announces s (changed t)
   unfolding kept
-  changes t p q = silent (changed t) p q refl
+  changes t p q = none-new (changed t) p q refl
 
   abbrev Any : Wire → Type 0
   Any w = Unit {0}
 
   quiet : (e : Effect) → Does s (s .carried) [] Any (e .state) (e .out) (e .events) → Announces s (done e)
   unfolding done
-  quiet e d = silent (done e) (d .setup) (rw (d .carried)) (d .events)
+  quiet e d = none-new (done e) (d .setup) (rw (d .carried)) (d .events)
 
   pub synchronize-announces : (now epoch nonce buffer : ℕ) → Announces s (synchronizeStep now epoch nonce buffer s)
   unfolding synchronizeStep
   synchronize-announces now epoch nonce buffer =
-      decided-both _ s _ (Announces s) refuses (λ _. quiet (synchronized now epoch nonce (begin s)) (starting Any (λ m b q. tt) s now epoch nonce))
+      tested-both _ s _ (Announces s) refuses (λ _. quiet (synchronized now epoch nonce (begin s)) (starting Any (λ m b q. tt) s now epoch nonce))
 
   pub act-announces : (count : ℕ) (statuses : List ConnectionStatus) (now epoch nonce buffer : ℕ) → Announces s (actStep count statuses now epoch nonce buffer s)
   unfolding actStep
   act-announces count statuses now epoch nonce buffer =
-      decided-both _ s _ (Announces s) refuses (λ _. quiet (acted (s .phase) now epoch nonce statuses (begin s)) (acts Any (λ m b q. tt) s statuses (λ x xs q. tt) (s .phase) now epoch nonce))
+      tested-both _ s _ (Announces s) refuses (λ _. quiet (acted (s .phase) now epoch nonce statuses (begin s)) (acts Any (λ m b q. tt) s statuses (λ x xs q. tt) (s .phase) now epoch nonce))
 
   pub stats-announces : (epoch : ℕ) → Announces s (statsStep epoch s)
   unfolding statsStep
-  stats-announces epoch = decided-both _ s _ (Announces s) refuses (λ _. changes s refl refl)
+  stats-announces epoch = tested-both _ s _ (Announces s) refuses (λ _. changes s refl refl)
 
   pub take-announces : (buffer : ℕ) → Announces s (takeStep buffer s)
   unfolding takeStep
-  take-announces buffer = decided-both _ s _ (Announces s) refuses (λ _. changes _ refl refl)
+  take-announces buffer = tested-both _ s _ (Announces s) refuses (λ _. changes _ refl refl)
 
   -- ---- messages
 
@@ -154,7 +154,7 @@ module _ (s : Seen) (h : Sound s) (few : Upto (s .setup .players) 0 (s .setup .h
       go false = input-announces now d start ack (w .reports) (w .payload)
   body-announces (InputAck ack) count w now epoch nonce =
       let k = acked Any (λ m b q. tt) s ack now in
-      silent (done (onInputAck ack (heard now s) .effect)) (k .setup) (rw (k .carried)) (k .events)
+      none-new (done (onInputAck ack (heard now s) .effect)) (k .setup) (rw (k .carried)) (k .events)
   body-announces (SyncRequest n) count w now epoch nonce = quiet (onBody (SyncRequest n) count w now epoch nonce (heard now s) .effect) (others Any (λ m b q. tt) s (SyncRequest n) refl count w now epoch nonce)
   body-announces (SyncReply n) count w now epoch nonce = quiet (onBody (SyncReply n) count w now epoch nonce (heard now s) .effect) (others Any (λ m b q. tt) s (SyncReply n) refl count w now epoch nonce)
   body-announces (QualityReport advantage ping) count w now epoch nonce =
@@ -167,8 +167,7 @@ module _ (s : Seen) (h : Sound s) (few : Upto (s .setup .players) 0 (s .setup .h
   pub message-announces : (from count : ℕ) (w : Wire) (now epoch nonce buffer : ℕ) → Announces s (messageStep from count w now epoch nonce buffer s)
   unfolding messageStep reacted
   message-announces from count w now epoch nonce buffer =
-      decided-both _ s _ (Announces s) refuses (λ _. silent-both (ignored from (w .magic) s) s _ (Announces s) (refuses 0) (λ _.
-      decided-both _ s _ (Announces s) refuses (λ _. body-announces (w .body) count w now epoch nonce)))
+      tested-both _ s _ (Announces s) refuses (λ _. tested-both _ s _ (Announces s) refuses (λ _. body-announces (w .body) count w now epoch nonce))
 
   pub datagram-announces : (from : ℕ) (bytes : List ℕ) (now epoch nonce buffer : ℕ) → Announces s (datagramStep from bytes now epoch nonce buffer s)
   unfolding datagramStep

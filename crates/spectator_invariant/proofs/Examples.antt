@@ -24,7 +24,7 @@ use Rattle.setup.specs.Setup.{badSetup, anyAbove, anyTwice, inserted, sorted, t
 use Rattle.quality.specs.Advantage.{advantageOf, advantageOverflows}
 use Rattle.outbox.specs.Outbox.{queueSize}
 use Rattle.endpoint_rules.specs.Seen.{made}
-use Rattle.endpoint_rules.specs.Did.{refused as hostRefused, decided as hostDecided, queueWire, done}
+use Rattle.endpoint_rules.specs.Did.{refused as hostRefused, tested, queueWire, done}
 use Rattle.endpoint_rules.specs.Room.{bufferFull, isFull}
 use Rattle.endpoint_rules.specs.Handshake.{nonceIssued, request, started, synchronized, counted, running, replied, onSyncReply}
 use Rattle.endpoint_rules.specs.Sending.{droppedTo, acknowledged, pendingQueued}
@@ -42,7 +42,7 @@ use Rattle.spectator_rules.specs.Setup.{hostSetup, badLimits, badSession}
 use Rattle.spectator_rules.specs.Watch.{Watch, madeWatch}
 use Rattle.spectator_rules.specs.Inputs.{blankInput, freshInputs, inputStored, playerInputAt}
 use Rattle.spectator_rules.specs.Handling.{lastOf, eventAdded, announce, inputHandled, handled, handledAll}
-use Rattle.spectator_rules.specs.Advance.{framesToAdvance, framesRefusal, syncedAt, frameInputs, requestsFrom, requestsOf, advanceRefusal, heldAt, frameRefusal}
+use Rattle.spectator_rules.specs.Advance.{framesToAdvance, framesBy, framesRefusal, framesRefusalBy, syncedAt, frameInputsBy, requestsBy, requestsOf, advanceRefusal, heldAt, frameRefusal}
 use Rattle.spectator_rules.specs.Call.{Call}
 use Rattle.spectator_rules.specs.Step.{fresh, decided, byHost, hostActs, hostTakes, pollRefusal, polled, pollStep, advanceStep, step}
 use Rattle.spectator_rules.proofs.Examples.{setupWith, new, ready, synced, shaken, packet, poll, handshake}
@@ -170,7 +170,7 @@ unfolding ran
 greeted-is = shaken 4 8 2 2
 
 running-is : ran (poll ∷ Call.takeEvents ∷ []) greeted ≡ ready 4 8 2 2
-unfolding kept hasRoom hostDecided queueSize done bufferFull isFull resent reportSent keptAlive interrupted timedOut acted actStep takeStep lastOf eventAdded announce handled handledAll decided hostActs hostTakes pollRefusal polled pollStep step ran
+unfolding kept hasRoom tested queueSize done bufferFull isFull resent reportSent keptAlive interrupted timedOut acted actStep takeStep lastOf eventAdded announce handled handledAll decided hostActs hostTakes pollRefusal polled pollStep step ran
 running-is = refl
 
 abbrev watched : Watch
@@ -199,7 +199,7 @@ record Stands (w : Watch) : Type 0 where
   after : step Call.advanceFrame w .after .current ≡ fr 1
 
 watched-stands : Stands watched
-unfolding kept xors framesOf unpack decodableLength decodable zeros padded dropTo lastTo blankFrame highest newestOf foundIn atLine above numbered packetOf takenIn defaultStatus reported merged mergedAll hasRoom inputOf inputEntry announced hostDecided queueWire queueSize done bufferFull isFull droppedTo acknowledged pendingQueued referenceFrame taken receivedIf receive announcedEach discarded packetOverflows statusesMerged informed inputsReceived inputTaken inputUnless onInput resent reportSent keptAlive interrupted timedOut acted advantageOf advantageOverflows localAdvantage advantageUpdated ignored resumed heard onBody reacted messageStep actStep advantageStep takeStep blankInput freshInputs inputStored playerInputAt lastOf eventAdded announce inputHandled handled handledAll framesToAdvance framesRefusal syncedAt frameInputs requestsFrom requestsOf advanceRefusal decided byHost hostActs hostTakes pollRefusal polled pollStep advanceStep step ran
+unfolding kept xors framesOf unpack decodableLength decodable zeros padded dropTo lastTo blankFrame highest newestOf foundIn atLine above numbered packetOf takenIn defaultStatus reported merged mergedAll hasRoom inputOf inputEntry announced tested queueWire queueSize done bufferFull isFull droppedTo acknowledged pendingQueued referenceFrame taken receivedIf receive announcedEach discarded packetOverflows statusesMerged informed inputsReceived inputTaken inputUnless onInput resent reportSent keptAlive interrupted timedOut acted advantageOf advantageOverflows localAdvantage advantageUpdated ignored resumed heard onBody reacted messageStep actStep advantageStep takeStep blankInput freshInputs inputStored playerInputAt lastOf eventAdded announce inputHandled handled handledAll framesToAdvance framesBy framesRefusalBy syncedAt frameInputsBy requestsBy requestsOf advanceRefusal decided byHost hostActs hostTakes pollRefusal polled pollStep advanceStep step ran
 watched-stands = record { players = refl; current = refl; newest = refl; held = refl; refusal = refl; frames = refl; requests = refl; after = refl }
 
 reached-stands : Stands reached
@@ -210,7 +210,7 @@ abbrev events : List Entry
 events = greetings ++ playerInput 0 0 (byte 1) ∷ playerInput 0 1 (byte 2) ∷ playerInput 1 0 (byte 3) ∷ playerInput 1 1 (byte 4) ∷ playerInput 2 0 (byte 5) ∷ playerInput 2 1 (byte 6) ∷ []
 
 handled-are : allHandled calls (new 4 8 2 2) ≡ events
-unfolding kept has without xors framesOf unpack decodableLength decodable zeros padded dropTo lastTo blankFrame highest newestOf foundIn atLine above numbered packetOf takenIn issued fits defaultStatus reported merged mergedAll defaultStatuses hasRoom inputOf inputEntry announced inserted sorted termsWith made hostRefused hostDecided queueWire queueSize done bufferFull isFull nonceIssued request started synchronized counted running replied onSyncReply droppedTo acknowledged pendingQueued referenceFrame taken receivedIf receive announcedEach discarded packetOverflows statusesMerged informed inputsReceived inputTaken inputUnless onInput resent reportSent keptAlive interrupted timedOut acted advantageOf advantageOverflows localAdvantage advantageUpdated synchronizeStep ignored resumed heard onBody reacted messageStep actStep advantageStep takeStep hostSetup madeWatch freshInputs lastOf eventAdded announce inputHandled handled handledAll fresh decided byHost hostActs hostTakes pollRefusal polled pollStep step ran allHandled
+unfolding kept has without xors framesOf unpack decodableLength decodable zeros padded dropTo lastTo blankFrame highest newestOf foundIn atLine above numbered packetOf takenIn issued fits defaultStatus reported merged mergedAll defaultStatuses hasRoom inputOf inputEntry announced inserted sorted termsWith made hostRefused tested queueWire queueSize done bufferFull isFull nonceIssued request started synchronized counted running replied onSyncReply droppedTo acknowledged pendingQueued referenceFrame taken receivedIf receive announcedEach discarded packetOverflows statusesMerged informed inputsReceived inputTaken inputUnless onInput resent reportSent keptAlive interrupted timedOut acted advantageOf advantageOverflows localAdvantage advantageUpdated synchronizeStep ignored resumed heard onBody reacted messageStep actStep advantageStep takeStep hostSetup madeWatch freshInputs lastOf eventAdded announce inputHandled handled handledAll fresh decided byHost hostActs hostTakes pollRefusal polled pollStep step ran allHandled
 handled-are = refl
 
 -- ---- and what the laws say there

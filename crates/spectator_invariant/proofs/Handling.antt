@@ -16,7 +16,7 @@ use Rattle.endpoint_rules.specs.Did.{Did, refused}
 use Rattle.endpoint_rules.specs.Advantage.{bothKnown, localAdvantage, advantageUpdated}
 use Rattle.endpoint_rules.specs.Call as Host
 use Rattle.endpoint_rules.specs.Step.{changed, advantageStep, step}
-use Rattle.endpoint_rules.proofs.Decided.{decided-both}
+use Rattle.endpoint_rules.proofs.Tested.{tested-both}
 use Rattle.endpoint_invariant.specs.Sound.{Sound}
 use Rattle.endpoint_invariant.proofs.Eaches.{each-also}
 use Rattle.endpoint_invariant.proofs.Leaves.{by-cases}
@@ -88,7 +88,7 @@ updated-left f s = by-cases (bothKnown f s) (Left s (changed (advantageUpdated f
 
 advantage-left : (f : ℕ) (s : Seen) → Left s (advantageStep f s)
 unfolding advantageStep refused
-advantage-left f s = decided-both _ s _ (Left s) (λ k. (refl, refl, refl)) (λ _. updated-left f s)
+advantage-left f s = tested-both _ s _ (Left s) (λ k. (refl, refl, refl)) (λ _. updated-left f s)
 
 advantage-sound : (f : ℕ) (s : Seen) → f < 2 ^ 32 → Sound s → Sound (advantageStep f s .after)
 unfolding step

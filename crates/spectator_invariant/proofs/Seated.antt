@@ -22,7 +22,7 @@ use Rattle.endpoint_rules.specs.Seen.{Seen, made, withEvents}
 use Rattle.endpoint_rules.specs.Did.{Did as HostDid, refused as hostRefused}
 use Rattle.endpoint_rules.specs.Call as Host
 use Rattle.endpoint_rules.specs.Step.{fresh as hostFresh, step as hostStep, synchronizeStep, messageStep, datagramStep, statsStep, takeStep}
-use Rattle.endpoint_rules.proofs.Decided.{decided-both}
+use Rattle.endpoint_rules.proofs.Tested.{tested-both}
 use Rattle.endpoint_invariant.specs.Each.{Each}
 use Rattle.endpoint_invariant.specs.Typed.{TypedPlace, TypedStatuses}
 use Rattle.endpoint_invariant.specs.Sound.{Sound}
@@ -178,7 +178,7 @@ module _ (w : Watch) (h : Seated w) where
 
     takes-left : Left (acts .after) (hostTakes buffer acts)
     unfolding hostTakes takeStep hostRefused
-    takes-left = decided-both _ (acts .after) _ (Left (acts .after)) (λ k. (refl, refl)) (λ _. (refl, refl))
+    takes-left = tested-both _ (acts .after) _ (Left (acts .after)) (λ k. (refl, refl)) (λ _. (refl, refl))
 
     -- before the first event is handled
     abbrev pub begins : Watch

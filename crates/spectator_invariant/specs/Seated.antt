@@ -1,4 +1,4 @@
--- What holds of every session that `new` made and calls brought on: `new` gives it and every call keeps it (laws `fresh-seated`, `step-seated`).
+-- What holds of every session after every run of calls from `new` on: `new` gives it and every call keeps it (laws `fresh-seated`, `step-seated`).
 use mathlib.Core.List.{List, [], _∷_}
 use mathlib.Core.Logic.{_⊎_}
 use mathlib.Core.Path.{_≡_}

@@ -25,7 +25,7 @@ use Rattle.setup.specs.declared.DesyncDetection.the-variants.{Off}
 use Rattle.setup.specs.Setup.{badSetup, anyAbove, anyTwice, inserted, sorted, termsWith}
 use Rattle.endpoint_rules.specs.Seen.{Seen, made, withPhase, withSync, withEvents as withHostEvents, withQuality, withQueued}
 use Rattle.outbox.specs.Outbox.{queueSize}
-use Rattle.endpoint_rules.specs.Did.{refused as hostRefused, decided as hostDecided, queueWire, done}
+use Rattle.endpoint_rules.specs.Did.{refused as hostRefused, tested, queueWire, done}
 use Rattle.endpoint_rules.specs.Room.{bufferFull, isFull}
 use Rattle.endpoint_rules.specs.Handshake.{nonceIssued, request, started, synchronized, counted, running, replied, onSyncReply}
 use Rattle.endpoint_rules.specs.Sending.{droppedTo, acknowledged, pendingQueued}
@@ -49,7 +49,7 @@ use Rattle.spectator_rules.specs.Setup.{hostSetup, badLimits, badSession
 use Rattle.spectator_rules.specs.Watch.{Watch, madeWatch, withHost, withState, withCurrent, withNewest}
 use Rattle.spectator_rules.specs.Inputs.{blankInput, freshInputs, inputStored, playerInputAt}
 use Rattle.spectator_rules.specs.Handling.{lastOf, eventAdded, announce, inputHandled, handled, handledAll}
-use Rattle.spectator_rules.specs.Advance.{framesToAdvance, framesRefusal, syncedAt, frameInputs, requestsFrom, requestsOf, advanceRefusal}
+use Rattle.spectator_rules.specs.Advance.{framesToAdvance, framesBy, framesRefusalBy, syncedAt, frameInputsBy, requestsBy, requestsOf, advanceRefusal}
 use Rattle.spectator_rules.specs.Call.{Call}
 use Rattle.spectator_rules.specs.Step.{fresh, refused, decided, byHost, hostActs, hostTakes, pollRefusal, polled, pollStep, advanceStep, framesBehindStep, step}
 use Rattle.spectator_rules.specs.Value.{Value, valueOf}
@@ -178,7 +178,7 @@ setups :
     × (new 2 1 0 0 .host .setup .handles ≡ 0 ∷ 1 ∷ [])
     × (new 2 1 0 0 .current ≡ nullFrame)
     × (new 2 1 0 0 .newest ≡ nullFrame)
-unfolding kept has without xors framesOf unpack pack decodableLength decodable zeros padded dropTo lastTo room blankFrame highest newestOf foundIn atLine above numbered packetOf takenIn issued fits defaultStatus reported merged mergedAll defaultStatuses hasRoom inputOf inputEntry announced badSetup anyAbove anyTwice inserted sorted termsWith made hostRefused hostDecided queueWire queueSize done bufferFull isFull nonceIssued request started synchronized counted running replied onSyncReply droppedTo acknowledged pendingQueued referenceFrame taken receivedIf receive announcedEach discarded packetOverflows statusesMerged informed inputsReceived inputTaken inputUnless onInput resent reportSent keptAlive interrupted timedOut acted clamped reportQueued roundTrip roundTripNoted onQualityReply advantageOf advantageOverflows localAdvantage advantageUpdated synchronizeStep ignored resumed heard onBody reacted messageStep actStep advantageStep takeStep statsOf filledPart hostSetup badLimits badSession madeWatch blankInput freshInputs inputStored playerInputAt lastOf eventAdded announce inputHandled handled handledAll framesToAdvance framesRefusal syncedAt frameInputs requestsFrom requestsOf advanceRefusal fresh refused decided byHost hostActs hostTakes pollRefusal polled pollStep advanceStep framesBehindStep step valueOf
+unfolding kept has without xors framesOf unpack pack decodableLength decodable zeros padded dropTo lastTo room blankFrame highest newestOf foundIn atLine above numbered packetOf takenIn issued fits defaultStatus reported merged mergedAll defaultStatuses hasRoom inputOf inputEntry announced badSetup anyAbove anyTwice inserted sorted termsWith made hostRefused tested queueWire queueSize done bufferFull isFull nonceIssued request started synchronized counted running replied onSyncReply droppedTo acknowledged pendingQueued referenceFrame taken receivedIf receive announcedEach discarded packetOverflows statusesMerged informed inputsReceived inputTaken inputUnless onInput resent reportSent keptAlive interrupted timedOut acted clamped reportQueued roundTrip roundTripNoted onQualityReply advantageOf advantageOverflows localAdvantage advantageUpdated synchronizeStep ignored resumed heard onBody reacted messageStep actStep advantageStep takeStep statsOf filledPart hostSetup badLimits badSession madeWatch blankInput freshInputs inputStored playerInputAt lastOf eventAdded announce inputHandled handled handledAll framesToAdvance framesBy framesRefusalBy syncedAt frameInputsBy requestsBy requestsOf advanceRefusal fresh refused decided byHost hostActs hostTakes pollRefusal polled pollStep advanceStep framesBehindStep step valueOf
 setups = (refl, refl, refl, refl, refl, refl, refl, refl, refl, refl, refl, refl)
 
 -- ---- handshake
@@ -195,11 +195,11 @@ halfway slots events behind speed =
     w)
 
 half : (slots events behind speed : ℕ) → after (Call.synchronize 1000 (epochAt 1000) 1 65536 ∷ reply 1 2 ∷ reply 2 3 ∷ []) (new slots events behind speed) ≡ halfway slots events behind speed
-unfolding kept has without xors framesOf unpack pack decodableLength decodable zeros padded dropTo lastTo room blankFrame highest newestOf foundIn atLine above numbered packetOf takenIn issued fits defaultStatus reported merged mergedAll defaultStatuses hasRoom inputOf inputEntry announced badSetup anyAbove anyTwice inserted sorted termsWith made hostRefused hostDecided queueWire queueSize done bufferFull isFull nonceIssued request started synchronized counted running replied onSyncReply droppedTo acknowledged pendingQueued referenceFrame taken receivedIf receive announcedEach discarded packetOverflows statusesMerged informed inputsReceived inputTaken inputUnless onInput resent reportSent keptAlive interrupted timedOut acted clamped reportQueued roundTrip roundTripNoted onQualityReply advantageOf advantageOverflows localAdvantage advantageUpdated synchronizeStep ignored resumed heard onBody reacted messageStep actStep advantageStep takeStep statsOf filledPart hostSetup badLimits badSession madeWatch blankInput freshInputs inputStored playerInputAt lastOf eventAdded announce inputHandled handled handledAll framesToAdvance framesRefusal syncedAt frameInputs requestsFrom requestsOf advanceRefusal fresh refused decided byHost hostActs hostTakes pollRefusal polled pollStep advanceStep framesBehindStep step valueOf
+unfolding kept has without xors framesOf unpack pack decodableLength decodable zeros padded dropTo lastTo room blankFrame highest newestOf foundIn atLine above numbered packetOf takenIn issued fits defaultStatus reported merged mergedAll defaultStatuses hasRoom inputOf inputEntry announced badSetup anyAbove anyTwice inserted sorted termsWith made hostRefused tested queueWire queueSize done bufferFull isFull nonceIssued request started synchronized counted running replied onSyncReply droppedTo acknowledged pendingQueued referenceFrame taken receivedIf receive announcedEach discarded packetOverflows statusesMerged informed inputsReceived inputTaken inputUnless onInput resent reportSent keptAlive interrupted timedOut acted clamped reportQueued roundTrip roundTripNoted onQualityReply advantageOf advantageOverflows localAdvantage advantageUpdated synchronizeStep ignored resumed heard onBody reacted messageStep actStep advantageStep takeStep statsOf filledPart hostSetup badLimits badSession madeWatch blankInput freshInputs inputStored playerInputAt lastOf eventAdded announce inputHandled handled handledAll framesToAdvance framesBy framesRefusalBy syncedAt frameInputsBy requestsBy requestsOf advanceRefusal fresh refused decided byHost hostActs hostTakes pollRefusal polled pollStep advanceStep framesBehindStep step valueOf
 half slots events behind speed = refl
 
 rest : (slots events behind speed : ℕ) → after (reply 3 4 ∷ reply 4 5 ∷ reply 5 6 ∷ []) (halfway slots events behind speed) ≡ synced slots events behind speed
-unfolding kept has without xors framesOf unpack pack decodableLength decodable zeros padded dropTo lastTo room blankFrame highest newestOf foundIn atLine above numbered packetOf takenIn issued fits defaultStatus reported merged mergedAll defaultStatuses hasRoom inputOf inputEntry announced badSetup anyAbove anyTwice inserted sorted termsWith made hostRefused hostDecided queueWire queueSize done bufferFull isFull nonceIssued request started synchronized counted running replied onSyncReply droppedTo acknowledged pendingQueued referenceFrame taken receivedIf receive announcedEach discarded packetOverflows statusesMerged informed inputsReceived inputTaken inputUnless onInput resent reportSent keptAlive interrupted timedOut acted clamped reportQueued roundTrip roundTripNoted onQualityReply advantageOf advantageOverflows localAdvantage advantageUpdated synchronizeStep ignored resumed heard onBody reacted messageStep actStep advantageStep takeStep statsOf filledPart hostSetup badLimits badSession madeWatch blankInput freshInputs inputStored playerInputAt lastOf eventAdded announce inputHandled handled handledAll framesToAdvance framesRefusal syncedAt frameInputs requestsFrom requestsOf advanceRefusal fresh refused decided byHost hostActs hostTakes pollRefusal polled pollStep advanceStep framesBehindStep step valueOf
+unfolding kept has without xors framesOf unpack pack decodableLength decodable zeros padded dropTo lastTo room blankFrame highest newestOf foundIn atLine above numbered packetOf takenIn issued fits defaultStatus reported merged mergedAll defaultStatuses hasRoom inputOf inputEntry announced badSetup anyAbove anyTwice inserted sorted termsWith made hostRefused tested queueWire queueSize done bufferFull isFull nonceIssued request started synchronized counted running replied onSyncReply droppedTo acknowledged pendingQueued referenceFrame taken receivedIf receive announcedEach discarded packetOverflows statusesMerged informed inputsReceived inputTaken inputUnless onInput resent reportSent keptAlive interrupted timedOut acted clamped reportQueued roundTrip roundTripNoted onQualityReply advantageOf advantageOverflows localAdvantage advantageUpdated synchronizeStep ignored resumed heard onBody reacted messageStep actStep advantageStep takeStep statsOf filledPart hostSetup badLimits badSession madeWatch blankInput freshInputs inputStored playerInputAt lastOf eventAdded announce inputHandled handled handledAll framesToAdvance framesBy framesRefusalBy syncedAt frameInputsBy requestsBy requestsOf advanceRefusal fresh refused decided byHost hostActs hostTakes pollRefusal polled pollStep advanceStep framesBehindStep step valueOf
 rest slots events behind speed = refl
 
 pub shaken : (slots events behind speed : ℕ) → after handshake (new slots events behind speed) ≡ synced slots events behind speed
@@ -226,7 +226,7 @@ handshakes :
     ≡ record { answer = 0; after = after (Call.synchronize 1000 (epochAt 1000) 1 65536 ∷ []) (new 4 8 2 1); out = [] })
     × (step (Call.synchronize 1000 (epochAt 1000) 1 65536) (ready 4 8 2 1) .answer ≡ 2)
     × (step (Call.synchronize 1000 (epochAt 1000) 1 9) (new 4 8 2 1) ≡ record { answer = 5; after = new 4 8 2 1; out = [] })
-unfolding kept has without xors framesOf unpack pack decodableLength decodable zeros padded dropTo lastTo room blankFrame highest newestOf foundIn atLine above numbered packetOf takenIn issued fits defaultStatus reported merged mergedAll defaultStatuses hasRoom inputOf inputEntry announced badSetup anyAbove anyTwice inserted sorted termsWith made hostRefused hostDecided queueWire queueSize done bufferFull isFull nonceIssued request started synchronized counted running replied onSyncReply droppedTo acknowledged pendingQueued referenceFrame taken receivedIf receive announcedEach discarded packetOverflows statusesMerged informed inputsReceived inputTaken inputUnless onInput resent reportSent keptAlive interrupted timedOut acted clamped reportQueued roundTrip roundTripNoted onQualityReply advantageOf advantageOverflows localAdvantage advantageUpdated synchronizeStep ignored resumed heard onBody reacted messageStep actStep advantageStep takeStep statsOf filledPart hostSetup badLimits badSession madeWatch blankInput freshInputs inputStored playerInputAt lastOf eventAdded announce inputHandled handled handledAll framesToAdvance framesRefusal syncedAt frameInputs requestsFrom requestsOf advanceRefusal fresh refused decided byHost hostActs hostTakes pollRefusal polled pollStep advanceStep framesBehindStep step valueOf
+unfolding kept has without xors framesOf unpack pack decodableLength decodable zeros padded dropTo lastTo room blankFrame highest newestOf foundIn atLine above numbered packetOf takenIn issued fits defaultStatus reported merged mergedAll defaultStatuses hasRoom inputOf inputEntry announced badSetup anyAbove anyTwice inserted sorted termsWith made hostRefused tested queueWire queueSize done bufferFull isFull nonceIssued request started synchronized counted running replied onSyncReply droppedTo acknowledged pendingQueued referenceFrame taken receivedIf receive announcedEach discarded packetOverflows statusesMerged informed inputsReceived inputTaken inputUnless onInput resent reportSent keptAlive interrupted timedOut acted clamped reportQueued roundTrip roundTripNoted onQualityReply advantageOf advantageOverflows localAdvantage advantageUpdated synchronizeStep ignored resumed heard onBody reacted messageStep actStep advantageStep takeStep statsOf filledPart hostSetup badLimits badSession madeWatch blankInput freshInputs inputStored playerInputAt lastOf eventAdded announce inputHandled handled handledAll framesToAdvance framesBy framesRefusalBy syncedAt frameInputsBy requestsBy requestsOf advanceRefusal fresh refused decided byHost hostActs hostTakes pollRefusal polled pollStep advanceStep framesBehindStep step valueOf
 handshakes = (refl, shaken 4 8 2 1, refl, refl, refl, refl, refl, refl, refl)
 
 -- ---- inputs
@@ -278,7 +278,7 @@ watches :
     × (valueOf poll unpolled ≡ Value.part 10)
     × (stored .host .queued ≡ 0)
     × (valueOf (pollAt 1201 65536) unpolled ≡ Value.part 34)
-unfolding kept has without xors framesOf unpack pack decodableLength decodable zeros padded dropTo lastTo room blankFrame highest newestOf foundIn atLine above numbered packetOf takenIn issued fits defaultStatus reported merged mergedAll defaultStatuses hasRoom inputOf inputEntry announced badSetup anyAbove anyTwice inserted sorted termsWith made hostRefused hostDecided queueWire queueSize done bufferFull isFull nonceIssued request started synchronized counted running replied onSyncReply droppedTo acknowledged pendingQueued referenceFrame taken receivedIf receive announcedEach discarded packetOverflows statusesMerged informed inputsReceived inputTaken inputUnless onInput resent reportSent keptAlive interrupted timedOut acted clamped reportQueued roundTrip roundTripNoted onQualityReply advantageOf advantageOverflows localAdvantage advantageUpdated synchronizeStep ignored resumed heard onBody reacted messageStep actStep advantageStep takeStep statsOf filledPart hostSetup badLimits badSession madeWatch blankInput freshInputs inputStored playerInputAt lastOf eventAdded announce inputHandled handled handledAll framesToAdvance framesRefusal syncedAt frameInputs requestsFrom requestsOf advanceRefusal fresh refused decided byHost hostActs hostTakes pollRefusal polled pollStep advanceStep framesBehindStep step valueOf
+unfolding kept has without xors framesOf unpack pack decodableLength decodable zeros padded dropTo lastTo room blankFrame highest newestOf foundIn atLine above numbered packetOf takenIn issued fits defaultStatus reported merged mergedAll defaultStatuses hasRoom inputOf inputEntry announced badSetup anyAbove anyTwice inserted sorted termsWith made hostRefused tested queueWire queueSize done bufferFull isFull nonceIssued request started synchronized counted running replied onSyncReply droppedTo acknowledged pendingQueued referenceFrame taken receivedIf receive announcedEach discarded packetOverflows statusesMerged informed inputsReceived inputTaken inputUnless onInput resent reportSent keptAlive interrupted timedOut acted clamped reportQueued roundTrip roundTripNoted onQualityReply advantageOf advantageOverflows localAdvantage advantageUpdated synchronizeStep ignored resumed heard onBody reacted messageStep actStep advantageStep takeStep statsOf filledPart hostSetup badLimits badSession madeWatch blankInput freshInputs inputStored playerInputAt lastOf eventAdded announce inputHandled handled handledAll framesToAdvance framesBy framesRefusalBy syncedAt frameInputsBy requestsBy requestsOf advanceRefusal fresh refused decided byHost hostActs hostTakes pollRefusal polled pollStep advanceStep framesBehindStep step valueOf
 watches = (refl, refl, refl, refl, refl, refl, refl, refl, refl, refl, refl, refl, refl, refl, refl, refl, refl, refl, refl)
 
 -- ---- falling behind
@@ -326,7 +326,7 @@ catches-up :
     -- a first frame other than 0: 16 while slot 0 is blank, then 17
     × (step Call.advanceFrame seventh .answer ≡ 16)
     × (step Call.advanceFrame eighth .answer ≡ 17)
-unfolding kept has without xors framesOf unpack pack decodableLength decodable zeros padded dropTo lastTo room blankFrame highest newestOf foundIn atLine above numbered packetOf takenIn issued fits defaultStatus reported merged mergedAll defaultStatuses hasRoom inputOf inputEntry announced badSetup anyAbove anyTwice inserted sorted termsWith made hostRefused hostDecided queueWire queueSize done bufferFull isFull nonceIssued request started synchronized counted running replied onSyncReply droppedTo acknowledged pendingQueued referenceFrame taken receivedIf receive announcedEach discarded packetOverflows statusesMerged informed inputsReceived inputTaken inputUnless onInput resent reportSent keptAlive interrupted timedOut acted clamped reportQueued roundTrip roundTripNoted onQualityReply advantageOf advantageOverflows localAdvantage advantageUpdated synchronizeStep ignored resumed heard onBody reacted messageStep actStep advantageStep takeStep statsOf filledPart hostSetup badLimits badSession madeWatch blankInput freshInputs inputStored playerInputAt lastOf eventAdded announce inputHandled handled handledAll framesToAdvance framesRefusal syncedAt frameInputs requestsFrom requestsOf advanceRefusal fresh refused decided byHost hostActs hostTakes pollRefusal polled pollStep advanceStep framesBehindStep step valueOf
+unfolding kept has without xors framesOf unpack pack decodableLength decodable zeros padded dropTo lastTo room blankFrame highest newestOf foundIn atLine above numbered packetOf takenIn issued fits defaultStatus reported merged mergedAll defaultStatuses hasRoom inputOf inputEntry announced badSetup anyAbove anyTwice inserted sorted termsWith made hostRefused tested queueWire queueSize done bufferFull isFull nonceIssued request started synchronized counted running replied onSyncReply droppedTo acknowledged pendingQueued referenceFrame taken receivedIf receive announcedEach discarded packetOverflows statusesMerged informed inputsReceived inputTaken inputUnless onInput resent reportSent keptAlive interrupted timedOut acted clamped reportQueued roundTrip roundTripNoted onQualityReply advantageOf advantageOverflows localAdvantage advantageUpdated synchronizeStep ignored resumed heard onBody reacted messageStep actStep advantageStep takeStep statsOf filledPart hostSetup badLimits badSession madeWatch blankInput freshInputs inputStored playerInputAt lastOf eventAdded announce inputHandled handled handledAll framesToAdvance framesBy framesRefusalBy syncedAt frameInputsBy requestsBy requestsOf advanceRefusal fresh refused decided byHost hostActs hostTakes pollRefusal polled pollStep advanceStep framesBehindStep step valueOf
 catches-up = (refl, refl, refl, refl, refl, refl, refl, refl, refl, refl, refl, refl)
 
 -- ---- overflow
@@ -359,11 +359,11 @@ pacedAs =
     withHost (withQuality (record { «local_frame_advantage» = bias32 + 3; «remote_frame_advantage» = bias32; «round_trip_time» = 100; «stats_start_time» = epochAt 1000 }) h) stored
 
 paced-is : paced ≡ pacedAs
-unfolding kept has without xors framesOf unpack pack decodableLength decodable zeros padded dropTo lastTo room blankFrame highest newestOf foundIn atLine above numbered packetOf takenIn issued fits defaultStatus reported merged mergedAll defaultStatuses hasRoom inputOf inputEntry announced badSetup anyAbove anyTwice inserted sorted termsWith made hostRefused hostDecided queueWire queueSize done bufferFull isFull nonceIssued request started synchronized counted running replied onSyncReply droppedTo acknowledged pendingQueued referenceFrame taken receivedIf receive announcedEach discarded packetOverflows statusesMerged informed inputsReceived inputTaken inputUnless onInput resent reportSent keptAlive interrupted timedOut acted clamped reportQueued roundTrip roundTripNoted onQualityReply advantageOf advantageOverflows localAdvantage advantageUpdated synchronizeStep ignored resumed heard onBody reacted messageStep actStep advantageStep takeStep statsOf filledPart hostSetup badLimits badSession madeWatch blankInput freshInputs inputStored playerInputAt lastOf eventAdded announce inputHandled handled handledAll framesToAdvance framesRefusal syncedAt frameInputs requestsFrom requestsOf advanceRefusal fresh refused decided byHost hostActs hostTakes pollRefusal polled pollStep advanceStep framesBehindStep step valueOf
+unfolding kept has without xors framesOf unpack pack decodableLength decodable zeros padded dropTo lastTo room blankFrame highest newestOf foundIn atLine above numbered packetOf takenIn issued fits defaultStatus reported merged mergedAll defaultStatuses hasRoom inputOf inputEntry announced badSetup anyAbove anyTwice inserted sorted termsWith made hostRefused tested queueWire queueSize done bufferFull isFull nonceIssued request started synchronized counted running replied onSyncReply droppedTo acknowledged pendingQueued referenceFrame taken receivedIf receive announcedEach discarded packetOverflows statusesMerged informed inputsReceived inputTaken inputUnless onInput resent reportSent keptAlive interrupted timedOut acted clamped reportQueued roundTrip roundTripNoted onQualityReply advantageOf advantageOverflows localAdvantage advantageUpdated synchronizeStep ignored resumed heard onBody reacted messageStep actStep advantageStep takeStep statsOf filledPart hostSetup badLimits badSession madeWatch blankInput freshInputs inputStored playerInputAt lastOf eventAdded announce inputHandled handled handledAll framesToAdvance framesBy framesRefusalBy syncedAt frameInputsBy requestsBy requestsOf advanceRefusal fresh refused decided byHost hostActs hostTakes pollRefusal polled pollStep advanceStep framesBehindStep step valueOf
 paced-is = refl
 
 slowed-is : (slowed pacedAs .host .quality .«local_frame_advantage» ≡ bias32 + 3) × (slowed pacedAs .newest ≡ fr 2)
-unfolding kept has without xors framesOf unpack pack decodableLength decodable zeros padded dropTo lastTo room blankFrame highest newestOf foundIn atLine above numbered packetOf takenIn issued fits defaultStatus reported merged mergedAll defaultStatuses hasRoom inputOf inputEntry announced badSetup anyAbove anyTwice inserted sorted termsWith made hostRefused hostDecided queueWire queueSize done bufferFull isFull nonceIssued request started synchronized counted running replied onSyncReply droppedTo acknowledged pendingQueued referenceFrame taken receivedIf receive announcedEach discarded packetOverflows statusesMerged informed inputsReceived inputTaken inputUnless onInput resent reportSent keptAlive interrupted timedOut acted clamped reportQueued roundTrip roundTripNoted onQualityReply advantageOf advantageOverflows localAdvantage advantageUpdated synchronizeStep ignored resumed heard onBody reacted messageStep actStep advantageStep takeStep statsOf filledPart hostSetup badLimits badSession madeWatch blankInput freshInputs inputStored playerInputAt lastOf eventAdded announce inputHandled handled handledAll framesToAdvance framesRefusal syncedAt frameInputs requestsFrom requestsOf advanceRefusal fresh refused decided byHost hostActs hostTakes pollRefusal polled pollStep advanceStep framesBehindStep step valueOf
+unfolding kept has without xors framesOf unpack pack decodableLength decodable zeros padded dropTo lastTo room blankFrame highest newestOf foundIn atLine above numbered packetOf takenIn issued fits defaultStatus reported merged mergedAll defaultStatuses hasRoom inputOf inputEntry announced badSetup anyAbove anyTwice inserted sorted termsWith made hostRefused tested queueWire queueSize done bufferFull isFull nonceIssued request started synchronized counted running replied onSyncReply droppedTo acknowledged pendingQueued referenceFrame taken receivedIf receive announcedEach discarded packetOverflows statusesMerged informed inputsReceived inputTaken inputUnless onInput resent reportSent keptAlive interrupted timedOut acted clamped reportQueued roundTrip roundTripNoted onQualityReply advantageOf advantageOverflows localAdvantage advantageUpdated synchronizeStep ignored resumed heard onBody reacted messageStep actStep advantageStep takeStep statsOf filledPart hostSetup badLimits badSession madeWatch blankInput freshInputs inputStored playerInputAt lastOf eventAdded announce inputHandled handled handledAll framesToAdvance framesBy framesRefusalBy syncedAt frameInputsBy requestsBy requestsOf advanceRefusal fresh refused decided byHost hostActs hostTakes pollRefusal polled pollStep advanceStep framesBehindStep step valueOf
 slowed-is = (refl, refl)
 
 slower-is : (slower .host .quality .«local_frame_advantage» ≡ bias32 + 3) × (slower .newest ≡ fr 2)
@@ -385,7 +385,7 @@ overflows :
     × (slowly .newest ≡ fr 1)
     × (slowly .statuses ≡ stored .statuses)
     × (slowly .inputs ≡ stored .inputs)
-unfolding kept has without xors framesOf unpack pack decodableLength decodable zeros padded dropTo lastTo room blankFrame highest newestOf foundIn atLine above numbered packetOf takenIn issued fits defaultStatus reported merged mergedAll defaultStatuses hasRoom inputOf inputEntry announced badSetup anyAbove anyTwice inserted sorted termsWith made hostRefused hostDecided queueWire queueSize done bufferFull isFull nonceIssued request started synchronized counted running replied onSyncReply droppedTo acknowledged pendingQueued referenceFrame taken receivedIf receive announcedEach discarded packetOverflows statusesMerged informed inputsReceived inputTaken inputUnless onInput resent reportSent keptAlive interrupted timedOut acted clamped reportQueued roundTrip roundTripNoted onQualityReply advantageOf advantageOverflows localAdvantage advantageUpdated synchronizeStep ignored resumed heard onBody reacted messageStep actStep advantageStep takeStep statsOf filledPart hostSetup badLimits badSession madeWatch blankInput freshInputs inputStored playerInputAt lastOf eventAdded announce inputHandled handled handledAll framesToAdvance framesRefusal syncedAt frameInputs requestsFrom requestsOf advanceRefusal fresh refused decided byHost hostActs hostTakes pollRefusal polled pollStep advanceStep framesBehindStep step valueOf
+unfolding kept has without xors framesOf unpack pack decodableLength decodable zeros padded dropTo lastTo room blankFrame highest newestOf foundIn atLine above numbered packetOf takenIn issued fits defaultStatus reported merged mergedAll defaultStatuses hasRoom inputOf inputEntry announced badSetup anyAbove anyTwice inserted sorted termsWith made hostRefused tested queueWire queueSize done bufferFull isFull nonceIssued request started synchronized counted running replied onSyncReply droppedTo acknowledged pendingQueued referenceFrame taken receivedIf receive announcedEach discarded packetOverflows statusesMerged informed inputsReceived inputTaken inputUnless onInput resent reportSent keptAlive interrupted timedOut acted clamped reportQueued roundTrip roundTripNoted onQualityReply advantageOf advantageOverflows localAdvantage advantageUpdated synchronizeStep ignored resumed heard onBody reacted messageStep actStep advantageStep takeStep statsOf filledPart hostSetup badLimits badSession madeWatch blankInput freshInputs inputStored playerInputAt lastOf eventAdded announce inputHandled handled handledAll framesToAdvance framesBy framesRefusalBy syncedAt frameInputsBy requestsBy requestsOf advanceRefusal fresh refused decided byHost hostActs hostTakes pollRefusal polled pollStep advanceStep framesBehindStep step valueOf
 overflows = (refl, refl, refl, refl, refl, refl, slower-is .0, slower-is .1, refl, refl, refl)
 
 -- ---- the poll's refusals
@@ -406,5 +406,5 @@ polls :
     × (step (pollAt 60000 65536) crowded .answer ≡ 0)
     × (step (pollAt 60000 65536) crowded .after .host .events ≡ [])
     × (step (pollAt 60000 65536) crowded .after .events ≡ by3 SessionEvent.NetworkResumed ∷ by3 (SessionEvent.NetworkInterrupted 50000) ∷ [])
-unfolding kept has without xors framesOf unpack pack decodableLength decodable zeros padded dropTo lastTo room blankFrame highest newestOf foundIn atLine above numbered packetOf takenIn issued fits defaultStatus reported merged mergedAll defaultStatuses hasRoom inputOf inputEntry announced badSetup anyAbove anyTwice inserted sorted termsWith made hostRefused hostDecided queueWire queueSize done bufferFull isFull nonceIssued request started synchronized counted running replied onSyncReply droppedTo acknowledged pendingQueued referenceFrame taken receivedIf receive announcedEach discarded packetOverflows statusesMerged informed inputsReceived inputTaken inputUnless onInput resent reportSent keptAlive interrupted timedOut acted clamped reportQueued roundTrip roundTripNoted onQualityReply advantageOf advantageOverflows localAdvantage advantageUpdated synchronizeStep ignored resumed heard onBody reacted messageStep actStep advantageStep takeStep statsOf filledPart hostSetup badLimits badSession madeWatch blankInput freshInputs inputStored playerInputAt lastOf eventAdded announce inputHandled handled handledAll framesToAdvance framesRefusal syncedAt frameInputs requestsFrom requestsOf advanceRefusal fresh refused decided byHost hostActs hostTakes pollRefusal polled pollStep advanceStep framesBehindStep step valueOf
+unfolding kept has without xors framesOf unpack pack decodableLength decodable zeros padded dropTo lastTo room blankFrame highest newestOf foundIn atLine above numbered packetOf takenIn issued fits defaultStatus reported merged mergedAll defaultStatuses hasRoom inputOf inputEntry announced badSetup anyAbove anyTwice inserted sorted termsWith made hostRefused tested queueWire queueSize done bufferFull isFull nonceIssued request started synchronized counted running replied onSyncReply droppedTo acknowledged pendingQueued referenceFrame taken receivedIf receive announcedEach discarded packetOverflows statusesMerged informed inputsReceived inputTaken inputUnless onInput resent reportSent keptAlive interrupted timedOut acted clamped reportQueued roundTrip roundTripNoted onQualityReply advantageOf advantageOverflows localAdvantage advantageUpdated synchronizeStep ignored resumed heard onBody reacted messageStep actStep advantageStep takeStep statsOf filledPart hostSetup badLimits badSession madeWatch blankInput freshInputs inputStored playerInputAt lastOf eventAdded announce inputHandled handled handledAll framesToAdvance framesBy framesRefusalBy syncedAt frameInputsBy requestsBy requestsOf advanceRefusal fresh refused decided byHost hostActs hostTakes pollRefusal polled pollStep advanceStep framesBehindStep step valueOf
 polls = (refl, refl, refl, refl, refl, refl, refl, refl, refl)

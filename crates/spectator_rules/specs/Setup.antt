@@ -1,4 +1,4 @@
--- The setup of a session (C-18 to C-20, S-1): the setup of its host's endpoint, and when a number lies outside.
+-- The setup of a session (C-18 to C-20, S-1): the setup of its own endpoint, and when a number lies outside.
 use mathlib.Core.Bool.{Bool, _||_}
 use mathlib.Core.List.{[], _∷_}
 use Prim.Native.Nat.{ℕ}

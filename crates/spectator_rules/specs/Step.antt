@@ -1,4 +1,4 @@
--- What each call does. What the host refuses, the session refuses, with the host's number; its own refusals are 14, 6, 16, 17, in this order.
+-- What each call does. What its endpoint (`host`) refuses, the session refuses, with the same number; its own refusals are 14, 6, 16, 17, in this order.
 use mathlib.Core.List.{List, [], _∷_, _++_}
 use Prim.Native.Nat.{ℕ}
 use lib.Dec.{eqb}
@@ -18,7 +18,7 @@ use Rattle.spectator_rules.specs.Handling.{handledAll}
 use Rattle.spectator_rules.specs.Advance.{behindOverflows, advanceRefusal, advanced}
 use Rattle.spectator_rules.specs.Call.{Call}
 
--- a call's answer, the state after it, and the messages that its host queues
+-- a call's answer, the state after it, and the messages that its endpoint queues
 pub record Did : Type 0 where
   pub answer : ℕ
   pub after : Watch
@@ -39,11 +39,11 @@ changed w = record { answer = 0; after = w; out = [] }
 unfoldable pub decided : ℕ → Watch → Did → Did
 decided n w d = pick (eqb n 0) d (refused n w)
 
--- a call of the host alone
+-- a call of its endpoint alone
 unfoldable pub byHost : Host.Did → Watch → Did
 byHost d w = record { answer = d .answer; after = withHost (d .after) w; out = d .out }
 
--- ---- poll: the host acts, its old events aside, so that none can lack room; then its messages are taken from the same buffer
+-- ---- poll: its endpoint acts, with the old events aside, so that none can lack room; then its messages are taken from the same buffer
 
 -- with the session's copy of the statuses as it was before the poll
 unfoldable pub hostActs : (now epoch nonce buffer : ℕ) → Watch → Host.Did
@@ -52,7 +52,7 @@ hostActs now epoch nonce buffer w = actStep (length (w .statuses)) (w .statuses)
 unfoldable pub hostTakes : (buffer : ℕ) → Host.Did → Host.Did
 hostTakes buffer d = takeStep buffer (d .after)
 
--- 8, 3, 5 of the host's act, then 5 of the take
+-- 8, 3, 5 of its endpoint's act, then 5 of the take
 unfoldable pub pollRefusal : (now epoch nonce buffer : ℕ) → Watch → ℕ
 pollRefusal now epoch nonce buffer w =
     let d : Host.Did = hostActs now epoch nonce buffer w in

@@ -1,4 +1,4 @@
--- What is seen of a session: its host's endpoint, the lists that its stores hold, and its plain fields; and the state in which it is made.
+-- What is seen of a session: its own endpoint (`host`), the lists that its stores hold, and its plain fields; and the state in which it is made.
 use mathlib.Core.Bool.{Bool, true, false}
 use mathlib.Core.List.{List, []}
 use Prim.Native.Nat.{ℕ, min}
@@ -16,7 +16,7 @@ use Rattle.spectator_rules.specs.declared.SessionState.the-variants.{Syn
 use Rattle.spectator_rules.specs.Setup.{hostSetup}
 use Rattle.spectator_rules.specs.Inputs.{freshInputs}
 
--- `statuses` is the session's copy of what the host reported, `current` the last frame advanced, `newest` the last one received
+-- `host` is the endpoint that speaks with the host; `statuses` is the session's copy of what the host reported, `current` the last frame advanced, `newest` the last one received
 pub record Watch : Type 0 where
   pub host : Seen
   pub limits : Limits

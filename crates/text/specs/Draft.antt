@@ -7,13 +7,17 @@ use lib.ListN.{length, take}
 use Rattle.base.specs.Pick.{pick}
 use Rattle.text.specs.declared.draft.Draft.{Draft}
 
+-- the bytes of its array (`MOST_DRAFT`)
+abbrev pub mostDraft : ℕ
+mostDraft = 256
+
 -- the text in the front of a draft's array
 unfoldable pub drafted : Draft → List ℕ
 drafted d = take (d .used) (d .bytes)
 
 -- a piece after it, where there is room
 unfoldable pub added : List ℕ → List ℕ → List ℕ
-added text piece = pick (leb (length text + length piece) 256) (text ++ piece) text
+added text piece = pick (leb (length text + length piece) mostDraft) (text ++ piece) text
 
 -- a draft of a text
 pub record DraftedAs (line : List ℕ) (r : Draft) : Type 0 where

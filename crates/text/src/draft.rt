@@ -14,8 +14,11 @@ use crate::number::signed;
 use crate::pieces::append;
 use crate::pieces::lay;
 
+// Bytes of a text.
+pub const MOST_DRAFT: usize = 256;
+
 pub struct Draft {
-    pub bytes: [u8; 256],
+    pub bytes: [u8; MOST_DRAFT],
     pub used: usize,
 }
 
@@ -24,7 +27,7 @@ impl Draft {
         ensures { λ r. ⌜ DraftedAs [] r ⌝ }
     {
         Draft {
-            bytes: [0; 256],
+            bytes: [0; MOST_DRAFT],
             used: 0,
         }
     }
@@ -32,7 +35,7 @@ impl Draft {
     fn count(self) -> usize
         ensures { λ r. ⌜ r ≡ length (drafted self) ⌝ }
     {
-        numbers::least(self.used, 256)
+        numbers::least(self.used, MOST_DRAFT)
     }
 
     pub fn put(self, piece: &[u8]) -> Draft

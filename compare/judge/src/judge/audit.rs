@@ -61,7 +61,7 @@ pub(crate) fn check(world: &World, r: &Record, done: &Done, queued_before: usize
                 _ => (),
             }
         }
-        Verdict::Silent => assert!(!done.changed, "a silent call changed the state"),
+        Verdict::Ignored => assert!(!done.changed, "a call that was ignored changed the state"),
         Verdict::Go => within(world, r, queued_before),
     }
     if let Call::Datagram = r.call {

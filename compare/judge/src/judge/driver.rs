@@ -397,7 +397,7 @@ impl World {
 fn done(verdict: Verdict, given: Vec<u8>) -> Done {
     let answer = match verdict {
         Verdict::Refused(number) => number,
-        Verdict::Silent | Verdict::Go => 0,
+        Verdict::Ignored | Verdict::Go => 0,
     };
     Done { answer, verdict, given, message: None, changed: false }
 }

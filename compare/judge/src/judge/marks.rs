@@ -85,7 +85,7 @@ pub const ALL: [&str; 112] = [
     "act: in Shutdown",
     "act: 5 by events",
     "act: 5 by the buffer",
-    "send: silent outside Running",
+    "send: ignored outside Running",
     "send: first frame above 0",
     "send: frame i32 max",
     "send: 4, negative",
@@ -203,7 +203,7 @@ pub(crate) fn endpoint(c: &Seen) -> Marks {
         (None, Call::SendInput) => send_input(&mut m, c),
         (None, Call::Disconnect) => {
             m.when(c.before.phase == Phase::Disconnected && c.done.changed, "disconnect: restarts");
-            m.when(c.done.verdict == Verdict::Silent, "disconnect: in Shutdown");
+            m.when(c.done.verdict == Verdict::Ignored, "disconnect: in Shutdown");
             m.when(c.after.clocks.shutdown > refusals::CLOCK_MAX, "shutdown time above the ceiling");
         }
         (None, Call::SendChecksumReport) => {
@@ -257,13 +257,13 @@ fn clocks(m: &mut Marks, c: &Seen) {
 }
 
 fn message_marks(m: &mut Marks, c: &Seen, body: &MessageBody) {
-    let silent = c.done.verdict == Verdict::Silent;
+    let ignored = c.done.verdict == Verdict::Ignored;
     let shut = c.before.phase == Phase::Shutdown;
     let other = c.r.number != c.before.peer;
-    m.when(silent && shut, "message: in Shutdown");
-    m.when(silent && other && !shut, "message: from another peer");
-    m.when(silent && !other && !shut, "message: stopped by the filter");
-    if silent {
+    m.when(ignored && shut, "message: in Shutdown");
+    m.when(ignored && other && !shut, "message: from another peer");
+    m.when(ignored && !other && !shut, "message: stopped by the filter");
+    if ignored {
         return;
     }
     let resumed = c.announced().contains(&Event::NetworkResumed);
@@ -473,13 +473,13 @@ fn running(m: &mut Marks, c: &Seen) {
     m.when(exact, "act: no interruption at the exact time");
     let exact = now == s.clocks.recv + s.disconnect_timeout && !s.event_sent;
     m.when(exact, "act: no disconnect at the exact time");
-    let silent = c.queued() == 0 && now == s.clocks.send + 200;
-    m.when(silent, "act: no keepalive at exactly 200");
+    let unqueued = c.queued() == 0 && now == s.clocks.send + 200;
+    m.when(unqueued, "act: no keepalive at exactly 200");
 }
 
 fn send_input(m: &mut Marks, c: &Seen) {
     let s = c.before;
-    m.when(c.done.verdict == Verdict::Silent, "send: silent outside Running");
+    m.when(c.done.verdict == Verdict::Ignored, "send: ignored outside Running");
     if c.refused(refusals::BAD_FRAME) {
         m.when(c.r.frame < 0, "send: 4, negative");
         m.when(c.r.frame >= 0, "send: 4, not the next");

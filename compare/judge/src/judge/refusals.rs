@@ -1,5 +1,5 @@
 //! A second reading of the refusals (docs/RULES.md): one function per call, the tests named as in
-//! their table, in their order (8, 1, 3, 7, silent, 2, 4, 12, 6, 5; 14 before 15). It was written
+//! their table, in their order (8, 1, 3, 7, ignored, 2, 4, 12, 6, 5; 14 before 15). It was written
 //! from the rules and the points decided about them, apart from the definitions that are proved, but
 //! with the crate at hand: a slip that those points or the crate suggest may stand here too.
 //! Nothing here asks the crate; `audit` then holds 5 and 6 against the crate's own doing.
@@ -40,13 +40,13 @@ const CHECKSUM_CLEAN_UP: usize = 32;
 pub enum Verdict {
     /// The call is refused with this number.
     Refused(u8),
-    /// Done, 0, and nothing changes.
-    Silent,
+    /// The call is ignored: 0, and nothing changes.
+    Ignored,
     /// Done.
     Go,
 }
 
-use Verdict::{Go, Refused, Silent};
+use Verdict::{Go, Ignored, Refused};
 
 /// The first test that holds gives the number.
 fn first_of(tests: &[(bool, u8)]) -> Verdict {
@@ -180,8 +180,8 @@ pub(crate) fn message(s: &Snapshot, h: &Handed) -> Verdict {
     if bad_clock(h.now) || bad_clock(h.epoch) {
         return Refused(BAD_CLOCK);
     }
-    if stopped(s, h) {
-        return Silent;
+    if is_ignored(s, h) {
+        return Ignored;
     }
     match &h.message.body {
         MessageBody::Input(body) if !discarded(s, body) => input(s, body, h.buffer),
@@ -194,7 +194,7 @@ pub(crate) fn message(s: &Snapshot, h: &Handed) -> Verdict {
 }
 
 /// The message is ignored (E-11).
-pub(crate) fn stopped(s: &Snapshot, h: &Handed) -> bool {
+pub(crate) fn is_ignored(s: &Snapshot, h: &Handed) -> bool {
     let filtered = s.remote_magic != 0 && h.message.header.magic != s.remote_magic;
     s.phase == Phase::Shutdown || h.from != s.peer || filtered
 }
@@ -237,7 +237,7 @@ pub(crate) fn decodable(s: &Snapshot, body: &Input) -> bool {
     body.bytes.len() % s.receiving_width() == 0
 }
 
-/// An Input that is neither stopped nor discarded.
+/// An Input that is neither ignored nor discarded.
 fn input(s: &Snapshot, body: &Input, buffer: usize) -> Verdict {
     let width = s.receiving_width();
     let too_long = body.bytes.len() > 129 * width;
@@ -349,7 +349,7 @@ pub(crate) fn send_input(s: &Snapshot, a: &Sending) -> Verdict {
         return Refused(BAD_LENGTH);
     }
     if s.phase != Phase::Running {
-        return Silent;
+        return Ignored;
     }
     let pending = s.pending.len() + 1;
     let adds = Adds {
@@ -378,7 +378,7 @@ pub(crate) fn send_checksum_report(s: &Snapshot, now: u64, buffer: usize) -> Ver
 pub(crate) fn disconnect(s: &Snapshot, now: u64) -> Verdict {
     match (bad_clock(now), s.phase) {
         (true, _) => Refused(BAD_CLOCK),
-        (false, Phase::Shutdown) => Silent,
+        (false, Phase::Shutdown) => Ignored,
         (false, _) => Go,
     }
 }

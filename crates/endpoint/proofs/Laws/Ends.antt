@@ -1,4 +1,4 @@
--- How calls end: refused or silent, where the very endpoint and buffer are given back; done with nothing queued, or with one message.
+-- How calls end: refused or ignored, where the very endpoint and buffer are given back; done with nothing queued, or with one message.
 use mathlib.Core.Bool.{true}
 use mathlib.Core.List.{List, [], _∷_, _++_, append-nil, flatten}
 use mathlib.Core.Path.{_≡_, refl, sym, _∙_}

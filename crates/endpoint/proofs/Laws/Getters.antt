@@ -20,7 +20,7 @@ use Rattle.setup.specs.Setup.{handleList, termsWith}
 use Rattle.timers.specs.Timers.{badClock}
 use Rattle.endpoint_rules.specs.declared.Phase.{Phase}
 use Rattle.endpoint_rules.specs.Seen.{isSynchronizing, isRunning}
-use Rattle.endpoint_rules.specs.Did.{refused, decided}
+use Rattle.endpoint_rules.specs.Did.{refused, tested}
 use Rattle.endpoint_rules.specs.Reports.{statsOf}
 use Rattle.endpoint_rules.specs.Call.{Call, Question}
 use Rattle.endpoint_rules.specs.Step.{step, statusStep, statsStep}
@@ -66,27 +66,27 @@ module _ (e : Endpoint) where
 
   module _ (handle : ℕ) where
     pub status-refused : e .setup .«num_players» ≤ handle → shownStatus BadHandle ≡ shown (Call.peerConnectStatus handle) (seen e)
-    unfolding shown step statusStep decided refused seen termsWith
+    unfolding shown step statusStep tested refused seen termsWith
     status-refused h = rw (le-leb (e .setup .«num_players») handle h)
 
     pub status-shown : handle < e .setup .«num_players» → (s : ConnectionStatus) → s ≡ getD (heldStatuses (e .statuses)) handle defaultStatus
         → shownStatus (Status s) ≡ shown (Call.peerConnectStatus handle) (seen e)
-    unfolding shown step statusStep decided valueOf seen termsWith
+    unfolding shown step statusStep tested valueOf seen termsWith
     status-shown h s es = rw (lt-leb (e .setup .«num_players») handle h, es)
 
   module _ (epoch : ℕ) where
     pub stats-clock : badClock epoch ≡ true → shownStats (Refused BadClock) ≡ shown (Call.networkStats epoch) (seen e)
-    unfolding shown step statsStep decided refused
+    unfolding shown step statsStep tested refused
     stats-clock h = rw h
 
     module _ (good : badClock epoch ≡ false) where
       pub stats-phase : not (isSynchronizing (e .sync .phase) || isRunning (e .sync .phase)) ≡ true → shownStats (Refused NotSynchronized) ≡ shown (Call.networkStats epoch) (seen e)
-      unfolding shown step statsStep decided refused seen
+      unfolding shown step statsStep tested refused seen
       stats-phase h = rw (good, h)
 
       module _ (talks : not (isSynchronizing (e .sync .phase) || isRunning (e .sync .phase)) ≡ false) where
         pub stats-early : ltb (epoch - e .quality .«stats_start_time») 1000 ≡ true → shownStats (Refused NotEnoughData) ≡ shown (Call.networkStats epoch) (seen e)
-        unfolding shown step statsStep decided refused seen
+        unfolding shown step statsStep tested refused seen
         stats-early h = rw (good, talks, h)
 
         pub stats-shown : ltb (epoch - e .quality .«stats_start_time») 1000 ≡ false → (n : ℕ) → n ≡ length (waiting (e .pending))
@@ -97,7 +97,7 @@ module _ (e : Endpoint) where
               «remote_frames_behind» = e .quality .«remote_frame_advantage»;
             }))
             ≡ shown (Call.networkStats epoch) (seen e)
-        unfolding shown step statsStep decided valueOf statsOf seen
+        unfolding shown step statsStep tested valueOf statsOf seen
         stats-shown h n en = rw (good, talks, h, en)
 
 -- ---- two answers that a contract allows are equal: stores up to what their array holds past the count

@@ -24,7 +24,7 @@ use Rattle.outbox.specs.declared.Queued.{Queued}
 use Rattle.outbox.specs.Outbox.{QueuedAs}
 use Rattle.endpoint_rules.specs.declared.Phase.the-variants.{Synchronizing}
 use Rattle.endpoint_rules.specs.Seen.{isInitializing}
-use Rattle.endpoint_rules.specs.Did.{Effect, begin, decided, queueWire}
+use Rattle.endpoint_rules.specs.Did.{Effect, begin, tested, queueWire}
 use Rattle.endpoint_rules.specs.Room.{isFull}
 use Rattle.endpoint_rules.specs.Handshake.{nonceIssued, request, started, synchronized}
 use Rattle.endpoint_rules.specs.Call.{Call}
@@ -94,24 +94,24 @@ module _ (e : Endpoint) (buffer : List ℕ) (now epoch nonce : ℕ) where
   Starting = synchronized now epoch nonce (begin (seen e))
 
   pub synchronize-clocks : badClocks now epoch ≡ true → Starts e BadClock buffer
-  unfolding step synchronizeStep decided
+  unfolding step synchronizeStep tested
   synchronize-clocks h = refused-did e BadClock _ (rw h) buffer
 
   module _ (good : badClocks now epoch ≡ false) where
     pub synchronize-state : isInitializing (e .sync .phase) ≡ false → Starts e WrongState buffer
-    unfolding step synchronizeStep decided seen
+    unfolding step synchronizeStep tested seen
     synchronize-state h = refused-did e WrongState _ (rw (good, h)) buffer
 
     module _ (first : isInitializing (e .sync .phase) ≡ true) (i : Issued) (ei : IssuedAs (e .nonces) nonce i) (r : Requested) (buffer′ : List ℕ) (er : RequestedAs (i .ok) (e .clocks) (e .setup .magic) now nonce buffer (e .queued) r buffer′) where
       pub synchronize-full : r .ok ≡ false → Starts e Full buffer′
-      unfolding step synchronizeStep synchronized started request nonceIssued queueWire decided seen termsWith
+      unfolding step synchronizeStep synchronized started request nonceIssued queueWire tested seen termsWith
       synchronize-full k =
           rw (er .same k) (refused-did e Full _
           (rw (good, first, request-full buffer (e .setup .magic) nonce (outstanding (e .nonces)) Starting refl (r .ok) (rw (ei .ok) at (er .ok)) k)) buffer)
 
       pub synchronize-done : r .ok ≡ true → hasRoom (heldEvents (e .events)) 0 ≡ true → (q : Quality) → q ≡ startedAt epoch (e .quality)
           → Starts (remade e (e .pending) (e .acked) (e .history) (record { phase = Synchronizing; remaining = 5; «remote_magic» = e .sync .«remote_magic» }) (i .nonces) (r .clocks) (e .flags) q (e .statuses) (e .checksums) (e .events) (r .end)) Done buffer′
-      unfolding step synchronizeStep synchronized started request nonceIssued queueWire decided seen termsWith
+      unfolding step synchronizeStep synchronized started request nonceIssued queueWire tested seen termsWith
       synchronize-done k room q eq =
           queued-did e _ Starting _
           (rw (good, first, request-fits buffer (e .setup .magic) nonce (outstanding (e .nonces)) Starting refl (r .ok) (rw (ei .ok) at (er .ok)) k room))

@@ -11,7 +11,7 @@ use Rattle.codec.specs.Message.{Wire, tableSize}
 use Rattle.events.specs.Events.{hasRoom, heldEvents, PushedAs}
 use Rattle.outbox.specs.Outbox.{queueSize}
 use Rattle.endpoint_rules.specs.Seen.{Seen}
-use Rattle.endpoint_rules.specs.Did.{Effect, refused, decided, done}
+use Rattle.endpoint_rules.specs.Did.{Effect, refused, tested, done}
 use Rattle.endpoint_rules.specs.Room.{bufferFull, isFull}
 use Rattle.endpoint_rules.specs.Handshake.{Reaction}
 use Rattle.endpoint_rules.specs.Step.{reacted}
@@ -47,15 +47,15 @@ module _ (buffer : List ℕ) (f : Effect) where
 -- a reaction that is tested for neither 12 nor 6, or meets neither
 module _ (n : ℕ) (s : Seen) (r : Reaction) (short : r .tooLong ≡ false) (within : r .overflows ≡ false) where
   pub reacted-choked : r .storeFull ≡ true → reacted n s r ≡ refused 5 s
-  unfolding reacted decided
+  unfolding reacted tested
   reacted-choked h = rw (short, within, h)
 
   pub reacted-full : isFull n (r .effect) ≡ true → reacted n s r ≡ refused 5 s
-  unfolding reacted decided
+  unfolding reacted tested
   reacted-full h = rw (short, within, h, or-true)
 
   pub reacted-done : r .storeFull ≡ false → isFull n (r .effect) ≡ false → reacted n s r ≡ done (r .effect)
-  unfolding reacted decided
+  unfolding reacted tested
   reacted-done k h = rw (short, within, k, h)
 
 -- several messages, or none

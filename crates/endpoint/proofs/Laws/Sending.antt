@@ -34,9 +34,9 @@ use Rattle.timers.specs.Timers.{badClock}
 use Rattle.outbox.specs.declared.Queued.{Queued}
 use Rattle.outbox.specs.Outbox.{queueSize, pendingInput, QueuedAs, InputSizedAs}
 use Rattle.endpoint_rules.specs.Seen.{Seen, isRunning, sentAt}
-use Rattle.endpoint_rules.specs.Did.{Did, Effect, decided, begin, change, queueWire, announceEvent, done}
+use Rattle.endpoint_rules.specs.Did.{Did, Effect, refused, tested, begin, change, queueWire, announceEvent, done}
 use Rattle.endpoint_rules.specs.Room.{isFull, bufferFull}
-use Rattle.endpoint_rules.specs.Sending.{badStatuses, badBytes, badAfter, badFrame, accepted, tooMany, inputSent, pendingIn, pendingQueued, queuePending}
+use Rattle.endpoint_rules.specs.Sending.{badStatuses, badBytes, badAfter, badFrame, accepted, announcesMost, inputSent, pendingIn, pendingQueued, queuePending}
 use Rattle.endpoint_rules.specs.Call.{Call}
 use Rattle.endpoint_rules.specs.Step.{step, sendStep}
 use Rattle.endpoint.specs.declared.Endpoint.{Endpoint}
@@ -93,7 +93,7 @@ module _ (now frame : ℕ) (bytes : List ℕ) (statuses : List ConnectionStatus)
   sends-if false = some-queued now statuses (s .carried .sender .pending) input _
 
   sends : inputSent now frame bytes statuses (begin s) ≡ Sent (announcedWith (s .carried .sender .pending ++ input ∷ []))
-  unfolding inputSent tooMany accepted
+  unfolding inputSent announcesMost accepted
   sends = sends-if (leb 129 (length (s .carried .sender .pending ++ input ∷ [])))
 
 module _ (e : Endpoint) (frame : ℕ) (bytes : List ℕ) (st : Statuses) (now : ℕ) (buffer : List ℕ) where
@@ -113,7 +113,7 @@ module _ (e : Endpoint) (frame : ℕ) (bytes : List ℕ) (st : Statuses) (now : 
   Sending = Sent now frame bytes (heldStatuses st) (seen e) (announcedWith (before ++ taken ∷ []))
 
   pub send-clock : badClock now ≡ true → Sends e BadClock buffer
-  unfolding step sendStep decided
+  unfolding step sendStep tested
   send-clock h = refused-did e BadClock _ (rw h) buffer
 
   -- w: the width that the code has
@@ -121,44 +121,45 @@ module _ (e : Endpoint) (frame : ℕ) (bytes : List ℕ) (st : Statuses) (now : 
     abbrev wrong : Bool
     wrong = not (eqb (st .count) (e .setup .«num_players»)) || not (eqb (length bytes) w)
 
-    tested : badStatuses (st .count) (seen e) || badBytes bytes (seen e) ≡ wrong
+    same-tests : badStatuses (st .count) (seen e) || badBytes bytes (seen e) ≡ wrong
     unfolding seen termsWith
-    tested = rw ew
+    same-tests = rw ew
 
     pub send-length : wrong ≡ true → Sends e BadLength buffer
-    unfolding step sendStep decided
-    send-length h = refused-did e BadLength _ (rw (good, tested, h)) buffer
+    unfolding step sendStep tested
+    send-length h = refused-did e BadLength _ (rw (good, same-tests, h)) buffer
 
     module _ (right : wrong ≡ false) where
       wide : length bytes ≡ w
       wide = eqb-true (length bytes) w (not-false (eqb (length bytes) w) (neither (not (eqb (st .count) (e .setup .«num_players»))) _ right .1))
 
-      pub send-silent : isRunning (e .sync .phase) ≡ false → Sends e Done buffer
-      unfolding step sendStep decided seen
-      send-silent h = refused-did e Done _ (rw (good, tested ∙ right, h)) buffer
+      -- the clock is good and the lengths are right, as the modules around say: then outside Running it is ignored
+      pub send-ignored : isRunning (e .sync .phase) ≡ false → Sends e Done buffer
+      unfolding step sendStep tested refused seen
+      send-ignored h = refused-did e Done _ (rw (good, same-tests ∙ right, h)) buffer
 
       module _ (running : isRunning (e .sync .phase) ≡ true) where
         -- what the code makes: the input, the store with it
         module _ (b : List ℕ) (eb : b ≡ padded (xors (take w (drop 0 bytes)) (replicate 64 0))) (p : Pushed) (ep : PushedAs (e .pending) (record { frame = frame; bytes = b }) (e .acked .frame) p) where
           pub send-frame : badAfter (p .last) frame ≡ true → Sends e BadFrame buffer
-          unfolding step sendStep decided seen badFrame
-          send-frame h = refused-did e BadFrame _ (rw (good, tested ∙ right, running, ← ep .last, h)) buffer
+          unfolding step sendStep tested seen badFrame
+          send-frame h = refused-did e BadFrame _ (rw (good, same-tests ∙ right, running, ← ep .last, h)) buffer
 
           module _ (follows : badAfter (p .last) frame ≡ false) where
             next : badAfter (lastFrame (e .acked .frame) before) frame ≡ false
             next = rw (← ep .last) follows
 
             send-full : room before ≡ true → isFull (length buffer) Sending ≡ true → Sends e Full buffer
-            unfolding step sendStep decided seen badFrame
-            send-full k h = refused-did e Full _ (rw (good, tested ∙ right, running, next, k, sends now frame bytes (heldStatuses st) (seen e), h)) buffer
+            unfolding step sendStep tested seen badFrame
+            send-full k h = refused-did e Full _ (rw (good, same-tests ∙ right, running, next, k, sends now frame bytes (heldStatuses st) (seen e), h)) buffer
 
             send-fits : room before ≡ true → isFull (length buffer) Sending ≡ false → Does ≡ done Sending
-            unfolding step sendStep decided seen badFrame
-            send-fits k h = rw (good, tested ∙ right, running, next, k, sends now frame bytes (heldStatuses st) (seen e), h)
+            unfolding step sendStep tested seen badFrame
+            send-fits k h = rw (good, same-tests ∙ right, running, next, k, sends now frame bytes (heldStatuses st) (seen e), h)
 
             pub send-crowded : p .ok ≡ false → Sends e Full buffer
-            unfolding step sendStep decided seen badFrame
-            send-crowded k = refused-did e Full _ (rw (good, tested ∙ right, running, next, sym (ep .ok) ∙ k)) buffer
+            unfolding step sendStep tested seen badFrame
+            send-crowded k = refused-did e Full _ (rw (good, same-tests ∙ right, running, next, sym (ep .ok) ∙ k)) buffer
 
             module _ (ok : p .ok ≡ true) (n : ℕ) (en : n ≡ length (waiting (p .pending))) where
               pends : waiting (p .pending) ≡ before ++ taken ∷ []

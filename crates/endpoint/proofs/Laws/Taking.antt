@@ -16,7 +16,7 @@ use Rattle.answer.specs.declared.Answer.the-variants.{Done, Full}
 use Rattle.events.specs.Events.{heldEvents}
 use Rattle.events.proofs.Laws.{held-none}
 use Rattle.endpoint_rules.specs.Seen.{isShutdown}
-use Rattle.endpoint_rules.specs.Did.{Did, refused, decided}
+use Rattle.endpoint_rules.specs.Did.{Did, refused, tested}
 use Rattle.endpoint_rules.specs.Call.{Call}
 use Rattle.endpoint_rules.specs.Step.{step, takeStep}
 use Rattle.endpoint_rules.specs.Value.{Value, valueOf, filledPart, handedBack}
@@ -53,16 +53,16 @@ module _ (e : Endpoint) where
 
   module _ (room : ℕ) where
     pub take-short : not (isShutdown (e .sync .phase)) && ltb room (e .queued) ≡ true → DoneAs e (step (Call.takeMessages room) (seen e)) (record { answer = Full; endpoint = e })
-    unfolding step takeStep decided seen
+    unfolding step takeStep tested seen
     take-short h = refused-done e Full (takeStep room (seen e)) (rw h)
 
     pub take-done : not (isShutdown (e .sync .phase)) && ltb room (e .queued) ≡ false
         → DoneAs e (step (Call.takeMessages room) (seen e)) (record { answer = Done; endpoint = remade e (e .pending) (e .acked) (e .history) (e .sync) (e .nonces) (e .clocks) (e .flags) (e .quality) (e .statuses) (e .checksums) (e .events) 0 })
-    unfolding step takeStep decided seen
+    unfolding step takeStep tested seen
     take-done h = rw h (record { answer = refl; after = refl; same = λ n. absurd (n refl) })
 
     pub handed-is : pick (isShutdown (e .sync .phase)) 0 (pick (ltb room (e .queued)) 0 (e .queued)) ≡ handedBack room (seen e)
-    unfolding handedBack step takeStep decided refused filledPart seen
+    unfolding handedBack step takeStep tested refused filledPart seen
     handed-is = go (isShutdown (e .sync .phase)) refl (ltb room (e .queued)) refl
       where
         go : (b : Bool) → isShutdown (e .sync .phase) ≡ b → (t : Bool) → ltb room (e .queued) ≡ t → pick (isShutdown (e .sync .phase)) 0 (pick (ltb room (e .queued)) 0 (e .queued)) ≡ handedBack room (seen e)

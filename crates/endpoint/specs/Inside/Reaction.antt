@@ -4,8 +4,9 @@ use mathlib.Core.List.{List}
 use mathlib.Core.Path.{_≡_}
 use Prim.Native.Nat.{ℕ}
 use Rattle.codec.specs.Read.{bodyOnly}
+use Rattle.codec.specs.declared.Wide.{Wide}
 use Rattle.codec.specs.declared.MessageBody.{MessageBody}
-use Rattle.codec.specs.declared.MessageBody.the-variants.{SyncRequest, SyncReply, Input, InputAck, QualityReport, QualityReply, ChecksumReport, KeepAlive}
+use Rattle.codec.specs.declared.MessageBody.the-variants.{SyncRequest, SyncReply, QualityReport, QualityReply, KeepAlive}
 use Rattle.quality.specs.declared.Quality.{Quality}
 use Rattle.quality.specs.Quality.{roundTrip, remoteSet, tripNoted}
 use Rattle.outbox.specs.Outbox.{QueuedAs}
@@ -23,13 +24,9 @@ pub record Notes (full : Bool) (q : Quality) (sent : ℕ) (buffer : List ℕ) (a
   pub noted : full ≡ false → r ≡ record { quality = q; «last_send_time» = sent; end = at; ok = true }
   pub lent : buffer′ ≡ buffer
 
-abbrev pub ReactedAs : MessageBody → Bool → Quality → (sent now epoch magic : ℕ) → List ℕ → ℕ → Reacted → List ℕ → Type 0
-ReactedAs (SyncRequest asked) full q sent now epoch magic b at r b′ = Answers (SyncReply asked) full q now magic b at r b′
-ReactedAs (QualityReport advantage ping) full q sent now epoch magic b at r b′ = Answers (QualityReply ping) full (remoteSet advantage q) now magic b at r b′
-ReactedAs (QualityReply pong) full q sent now epoch magic b at r b′ = Notes full (tripNoted (roundTrip epoch (pong .low) (pong .high)) q) sent b at r b′
-ReactedAs KeepAlive full q sent now epoch magic b at r b′ = Notes full q sent b at r b′
--- (not reachable: `handle_message` has the other kinds itself. A function answers for every value, and here they would only be noted)
-ReactedAs (SyncReply _) full q sent now epoch magic b at r b′ = Notes full q sent b at r b′
-ReactedAs (Input _ _ _) full q sent now epoch magic b at r b′ = Notes full q sent b at r b′
-ReactedAs (InputAck _) full q sent now epoch magic b at r b′ = Notes full q sent b at r b′
-ReactedAs (ChecksumReport _ _) full q sent now epoch magic b at r b′ = Notes full q sent b at r b′
+-- by its kind, which is one of these four: `handle_message` has the others itself
+pub record ReactedAs (body : MessageBody) (full : Bool) (q : Quality) (sent now epoch magic : ℕ) (buffer : List ℕ) (at : ℕ) (r : Reacted) (buffer′ : List ℕ) : Type 0 where
+  pub syncRequest : (asked : ℕ) → body ≡ SyncRequest asked → Answers (SyncReply asked) full q now magic buffer at r buffer′
+  pub qualityReport : (advantage : ℕ) (ping : Wide) → body ≡ QualityReport advantage ping → Answers (QualityReply ping) full (remoteSet advantage q) now magic buffer at r buffer′
+  pub qualityReply : (pong : Wide) → body ≡ QualityReply pong → Notes full (tripNoted (roundTrip epoch (pong .low) (pong .high)) q) sent buffer at r buffer′
+  pub keepAlive : body ≡ KeepAlive → Notes full q sent buffer at r buffer′

@@ -11,7 +11,7 @@ pub struct Reacted {
     pub ok: bool,
 }
 
-// By the number of its kind. `full`: what it announces has no room.
+// By the number of its kind, which is one of these four. `full`: what it announces has no room.
 pub(crate) fn react(
     body: MessageBody,
     full: bool,
@@ -85,7 +85,7 @@ pub(crate) fn react(
                 ..noted
             }
         }
-        // KeepAlive; no other kind comes here.
+        // KeepAlive.
         _ => noted,
     }
 }

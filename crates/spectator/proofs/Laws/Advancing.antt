@@ -18,7 +18,7 @@ use Rattle.setup.specs.Setup.{termsWith}
 use Rattle.endpoint.specs.Endpoint.{seen as seenHost}
 use Rattle.spectator_rules.specs.declared.Limits.{Limits}
 use Rattle.spectator_rules.specs.Watch.{isRunning}
-use Rattle.spectator_rules.specs.Advance.{behindOverflows, nextOverflows, framesToAdvance, framesRefusal, requestsOf, advanceRefusals, advanceRefusal, advanced}
+use Rattle.spectator_rules.specs.Advance.{behindOverflows, nextOverflows, framesBy, framesToAdvance, framesRefusal, framesRefusalBy, requestsBy, requestsOf, advanceTests, advanceRefusal, advanced}
 use Rattle.spectator_rules.specs.Call.{Call}
 use Rattle.spectator_rules.specs.Step.{step, advanceStep, decided, refused, changed}
 use Rattle.spectator.specs.declared.SpectatorSession.{SpectatorSession}
@@ -26,9 +26,7 @@ use Rattle.spectator.specs.declared.advancing.Advanced.{Advanced}
 use Rattle.spectator.specs.declared.requests.Requests.{Requests}
 use Rattle.spectator.specs.Stores.{inputsOf, requestFrames}
 use Rattle.spectator.specs.Session.{seen}
-use Rattle.spectator.specs.Inside.Requests.{requestsIn, refusalsIn, framesFor}
 use Rattle.spectator.specs.Answers.{AdvancedAs}
-use Rattle.spectator.proofs.Laws.Requests.{refusals-are, requests-are, frames-are}
 
 -- ---- how many frames
 
@@ -45,16 +43,16 @@ few-by true speed behind slots = record { few = inl (omega arith) }
 few-by false speed behind slots = record { few = inr refl }
 
 module _ (l : Limits) (behind : ℕ) where
-  pub frames-most : framesFor l behind ≤ 63
-  unfolding framesFor
+  pub frames-most : framesBy l behind ≤ 63
+  unfolding framesBy
   frames-most = most-by (ltb (l .«max_frames_behind») behind) (l .«catchup_speed») behind (l .slots)
 
-  frames-few : Few behind (framesFor l behind)
-  unfolding framesFor
+  frames-few : Few behind (framesBy l behind)
+  unfolding framesBy
   frames-few = few-by (ltb (l .«max_frames_behind») behind) (l .«catchup_speed») behind (l .slots)
 
 -- none of them is past the last
-pub frames-within : (l : Limits) (newest current : ℕ) → newest + 1 ≤ 2 ^ 32 → current + 2 ≤ 2 ^ 32 → current + 1 + framesFor l (newest - current) ≤ 2 ^ 32
+pub frames-within : (l : Limits) (newest current : ℕ) → newest + 1 ≤ 2 ^ 32 → current + 2 ≤ 2 ^ 32 → current + 1 + framesBy l (newest - current) ≤ 2 ^ 32
 frames-within l newest current h k =
     elim (frames-few l (newest - current) .few) [
       | inl e ↦ omega arith
@@ -70,7 +68,7 @@ last-false false false true e = absurd (omega arith)
 last-false false false false e = refl
 
 module _ (s : SpectatorSession) where
-  pub next-fits : firstOf (advanceRefusals (seen s)) ≡ 0 → s .«current_frame» + 1 ≡ 2 ^ 32 → ⊥
+  pub next-fits : firstOf (advanceTests (seen s)) ≡ 0 → s .«current_frame» + 1 ≡ 2 ^ 32 → ⊥
   unfolding seen
   next-fits h = eqb-false (s .«current_frame» + 1) (2 ^ 32) (last-false (not (isRunning (seen s .state))) (behindOverflows (seen s)) (nextOverflows (seen s)) h)
 
@@ -96,15 +94,15 @@ module _ (s : SpectatorSession) where
         same = λ _. er .2;
       }
 
-  pub refused-early : (a : Answer) → numberOf a ≡ firstOf (advanceRefusals (seen s)) → (numberOf a ≡ 0 → ⊥)
+  pub refused-early : (a : Answer) → numberOf a ≡ firstOf (advanceTests (seen s)) → (numberOf a ≡ 0 → ⊥)
       → (r : Advanced) → (r .answer ≡ a) × (requestFrames (r .requests) ≡ []) × (r .session ≡ s) → AdvancedAs s r
   unfolding advanceRefusal
-  refused-early a h n = refused-by a (h ∙ rw (ne-eqb (firstOf (advanceRefusals (seen s))) 0 (λ e. n (h ∙ e)))) n
+  refused-early a h n = refused-by a (h ∙ rw (ne-eqb (firstOf (advanceTests (seen s))) 0 (λ e. n (h ∙ e)))) n
 
-  module _ (free : firstOf (advanceRefusals (seen s)) ≡ 0) where
+  module _ (free : firstOf (advanceTests (seen s)) ≡ 0) where
     past : advanceRefusal (seen s) ≡ framesRefusal (framesToAdvance (seen s)) (suc (seen s .current)) (seen s)
     unfolding advanceRefusal
-    past = rw (eq-eqb (firstOf (advanceRefusals (seen s))) 0 free)
+    past = rw (eq-eqb (firstOf (advanceTests (seen s))) 0 free)
 
     pub refused-late : (a : Answer) → numberOf a ≡ framesRefusal (framesToAdvance (seen s)) (suc (seen s .current)) (seen s) → (numberOf a ≡ 0 → ⊥)
         → (r : Advanced) → (r .answer ≡ a) × (requestFrames (r .requests) ≡ []) × (r .session ≡ s) → AdvancedAs s r
@@ -129,16 +127,16 @@ module _ (s : SpectatorSession) where
 
   -- ---- what the code counts and reads is the session's
 
-  module _ (n : ℕ) (en : n ≡ framesFor (s .limits) (s .«last_recv_frame» - s .«current_frame»)) where
+  module _ (n : ℕ) (en : n ≡ framesBy (s .limits) (s .«last_recv_frame» - s .«current_frame»)) where
     pub counted-as : n ≡ framesToAdvance (seen s)
-    unfolding seen
-    counted-as = en ∙ frames-are (seen s)
+    unfolding seen framesToAdvance
+    counted-as = en
 
-    pub refused-as : refusalsIn (s .limits .slots) n (s .«current_frame» + 1) (inputsOf (s .inputs)) ≡ framesRefusal (framesToAdvance (seen s)) (suc (seen s .current)) (seen s)
+    pub refused-as : framesRefusalBy (s .limits .slots) n (s .«current_frame» + 1) (inputsOf (s .inputs)) ≡ framesRefusal (framesToAdvance (seen s)) (suc (seen s .current)) (seen s)
     unfolding seen
-    refused-as = rw (← counted-as, add-one) (refusals-are (seen s) n (suc (s .«current_frame»)))
+    refused-as = rw (← counted-as, add-one)
 
     pub given-as : (players : ℕ) → players ≡ min (s .host .setup .«num_players») 4
-        → requestsIn (s .limits .slots) n (s .«current_frame» + 1) players (inputsOf (s .inputs)) (heldStatuses (s .statuses)) ≡ requestsOf (seen s)
+        → requestsBy (s .limits .slots) n (s .«current_frame» + 1) players (inputsOf (s .inputs)) (heldStatuses (s .statuses)) ≡ requestsOf (seen s)
     unfolding seen seenHost termsWith requestsOf
-    given-as players ep = rw (← counted-as, add-one, ep) (requests-are (seen s) n (suc (s .«current_frame»)))
+    given-as players ep = rw (← counted-as, add-one, ep)

@@ -9,7 +9,6 @@ use native.Mathlib.Omega.{arith}
 use lib.ListN.{length, drop, getD}
 use lib.Seq.{drop-cons, drop-length}
 use Rattle.base.specs.Pick.{pick}
-use Rattle.base.specs.First.{firstOf}
 use Rattle.frame.specs.Bias.{nullFrame}
 use Rattle.events.specs.declared.Entry.{Entry}
 use Rattle.events.specs.declared.Event.{Event}
@@ -22,7 +21,8 @@ use Rattle.quality.specs.Advantage.{advantageOf, advantageOverflows, shownAdvan
 use Rattle.status.specs.declared.list.Statuses.{Statuses}
 use Rattle.status.specs.Statuses.{heldStatuses}
 use Rattle.endpoint_rules.specs.Seen.{Seen, withQuality}
-use Rattle.endpoint_rules.specs.Did.{refused, decided}
+use Rattle.endpoint_rules.specs.Did.{refused, tested}
+use Rattle.endpoint_rules.specs.Did.Verdict.{refuse}
 use Rattle.endpoint_rules.specs.Sending.{newest}
 use Rattle.endpoint_rules.specs.Advantage.{bothKnown, localAdvantage, advantageUpdated}
 use Rattle.endpoint_rules.specs.Step.{changed, advantageStep}
@@ -74,8 +74,8 @@ module _ (n fps frame : ℕ) (q : Quality) where
 
 -- a refusal 6 leaves the host as it was
 taken-by : (known overflows : Bool) (s : Seen) (q : Quality)
-    → decided (firstOf ((known && overflows, 6) ∷ [])) s (changed (pick known (withQuality q s) s)) .after ≡ withQuality (pick known (pick overflows (s .quality) q) (s .quality)) s
-unfolding decided refused
+    → tested ((known && overflows, refuse 6) ∷ []) s (changed (pick known (withQuality q s) s)) .after ≡ withQuality (pick known (pick overflows (s .quality) q) (s .quality)) s
+unfolding tested refused
 taken-by true true s q = refl
 taken-by true false s q = refl
 taken-by false o s q = refl

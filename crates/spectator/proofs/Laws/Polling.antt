@@ -10,7 +10,6 @@ use lib.Dec.{ltb, eqb}
 use lib.ListN.{length, take}
 use lib.Seq.{length-take-le}
 use Rattle.base.specs.Pick.{pick}
-use Rattle.base.specs.First.{firstOf}
 use Rattle.base.specs.Lay.{laidAt}
 use Rattle.base.proofs.Lay.{laid-none}
 use Rattle.answer.specs.Number.{numberOf}
@@ -23,7 +22,8 @@ use Rattle.events.specs.declared.Events.{Events}
 use Rattle.events.specs.Events.{heldEvents}
 use Rattle.outbox.specs.Outbox.{queueSize}
 use Rattle.endpoint_rules.specs.Seen.{Seen, isShutdown, withEvents, withQueued}
-use Rattle.endpoint_rules.specs.Did.{Did as HostDid, Effect, begin, done, refused as hostRefused, decided as hostDecided}
+use Rattle.endpoint_rules.specs.Did.{Did as HostDid, Effect, begin, done, refused as hostRefused, tested}
+use Rattle.endpoint_rules.specs.Did.Verdict.{refuse}
 use Rattle.endpoint_rules.specs.Room.{eventsFull, bufferFull, isFull}
 use Rattle.endpoint_rules.specs.Act.{acted, requestChoked}
 use Rattle.timers.specs.Timers.{badClocks}
@@ -56,14 +56,14 @@ newest-shown e n h = cc
 -- ---- taking messages does not look at events
 
 apart-answer : (b : Bool) (s : Seen)
-    → hostDecided (firstOf ((b, 5) ∷ [])) (withEvents [] s) (hostChanged (withQueued 0 (withEvents [] s))) .answer ≡ hostDecided (firstOf ((b, 5) ∷ [])) s (hostChanged (withQueued 0 s)) .answer
-unfolding hostDecided hostRefused
+    → tested ((b, refuse 5) ∷ []) (withEvents [] s) (hostChanged (withQueued 0 (withEvents [] s))) .answer ≡ tested ((b, refuse 5) ∷ []) s (hostChanged (withQueued 0 s)) .answer
+unfolding tested hostRefused
 apart-answer true s = refl
 apart-answer false s = refl
 
 apart-after : (b : Bool) (s : Seen)
-    → hostDecided (firstOf ((b, 5) ∷ [])) (withEvents [] s) (hostChanged (withQueued 0 (withEvents [] s))) .after ≡ withEvents [] (hostDecided (firstOf ((b, 5) ∷ [])) s (hostChanged (withQueued 0 s)) .after)
-unfolding hostDecided hostRefused
+    → tested ((b, refuse 5) ∷ []) (withEvents [] s) (hostChanged (withQueued 0 (withEvents [] s))) .after ≡ withEvents [] (tested ((b, refuse 5) ∷ []) s (hostChanged (withQueued 0 s)) .after)
+unfolding tested hostRefused
 apart-after true s = refl
 apart-after false s = refl
 
@@ -78,8 +78,8 @@ module _ (buffer : ℕ) (s : Seen) where
 
   -- what is handed back is within the buffer
   fits-by : (shut short : Bool) (queued : ℕ) → (short ≡ false → queued ≤ buffer)
-      → pick (eqb (hostDecided (firstOf ((not shut && short, 5) ∷ [])) s (hostChanged (withQueued 0 s)) .answer) 0) (pick shut 0 queued) 0 ≤ buffer
-  unfolding hostDecided hostRefused
+      → pick (eqb (tested ((not shut && short, refuse 5) ∷ []) s (hostChanged (withQueued 0 s)) .answer) 0) (pick shut 0 queued) 0 ≤ buffer
+  unfolding tested hostRefused
   fits-by true short queued h = omega arith
   fits-by false true queued h = omega arith
   fits-by false false queued h = h refl
@@ -161,8 +161,8 @@ none-left buffer queued bytes h l =
 
 module _ (buffer : ℕ) (s : Seen) (e : Effect) where
   -- an act that is not refused is done, and what it queues has room
-  not-refused : (a b x f : Bool) → hostDecided (firstOf ((a, 8) ∷ (b, 3) ∷ (x || f, 5) ∷ [])) s (done e) .answer ≡ 0 → (hostDecided (firstOf ((a, 8) ∷ (b, 3) ∷ (x || f, 5) ∷ [])) s (done e) ≡ done e) × (f ≡ false)
-  unfolding hostDecided hostRefused
+  not-refused : (a b x f : Bool) → tested ((a, refuse 8) ∷ (b, refuse 3) ∷ (x || f, refuse 5) ∷ []) s (done e) .answer ≡ 0 → (tested ((a, refuse 8) ∷ (b, refuse 3) ∷ (x || f, refuse 5) ∷ []) s (done e) ≡ done e) × (f ≡ false)
+  unfolding tested hostRefused
   not-refused true b x f h = absurd (omega arith)
   not-refused false true x f h = absurd (omega arith)
   not-refused false false true f h = absurd (omega arith)
@@ -170,8 +170,8 @@ module _ (buffer : ℕ) (s : Seen) (e : Effect) where
   not-refused false false false false h = (refl, refl)
 
   -- one that is refused queues nothing
-  none-queued : (a b x f : Bool) → (hostDecided (firstOf ((a, 8) ∷ (b, 3) ∷ (x || f, 5) ∷ [])) s (done e) .answer ≡ 0 → ⊥) → hostDecided (firstOf ((a, 8) ∷ (b, 3) ∷ (x || f, 5) ∷ [])) s (done e) .out ≡ []
-  unfolding hostDecided hostRefused done
+  none-queued : (a b x f : Bool) → (tested ((a, refuse 8) ∷ (b, refuse 3) ∷ (x || f, refuse 5) ∷ []) s (done e) .answer ≡ 0 → ⊥) → tested ((a, refuse 8) ∷ (b, refuse 3) ∷ (x || f, refuse 5) ∷ []) s (done e) .out ≡ []
+  unfolding tested hostRefused done
   none-queued true b x f n = refl
   none-queued false true x f n = refl
   none-queued false false true f n = refl
@@ -182,8 +182,8 @@ or-right : (a b : Bool) → a || b ≡ false → b ≡ false
 or-right true b h = absurd (let z : _≡_ {A = ℕ} 0 1 = cc in omega arith)
 or-right false b h = h
 
-short-by : (shut short : Bool) (s : Seen) → (hostDecided (firstOf ((not shut && short, 5) ∷ [])) s (hostChanged (withQueued 0 s)) .answer ≡ 0 → ⊥) → short ≡ true
-unfolding hostDecided hostRefused
+short-by : (shut short : Bool) (s : Seen) → (tested ((not shut && short, refuse 5) ∷ []) s (hostChanged (withQueued 0 s)) .answer ≡ 0 → ⊥) → short ≡ true
+unfolding tested hostRefused
 short-by true short s n = absurd (n refl)
 short-by false true s n = refl
 short-by false false s n = absurd (n refl)

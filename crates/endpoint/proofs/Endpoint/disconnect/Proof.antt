@@ -2,7 +2,7 @@ use mathlib.Core.Path.{sym, _∙_, ap}
 use native.Mathlib.Omega.{arith}
 use Rattle.endpoint_rules.specs.Seen.{isShutdown}
 use Rattle.endpoint.proofs.Laws.Phases.{not-shutdown}
-use Rattle.endpoint.proofs.Laws.Disconnecting.{disconnect-clock, disconnect-silent, disconnect-done, low}
+use Rattle.endpoint.proofs.Laws.Disconnecting.{disconnect-clock, disconnect-ignored, disconnect-done, low}
 use borrow.Author.Needs.{needs}
 use Rattle.endpoint.proofs.Endpoint.disconnect.Statement.{statement}
 use Rattle.endpoint.proofs.Endpoint.disconnect.Tie as tie
@@ -18,7 +18,7 @@ enum-told c = search needs
 
 returns-2 : tie.Need-returns-2
 returns-2 c =
-    disconnect-silent (c .before .before .before .before .before .args .self) (c .before .before .before .before .before .args .now) (sym (c .before .before .before .before .is-bad .ensures) ∙ c .before .before .before .if1 .left) (ap isShutdown (c .enum-told .given .1))
+    disconnect-ignored (c .before .before .before .before .before .args .self) (c .before .before .before .before .before .args .now) (sym (c .before .before .before .before .is-bad .ensures) ∙ c .before .before .before .if1 .left) (ap isShutdown (c .enum-told .given .1))
 
 add-shutting-down : tie.Need-add-shutting-down
 add-shutting-down c = record { fits = omega (arith, low (c .before .before .before .before .args .now) (sym (c .before .before .before .is-bad .ensures) ∙ c .before .before .if1 .left)) }

@@ -4,7 +4,7 @@ use mathlib.Core.Path.{sym, _∙_, ap}
 use Rattle.endpoint_rules.specs.Seen.{isRunning}
 use Rattle.endpoint.proofs.Laws.Lengths.{no-event-fits, acked-long}
 use Rattle.endpoint.proofs.Laws.Phases.{not-running}
-use Rattle.endpoint.proofs.Laws.Sending.{Announcing, announces-one, announces-none, send-clock, send-length, send-silent, send-frame, send-crowded, send-unannounced, send-choked, send-done}
+use Rattle.endpoint.proofs.Laws.Sending.{Announcing, announces-one, announces-none, send-clock, send-length, send-ignored, send-frame, send-crowded, send-unannounced, send-choked, send-done}
 use borrow.Author.Needs.{needs}
 use Rattle.endpoint.proofs.Endpoint.send_input.Statement.{statement}
 use Rattle.endpoint.proofs.Endpoint.send_input.Tie as tie
@@ -28,7 +28,7 @@ enum-told : tie.Need-enum-told
 enum-told c = search needs
 
 returns-3 : tie.Need-returns-3
-returns-3 c = send-silent (c .before .before .before .before .before .before .before .before .before .before .args .self) (c .before .before .before .before .before .before .before .before .before .before .args .frame) (c .before .before .before .before .before .before .before .before .before .before .args .bytes .now) (c .before .before .before .before .before .before .before .before .before .before .args .statuses) (c .before .before .before .before .before .before .before .before .before .before .args .now) (c .before .before .before .before .before .before .before .before .before .before .args .out .now) (sym (c .before .before .before .before .before .before .before .is-bad .ensures) ∙ c .before .before .before .before .before .before .if1 .left) (c .before .before .before .before .before .sending-width .result) (c .before .before .before .before .before .sending-width .ensures) (c .before .before .if2 .left) (not-running (c .before .before .before .before .before .before .before .before .before .before .args .self .sync .phase) (c .match .keys2))
+returns-3 c = send-ignored (c .before .before .before .before .before .before .before .before .before .before .args .self) (c .before .before .before .before .before .before .before .before .before .before .args .frame) (c .before .before .before .before .before .before .before .before .before .before .args .bytes .now) (c .before .before .before .before .before .before .before .before .before .before .args .statuses) (c .before .before .before .before .before .before .before .before .before .before .args .now) (c .before .before .before .before .before .before .before .before .before .before .args .out .now) (sym (c .before .before .before .before .before .before .before .is-bad .ensures) ∙ c .before .before .before .before .before .before .if1 .left) (c .before .before .before .before .before .sending-width .result) (c .before .before .before .before .before .sending-width .ensures) (c .before .before .if2 .left) (not-running (c .before .before .before .before .before .before .before .before .before .before .args .self .sync .phase) (c .match .keys2))
 
 frame-at-requires : tie.Need-frame-at-requires
 frame-at-requires c κs = search needs

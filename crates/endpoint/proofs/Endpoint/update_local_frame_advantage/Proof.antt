@@ -2,7 +2,7 @@ use borrow.Author.Tests.{eqb-true, eqb-false}
 use mathlib.Core.Path.{sym, _∙_, ap}
 use mathlib.Core.Logic.{⊎-elim}
 use Rattle.quality.specs.Advantage.{shownAdvantage}
-use Rattle.endpoint.proofs.Laws.Advantage.{local-unknown, newest-unknown, advantage-overflows, advantage-shown}
+use Rattle.endpoint.proofs.Laws.Reports.{local-unknown, newest-unknown, advantage-overflows, advantage-shown}
 use borrow.Author.Needs.{needs}
 use Rattle.endpoint.proofs.Endpoint.update_local_frame_advantage.Statement.{statement}
 use Rattle.endpoint.proofs.Endpoint.update_local_frame_advantage.Tie as tie

@@ -36,7 +36,7 @@ use Rattle.endpoint_rules.specs.declared.Phase.{Phase}
 use Rattle.endpoint_rules.specs.declared.Phase.the-variants.{Initializing, Synchronizing, Running, Disconnected, Shutdown}
 use Rattle.endpoint_rules.proofs.Phase.{the-type}
 use Rattle.endpoint_rules.specs.Seen.{Seen, withPhase}
-use Rattle.endpoint_rules.specs.Did.{Did, Effect, begin, change, queueWire, decided, done}
+use Rattle.endpoint_rules.specs.Did.{Did, Effect, begin, change, queueWire, tested, done}
 use Rattle.endpoint_rules.specs.Room.{bufferFull}
 use Rattle.endpoint_rules.specs.Handshake.{Reaction, nonceIssued, request}
 use Rattle.endpoint_rules.specs.Act.{acted, requestChoked}
@@ -217,14 +217,14 @@ module _ (e : Endpoint) (buffer : List ℕ) (now nonce : ℕ) where
     Asked = request now nonce (begin (seen e))
 
     pub synchronizing-full : r .ok ≡ false → Asking Full e buffer′
-    unfolding reacted decided acts acted request nonceIssued queueWire seen termsWith
+    unfolding reacted tested acts acted request nonceIssued queueWire seen termsWith
     synchronizing-full k =
         rw (er .same k) (refused-did e Full _
         (rw (due, request-full buffer (e .setup .magic) nonce (outstanding (e .nonces)) Asked refl (r .ok) (rw (ei .ok) at (er .ok)) k)) buffer)
 
     pub synchronizing-done : hasRoom (heldEvents (e .events)) 0 ≡ true → r .ok ≡ true
         → Asking Done (remade e (e .pending) (e .acked) (e .history) (e .sync) (i .nonces) (r .clocks) (e .flags) (e .quality) (e .statuses) (e .checksums) (e .events) (r .end)) buffer′
-    unfolding reacted decided acts acted request nonceIssued queueWire seen termsWith
+    unfolding reacted tested acts acted request nonceIssued queueWire seen termsWith
     synchronizing-done room k =
         queued-did e _ Asked _
         (rw (due, request-fits buffer (e .setup .magic) nonce (outstanding (e .nonces)) Asked refl (r .ok) (rw (ei .ok) at (er .ok)) k room))
@@ -266,12 +266,12 @@ module _ (e : Endpoint) (buffer : List ℕ) (statuses : Statuses) (now epoch non
   Acts = DidAs e (step (Call.act (statuses .count) (heldStatuses statuses) now epoch nonce (length buffer)) (seen e)) buffer
 
   pub act-clocks : badClocks now epoch ≡ true → Acts (record { answer = BadClock; endpoint = e }) buffer
-  unfolding step actStep decided
+  unfolding step actStep tested
   act-clocks h = refused-did e BadClock _ (rw h) buffer
 
   module _ (good : badClocks now epoch ≡ false) where
     pub act-count : (statuses .count ≡ e .setup .«num_players» → ⊥) → Acts (record { answer = BadLength; endpoint = e }) buffer
-    unfolding step actStep decided seen termsWith
+    unfolding step actStep tested seen termsWith
     act-count h = refused-did e BadLength _ (rw (good, ne-eqb (statuses .count) (e .setup .«num_players») h)) buffer
 
     module _ (all : statuses .count ≡ e .setup .«num_players») where
@@ -279,7 +279,7 @@ module _ (e : Endpoint) (buffer : List ℕ) (statuses : Statuses) (now epoch non
       Then p = reacted (length buffer) (seen e) (acts p now epoch nonce (heldStatuses statuses) (seen e))
 
       reacts : (p : Phase) → e .sync .phase ≡ p → step (Call.act (statuses .count) (heldStatuses statuses) now epoch nonce (length buffer)) (seen e) ≡ Then p
-      unfolding step actStep reacted acts seen termsWith
+      unfolding step actStep reacted tested acts seen termsWith
       reacts p h = (rw (good, eq-eqb (statuses .count) (e .setup .«num_players») all)) ∙ ap Then h
 
       pub act-synchronizing : e .sync .phase ≡ Synchronizing → (r : Ended) (buffer′ : List ℕ) → DidAs e (reacted (length buffer) (seen e) (acts Synchronizing now 0 nonce [] (seen e))) buffer r buffer′ → Acts r buffer′

@@ -20,7 +20,7 @@ use Rattle.endpoint_rules.specs.Reports.{onQualityReport, onQualityReply}
 use Rattle.endpoint_rules.specs.Checksum.{onChecksumReport}
 use Rattle.endpoint_rules.specs.Call.{Call}
 use Rattle.endpoint_rules.specs.Step.{ignoredBy, ignored, heard, onBody, reacted, step}
-use Rattle.endpoint_rules.proofs.Laws.{message-clocks, message-silent, message-reacts, by-hearing}
+use Rattle.endpoint_rules.proofs.Laws.{message-clocks, message-ignored as ignored-step, message-reacts, by-hearing}
 use Rattle.endpoint.specs.declared.Endpoint.{Endpoint}
 use Rattle.endpoint.specs.declared.Ended.{Ended}
 use Rattle.endpoint.specs.Endpoint.{seen, DidAs, DoneAs}
@@ -50,7 +50,7 @@ module _ (e : Endpoint) (from : ℕ) (m : Message) (p : List ℕ) (now epoch non
     pub message-ignored : ignoredBy (e .sync .phase) (e .setup .«peer_addr») (e .sync .«remote_magic») from (m .magic) ≡ true
         → DidAs e Does buffer (record { answer = Done; endpoint = e }) buffer
     unfolding step
-    message-ignored h = refused-did e Done Does (message-silent from (m .reports .count) (meant m p) now epoch nonce (length buffer) (seen e) good (filters ∙ h)) buffer
+    message-ignored h = refused-did e Done Does (ignored-step from (m .reports .count) (meant m p) now epoch nonce (length buffer) (seen e) good (filters ∙ h)) buffer
 
     module _ (heeded : ignoredBy (e .sync .phase) (e .setup .«peer_addr») (e .sync .«remote_magic») from (m .magic) ≡ false) (x : Ended) where
       reacts : (b : MessageBody) (b′ : List ℕ) → m .body ≡ b → Reacts (onBody b (m .reports .count) (meant m p) now epoch nonce Hears) x b′ → DidAs e Does buffer x b′

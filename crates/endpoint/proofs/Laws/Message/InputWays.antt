@@ -16,7 +16,7 @@ use Rattle.history.specs.History.{received, Found, foundIn, referenceFrame}
 use Rattle.codec.specs.declared.StatusReport.{StatusReport}
 use Rattle.setup.specs.Setup.{termsOf, termsWith, receivingWidth}
 use Rattle.endpoint_rules.specs.Seen.{Receiver}
-use Rattle.endpoint_rules.specs.Did.{Effect, decided, change}
+use Rattle.endpoint_rules.specs.Did.{Effect, tested, change}
 use Rattle.endpoint_rules.specs.Handshake.{Reaction, plainly}
 use Rattle.endpoint_rules.specs.Sending.{acknowledged}
 use Rattle.endpoint_rules.specs.Receiving.{inputMessage, receivedIf, receive, discarded, packetOverflows, informed, inputsReceived, inputTaken, inputUnless, onInput}
@@ -75,7 +75,7 @@ module _ (e : Endpoint) (buffer : List ℕ) (now count ack start : ℕ) (d : Boo
       -- l: the test for 12
       module _ (l : Bool) (el : l ≡ ltb (129 * Width) (length payload)) where
         pub input-long : l ≡ true → Arrives (record { answer = TooLong; endpoint = e }) buffer
-        unfolding reacted decided
+        unfolding reacted tested
         input-long h = rw reacting (refused-did e TooLong _ (rw (sym el ∙ h)) buffer)
 
         -- w: the width, r: the reference, y: whether the inputs can be read
@@ -108,7 +108,7 @@ module _ (e : Endpoint) (buffer : List ℕ) (now count ack start : ℕ) (d : Boo
             overflowing = rw (← er, ← ew, reads .0, reads .1, ← en, eo)
 
             pub input-overflows : o ≡ true → Arrives (record { answer = Overflow; endpoint = e }) buffer
-            unfolding reacted decided
+            unfolding reacted tested
             input-overflows h = rw reacting (refused-did e Overflow _ (rw (sym el ∙ short, overflowing ∙ h)) buffer)
 
             module _ (fits : o ≡ false) where

@@ -1,4 +1,4 @@
--- The ways out of a SyncReply: ignored, one of the first that count, the last.
+-- The ways out of a SyncReply: one that does not count, one of the first that count, the last.
 use borrow.Author.Tests.{lt-ltb, le-ltb}
 use mathlib.Core.Bool.{Bool, true, false, not, _&&_}
 use mathlib.Core.List.{List, [], _∷_}
@@ -21,7 +21,7 @@ use Rattle.events.specs.declared.Event.the-variants as Event
 use Rattle.events.specs.Events.{heldEvents, hasRoom, withoutInput, PushedAs}
 use Rattle.endpoint_rules.specs.declared.Phase.the-variants.{Synchronizing, Running}
 use Rattle.endpoint_rules.specs.Seen.{isSynchronizing, isRunning, heardAt as heardSeen}
-use Rattle.endpoint_rules.specs.Did.{decided, begin, queueWire}
+use Rattle.endpoint_rules.specs.Did.{tested, begin, queueWire}
 use Rattle.endpoint_rules.specs.Handshake.{Reaction, plainly, nonceIssued, request, counted, running, replied, onSyncReply}
 use Rattle.endpoint_rules.specs.Step.{heard, reacted}
 use Rattle.endpoint_rules.proofs.Laws.{heard-quiet, by-hearing}
@@ -63,7 +63,7 @@ module _ (e : Endpoint) (now nonce magic reply : ℕ) where
         fit = er .ok ∙ rw (ei .ok, ev)
 
         pub early-choked : r .ok ≡ false → Early e Full buffer′
-        unfolding reacted decided replied request counted nonceIssued queueWire seen termsWith
+        unfolding reacted tested replied request counted nonceIssued queueWire seen termsWith
         early-choked k =
             rw (er .same k) (refused-did e Full _
             (rw (request-full buffer (e .setup .magic) nonce (spent reply (outstanding (e .nonces))) (Counting true .effect) refl (r .ok) fit k)) buffer)
@@ -71,7 +71,7 @@ module _ (e : Endpoint) (now nonce magic reply : ℕ) where
         pub early-done : (p : Pushed) → hasRoom (heldEvents (e .events)) 1 ≡ true
             → PushedAs (e .events) (hasRoom (heldEvents (e .events)) 1) (withoutInput (Event.Synchronizing 5 (5 - left)) ∷ []) p → r .ok ≡ true
             → Early (remade e (e .pending) (e .acked) (e .history) (record { phase = e .sync .phase; remaining = left; «remote_magic» = e .sync .«remote_magic» }) (i .nonces) (r .clocks) (e .flags) (e .quality) (e .statuses) (e .checksums) (p .events) (r .end)) Done buffer′
-        unfolding reacted decided replied request counted nonceIssued queueWire seen termsWith
+        unfolding reacted tested replied request counted nonceIssued queueWire seen termsWith
         early-done p room ep k =
             queued-did e _ (Counting true .effect) _
             (rw (request-fits buffer (e .setup .magic) nonce (spent reply (outstanding (e .nonces))) (Counting true .effect) refl (r .ok) fit k room))
@@ -95,9 +95,9 @@ module _ (e : Endpoint) (now nonce magic reply : ℕ) where
     Replies = DidAs e (reacted (length buffer) (seen e) (onSyncReply now nonce magic reply (heard now (seen e)))) buffer
 
     module _ (x : Ended) (d : DoneAs e (reacted 0 (seen e) (plainly (heard now (seen e)))) x) where
-      pub ignored : isSynchronizing (e .sync .phase) && isOutstanding reply (outstanding (e .nonces)) ≡ false → Replies x buffer
+      pub uncounted : isSynchronizing (e .sync .phase) && isOutstanding reply (outstanding (e .nonces)) ≡ false → Replies x buffer
       unfolding onSyncReply replied seen
-      ignored h =
+      uncounted h =
           rw (by-hearing now (seen e) (λ f. onSyncReply now nonce magic reply f ≡ plainly f) (λ f t. rw h))
           (unqueued e (plainly (heard now (seen e))) (by-hearing now (seen e) (λ f. f .out ≡ []) (λ f t. refl)) buffer x d)
 

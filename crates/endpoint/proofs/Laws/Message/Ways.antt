@@ -58,7 +58,7 @@ use Rattle.endpoint.proofs.Laws.Message.Quiet.{only-full, only-heard}
 use Rattle.endpoint.proofs.Laws.Message.InputAck.{ack-full, ack-done, dropped-sent}
 use Rattle.endpoint.proofs.Laws.Message.InputWays.{input-discarded}
 use Rattle.endpoint.proofs.Laws.Message.ChecksumReport.{checksum-overflows, checksum-choked, checksum-unannounced, checksum-done}
-use Rattle.endpoint.proofs.Laws.Message.SyncReply.{Counting, early-unannounced, early-choked, early-done, last-unannounced, last-done, ignored, reply-early, reply-last}
+use Rattle.endpoint.proofs.Laws.Message.SyncReply.{Counting, early-unannounced, early-choked, early-done, last-unannounced, last-done, uncounted, reply-early, reply-last}
 use Rattle.endpoint.proofs.Laws.Message.Reaction.{ratedBy, react-refused, react-roomy, react-done}
 use Rattle.endpoint.proofs.Laws.Message.Bodies.{Does, sync-replied, input-came, acknowledged, checksum-reported}
 
@@ -78,7 +78,7 @@ module _ (e : Endpoint) (from : ℕ) (m : Message) (p : List ℕ) (now epoch non
   module _ (reply : ℕ) (eb : m .body ≡ SyncReply reply) where
     -- that does not count
     pub reply-passes : isSynchronizing (e .sync .phase) && isOutstanding reply (outstanding (e .nonces)) ≡ false → OnlyHeard
-    reply-passes h x d = sync-replied e from m p now epoch nonce buffer good heeded x reply buffer eb (ignored e now nonce (m .magic) reply buffer x d h)
+    reply-passes h x d = sync-replied e from m p now epoch nonce buffer good heeded x reply buffer eb (uncounted e now nonce (m .magic) reply buffer x d h)
 
     -- that does; l: how many replies are to come, y: the nonces without its own, and with the next one where l is not 0
     module _ (phase : e .sync .phase ≡ Synchronizing) (l : ℕ) (el : l ≡ e .sync .remaining - 1) (y : Spent) (ey : SpentAs (e .nonces) reply (ltb 0 l) nonce y) (counts : y .found ≡ true) where
@@ -252,21 +252,20 @@ module _ (e : Endpoint) (from : ℕ) (m : Message) (p : List ℕ) (now epoch non
     -- one of the other kinds; k: its kind's number
     module _ (y : Reacted) (b′ : List ℕ) (ey : ReactedAs (m .body) f (e .quality) (e .clocks .«last_send_time») now epoch (e .setup .magic) buffer (e .queued) y b′) (k : ℕ)
         (ek : k ≡ kindOf (m .body)) (others : (k ≡ 1 → ⊥) × (k ≡ 2 → ⊥) × (k ≡ 3 → ⊥) × (k ≡ 6 → ⊥)) where
+      none : (kindOf (m .body) ≡ 1 → ⊥) × (kindOf (m .body) ≡ 2 → ⊥) × (kindOf (m .body) ≡ 3 → ⊥) × (kindOf (m .body) ≡ 6 → ⊥)
+      none = (λ z. others .0 (ek ∙ z), λ z. others .1 (ek ∙ z), λ z. others .2 (ek ∙ z), λ z. others .3 (ek ∙ z))
+
       pub react-refuses : y .ok ≡ false → Ends e Full b′
-      react-refuses h =
-          react-refused e from m p now epoch nonce buffer good heeded r er n en f ef y b′ h ey
-          (λ z. others .0 (ek ∙ z), λ z. others .1 (ek ∙ z), λ z. others .2 (ek ∙ z), λ z. others .3 (ek ∙ z))
+      react-refuses h = react-refused e from m p now epoch nonce buffer good heeded r er n en f ef y b′ ey h none
 
       pub react-left : y .ok ≡ true
           → Left (remade e (e .pending) (e .acked) (e .history) (e .sync) (e .nonces) (sentAt (y .«last_send_time») (e .clocks)) (e .flags) (ratedBy y (e .quality)) (e .statuses) (e .checksums) (e .events) (y .end)) b′
       react-left h =
-          let room : f ≡ false = react-roomy e from m p now epoch nonce buffer good heeded r er n en f ef y b′ ey h in
+          let room : f ≡ false = react-roomy e from m p now epoch nonce buffer good heeded r er n en f ef y b′ ey h none in
           record {
             room = room;
             events = refl;
-            ends = λ t x.
-                react-done e from m p now epoch nonce buffer good heeded r er n en f ef y b′ t x room h ey
-                (λ z. others .0 (ek ∙ z), λ z. others .1 (ek ∙ z), λ z. others .2 (ek ∙ z), λ z. others .3 (ek ∙ z));
+            ends = λ t x. react-done e from m p now epoch nonce buffer good heeded r er n en f ef y b′ ey t x room h none;
           }
 
     -- the end, by whether an interruption ends

@@ -5,9 +5,9 @@ use native.Mathlib.Omega.{arith}
 use Rattle.base.specs.First.{firstOf}
 use Rattle.answer.specs.Number.{numberOf}
 use Rattle.answer.proofs.Done.{not-done}
-use Rattle.spectator_rules.specs.Advance.{advanceRefusals}
+use Rattle.spectator_rules.specs.Advance.{advanceTests}
 use Rattle.spectator.specs.Session.{seen}
-use Rattle.spectator.specs.Inside.Requests.{framesFor}
+use Rattle.spectator_rules.specs.Advance.{framesBy}
 use Rattle.spectator.proofs.Laws.Advancing.{frames-most, frames-within, next-fits, refused-early, refused-late, advances, counted-as, refused-as, given-as}
 use Rattle.spectator.proofs.SpectatorSession.advance_frame.Statement.{statement}
 use Rattle.spectator.proofs.SpectatorSession.advance_frame.Tie as tie
@@ -31,7 +31,7 @@ frames-to-advance-requires : tie.Need-frames-to-advance-requires
 frames-to-advance-requires c κs = search needs
 
 -- past the early refusals
-free : (c : tie.After-enum-told) → firstOf (advanceRefusals (seen (c .before .before .before .args .self))) ≡ 0
+free : (c : tie.After-enum-told) → firstOf (advanceTests (seen (c .before .before .before .args .self))) ≡ 0
 free c = sym (c .before .before .advance-refusal .ensures) ∙ ap numberOf (c .enum-told .given .1)
 
 newest-below : (c : tie.Start) → c .args .self .«last_recv_frame» < 2 ^ 32
@@ -41,8 +41,8 @@ current-below : (c : tie.Start) → c .args .self .«current_frame» < 2 ^ 32
 current-below c = search needs
 
 -- how many frames that is, and that none is past the last
-frames : (c : tie.After-struct-known) → c .before .frames-to-advance .result ≡ framesFor (c .before .before .before .before .before .before .args .self .limits) (c .before .before .before .before .before .before .args .self .«last_recv_frame» - c .before .before .before .before .before .before .args .self .«current_frame»)
-frames c = c .before .frames-to-advance .ensures ∙ ap (framesFor (c .before .before .before .before .before .before .args .self .limits)) (c .before .before .minus-u32 .ensures)
+frames : (c : tie.After-struct-known) → c .before .frames-to-advance .result ≡ framesBy (c .before .before .before .before .before .before .args .self .limits) (c .before .before .before .before .before .before .args .self .«last_recv_frame» - c .before .before .before .before .before .before .args .self .«current_frame»)
+frames c = c .before .frames-to-advance .ensures ∙ ap (framesBy (c .before .before .before .before .before .before .args .self .limits)) (c .before .before .minus-u32 .ensures)
 
 within : (c : tie.After-struct-known) → c .before .before .before .before .before .before .args .self .«current_frame» + 1 + c .before .frames-to-advance .result ≤ 2 ^ 32
 within c =

@@ -1,7 +1,7 @@
 use borrow.Author.Needs.{needs}
 use borrow.Author.Tests.{lt-ltb, le-ltb}
 use mathlib.Core.Path.{_∙_}
-use Rattle.spectator.specs.Inside.Requests.{framesFor}
+use Rattle.spectator_rules.specs.Advance.{framesBy}
 use Rattle.spectator.proofs.advancing.frames_to_advance.Statement.{statement}
 use Rattle.spectator.proofs.advancing.frames_to_advance.Tie as tie
 
@@ -15,11 +15,11 @@ least-u32-requires-2 : tie.Need-least-u32-requires-2
 least-u32-requires-2 c κs = search needs
 
 returns : tie.Need-returns
-unfolding framesFor
+unfolding framesBy
 returns c = rw (lt-ltb _ _ (c .before .before .before .if1 .taken)) (c .least-u322 .ensures ∙ rw (c .before .before .least-u32 .ensures, c .before .most-frames .ensures))
 
 returns-2 : tie.Need-returns-2
-unfolding framesFor
+unfolding framesBy
 returns-2 c = rw (le-ltb _ _ (c .if1 .left))
 
 pub frames-to-advance-spec : {M : Type 1} → statement M

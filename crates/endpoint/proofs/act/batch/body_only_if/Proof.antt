@@ -12,10 +12,19 @@ same-length : tie.Need-same-length
 same-length c = search needs
 
 returns : tie.Need-returns
-returns c = rw (c .before .before .before .before .if1 .taken) (written-one (c .before .before .before .before .before .before .args .out .now) (c .before .before .before .before .before .before .args .at) (bodyOnly (c .before .before .before .before .before .before .args .magic) (c .before .before .before .before .before .before .args .body)) (c .before .before .body-only .result) (c .before .before .body-only .last .0) (c .before .before .body-only .ensures))
+returns c =
+    let after-body-only : tie.After-body-only = search in
+    let w = after-body-only .body-only in
+    let then1 : tie.Then1 = search in
+    let start : tie.Start = search in
+    let a = start .args in
+    rw (then1 .if1 .taken) (written-one (a .out .now) (a .at) (bodyOnly (a .magic) (a .body)) (w .result) (w .last .0) (w .ensures))
 
 returns-2 : tie.Need-returns-2
-returns-2 c = rw (c .if1 .left) (written-none (c .before .before .args .out .now) (c .before .before .args .at))
+returns-2 c =
+    let start : tie.Start = search in
+    let a = start .args in
+    rw (c .if1 .left) (written-none (a .out .now) (a .at))
 
 pub body-only-if-spec : {M : Type 1} → statement M
 body-only-if-spec = tie.close (tie.spec body-only-requires same-length returns returns-2)

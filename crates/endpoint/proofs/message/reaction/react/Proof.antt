@@ -1,13 +1,15 @@
--- A message that has no room, and one of a kind that is left over, is only noted, whatever its body is.
+-- A message that has no room, and one that keeps the connection alive, is only noted; of the others each answers or notes by its kind.
 use mathlib.Core.Bool.{Bool, true, false, not}
 use mathlib.Core.List.{List, [], _∷_}
 use mathlib.Core.Path.{_≡_, refl, sym, _∙_}
 use Prim.Native.Nat.{ℕ}
 use Rattle.codec.specs.Message.{kindOf}
+use Rattle.codec.specs.declared.Wide.{Wide}
 use Rattle.codec.specs.declared.MessageBody.{MessageBody}
-use Rattle.codec.specs.declared.MessageBody.the-variants.{SyncRequest, SyncReply, Input, InputAck, QualityReport, QualityReply, ChecksumReport, KeepAlive}
+use Rattle.codec.specs.declared.MessageBody.the-variants.{SyncRequest, SyncReply, QualityReport, QualityReply}
 use Rattle.codec.proofs.KindNumbers.{kind-other, kind-sync-request, kind-quality-report, kind-quality-reply}
 use Rattle.quality.specs.declared.Quality.{Quality}
+use Rattle.quality.specs.Quality.{roundTrip, remoteSet, tripNoted}
 use Rattle.endpoint.specs.declared.message.reaction.Reacted.{Reacted}
 use Rattle.endpoint.specs.Inside.Reaction.{ReactedAs, Answers, Notes}
 use Rattle.endpoint.proofs.Laws.Handshake.{false-true}
@@ -33,28 +35,60 @@ module _ (q : Quality) (sent now epoch magic : ℕ) (o : List ℕ) (at : ℕ) (f
   only-noted r e = record { ok = rw e; noted = λ h. rw (e, h); lent = refl }
 
   unqueued : (b : MessageBody) (r : Reacted) → Noted r → f ≡ true → ReactedAs b f q sent now epoch magic o at r o
-  unqueued (SyncRequest n) r e t = unanswered _ _ r e t
-  unqueued (SyncReply n) r e t = unnoted _ r e t
-  unqueued (Input d s a) r e t = unnoted _ r e t
-  unqueued (InputAck a) r e t = unnoted _ r e t
-  unqueued (QualityReport a p) r e t = unanswered _ _ r e t
-  unqueued (QualityReply p) r e t = unnoted _ r e t
-  unqueued (ChecksumReport c g) r e t = unnoted _ r e t
-  unqueued KeepAlive r e t = unnoted _ r e t
+  unqueued b r e t =
+      record {
+        syncRequest = λ n k. unanswered _ _ r e t;
+        qualityReport = λ a p k. unanswered _ _ r e t;
+        qualityReply = λ p k. unnoted _ r e t;
+        keepAlive = λ k. unnoted _ r e t;
+      }
 
+  -- k: the number of a kind, which is neither 0 nor 4 nor 5
   left-over : (b : MessageBody) (k : ℕ) (r : Reacted) → Noted r → k ≡ kindOf b → (k ≡ 0 → ⊥) → (k ≡ 4 → ⊥) → (k ≡ 5 → ⊥) → ReactedAs b f q sent now epoch magic o at r o
-  left-over (SyncRequest n) k r e i a0 a4 a5 = absurd (a0 (i ∙ kind-sync-request n))
-  left-over (SyncReply n) k r e i a0 a4 a5 = only-noted r e
-  left-over (Input d s a) k r e i a0 a4 a5 = only-noted r e
-  left-over (InputAck a) k r e i a0 a4 a5 = only-noted r e
-  left-over (QualityReport a p) k r e i a0 a4 a5 = absurd (a4 (i ∙ kind-quality-report a p))
-  left-over (QualityReply p) k r e i a0 a4 a5 = absurd (a5 (i ∙ kind-quality-reply p))
-  left-over (ChecksumReport c g) k r e i a0 a4 a5 = only-noted r e
-  left-over KeepAlive k r e i a0 a4 a5 = only-noted r e
+  left-over b k r e i a0 a4 a5 =
+      record {
+        syncRequest = λ n h. absurd (a0 (i ∙ rw h (kind-sync-request n)));
+        qualityReport = λ a p h. absurd (a4 (i ∙ rw h (kind-quality-report a p)));
+        qualityReply = λ p h. absurd (a5 (i ∙ rw h (kind-quality-reply p)));
+        keepAlive = λ h. only-noted r e;
+      }
+
+-- a body is of one kind: what a reaction to its kind does is all that is said of it
+module _ (b : MessageBody) (f : Bool) (q : Quality) (sent now epoch magic : ℕ) (o : List ℕ) (at : ℕ) (r : Reacted) (o′ : List ℕ) where
+  abbrev Reacts : Type 0
+  Reacts = ReactedAs b f q sent now epoch magic o at r o′
+
+  to-request : (n : ℕ) → b ≡ SyncRequest n → Answers (SyncReply n) f q now magic o at r o′ → Reacts
+  to-request n e a =
+      record {
+        syncRequest = λ m h. let same : n ≡ m = cc in rw (← same) a;
+        qualityReport = λ x y h. absurd (false-true cc);
+        qualityReply = λ x h. absurd (false-true cc);
+        keepAlive = λ h. absurd (false-true cc);
+      }
+
+  to-report : (x : ℕ) (y : Wide) → b ≡ QualityReport x y → Answers (QualityReply y) f (remoteSet x q) now magic o at r o′ → Reacts
+  to-report x y e a =
+      record {
+        syncRequest = λ n h. absurd (false-true cc);
+        qualityReport = λ u v h. let same : x ≡ u = cc in let too : y ≡ v = cc in rw (← same, ← too) a;
+        qualityReply = λ p h. absurd (false-true cc);
+        keepAlive = λ h. absurd (false-true cc);
+      }
+
+  to-reply : (x : Wide) → b ≡ QualityReply x → Notes f (tripNoted (roundTrip epoch (x .low) (x .high)) q) sent o at r o′ → Reacts
+  to-reply x e a =
+      record {
+        syncRequest = λ n h. absurd (false-true cc);
+        qualityReport = λ u v h. absurd (false-true cc);
+        qualityReply = λ u h. let same : x ≡ u = cc in rw (← same) a;
+        keepAlive = λ h. absurd (false-true cc);
+      }
 
 returns : tie.Need-returns
 returns c =
-    let a = c .before .before .args in
+    let start : tie.Start = search in
+    let a = start .args in
     unqueued (a .quality) (a .last-send-time) (a .now) (a .epoch) (a .magic) (a .out .now) (a .queued) (a .full) (a .body) _ refl (c .if1 .taken)
 
 kind-of-requires : tie.Need-kind-of-requires
@@ -64,7 +98,11 @@ enum-known-body : tie.Need-enum-known-body
 enum-known-body c = search needs
 
 returns-2 : tie.Need-returns-2
-returns-2 c = absurd (kind-other (c .before .before .before .before .before .args .body) 0 (c .before .before .kind-of .result) (1 ∷ 2 ∷ 3 ∷ 4 ∷ 5 ∷ 6 ∷ 7 ∷ []) (c .before .before .kind-of .ensures) (c .before .match .keys1) tt (c .match2 .keys2))
+returns-2 c =
+    let after-kind-of : tie.After-kind-of = search in
+    let k = after-kind-of .kind-of in
+    let start : tie.Start = search in
+    absurd (kind-other (start .args .body) 0 (k .result) (1 ∷ 2 ∷ 3 ∷ 4 ∷ 5 ∷ 6 ∷ 7 ∷ []) (k .ensures) (c .before .match .keys1) tt (c .match2 .keys2))
 
 body-only-requires : tie.Need-body-only-requires
 body-only-requires c κs = search needs
@@ -73,7 +111,11 @@ enum-known-body-2 : tie.Need-enum-known-body-2
 enum-known-body-2 c = search needs
 
 returns-3 : tie.Need-returns-3
-returns-3 c = absurd (kind-other (c .before .before .before .before .before .args .body) 4 (c .before .before .kind-of .result) (0 ∷ 1 ∷ 2 ∷ 3 ∷ 5 ∷ 6 ∷ 7 ∷ []) (c .before .before .kind-of .ensures) (c .before .match .keys2) tt (c .match3 .keys2))
+returns-3 c =
+    let after-kind-of : tie.After-kind-of = search in
+    let k = after-kind-of .kind-of in
+    let start : tie.Start = search in
+    absurd (kind-other (start .args .body) 4 (k .result) (0 ∷ 1 ∷ 2 ∷ 3 ∷ 5 ∷ 6 ∷ 7 ∷ []) (k .ensures) (c .before .match .keys2) tt (c .match3 .keys2))
 
 body-only-requires-2 : tie.Need-body-only-requires-2
 body-only-requires-2 c κs = search needs
@@ -85,7 +127,11 @@ enum-known-body-3 : tie.Need-enum-known-body-3
 enum-known-body-3 c = search needs
 
 returns-4 : tie.Need-returns-4
-returns-4 c = absurd (kind-other (c .before .before .before .before .before .args .body) 5 (c .before .before .kind-of .result) (0 ∷ 1 ∷ 2 ∷ 3 ∷ 4 ∷ 6 ∷ 7 ∷ []) (c .before .before .kind-of .ensures) (c .before .match .keys3) tt (c .match4 .keys2))
+returns-4 c =
+    let after-kind-of : tie.After-kind-of = search in
+    let k = after-kind-of .kind-of in
+    let start : tie.Start = search in
+    absurd (kind-other (start .args .body) 5 (k .result) (0 ∷ 1 ∷ 2 ∷ 3 ∷ 4 ∷ 6 ∷ 7 ∷ []) (k .ensures) (c .before .match .keys3) tt (c .match4 .keys2))
 
 round-trip-requires : tie.Need-round-trip-requires
 round-trip-requires c κs = search needs
@@ -98,28 +144,34 @@ same-length c = search needs
 
 returns-5 : tie.Need-returns-5
 returns-5 c =
-    let left = c .before .before .before .before .before .before .before .before .before .if1 .left in
-    rw (c .before .before .before .before .before .body .given .1)
-    (record { unqueued = λ t. absurd (false-true (sym left ∙ t)); queued = λ _. c .before .before .body-only .ensures; noted = λ _. (refl, refl) })
+    let after-body-only : tie.After-body-only = search in
+    let after-body : tie.After-body = search in
+    let else1 : tie.Else1 = search in
+    to-request _ _ _ _ _ _ _ _ _ _ _ _ (after-body .body .given .1)
+    (record { unqueued = λ t. absurd (false-true (sym (else1 .if1 .left) ∙ t)); queued = λ _. after-body-only .body-only .ensures; noted = λ _. (refl, refl) })
 
 same-length-2 : tie.Need-same-length-2
 same-length-2 c = search needs
 
 returns-6 : tie.Need-returns-6
 returns-6 c =
-    let left = c .before .before .before .before .before .before .before .before .before .before .if1 .left in
-    rw (c .before .before .before .before .before .before .body2 .given .1)
-    (record { unqueued = λ t. absurd (false-true (sym left ∙ t)); queued = λ _. c .before .before .before .body-only2 .ensures; noted = λ _. (c .remote .ensures, refl) })
+    let after-body-only2 : tie.After-body-only2 = search in
+    let after-body2 : tie.After-body2 = search in
+    let else1 : tie.Else1 = search in
+    to-report _ _ _ _ _ _ _ _ _ _ _ _ _ (after-body2 .body2 .given .1)
+    (record { unqueued = λ t. absurd (false-true (sym (else1 .if1 .left) ∙ t)); queued = λ _. after-body-only2 .body-only2 .ensures; noted = λ _. (c .remote .ensures, refl) })
 
 returns-7 : tie.Need-returns-7
 returns-7 c =
-    let left = c .before .before .before .before .before .before .before .if1 .left in
-    rw (c .before .before .before .body3 .given .1)
-    (record { ok = refl; noted = λ _. rw (c .tripped .ensures, c .before .round-trip .ensures, left); lent = refl })
+    let after-body3 : tie.After-body3 = search in
+    let else1 : tie.Else1 = search in
+    to-reply _ _ _ _ _ _ _ _ _ _ _ _ (after-body3 .body3 .given .1)
+    (record { ok = refl; noted = λ _. rw (c .tripped .ensures, c .before .round-trip .ensures, else1 .if1 .left); lent = refl })
 
 returns-8 : tie.Need-returns-8
 returns-8 c =
-    let a = c .before .before .before .before .args in
+    let start : tie.Start = search in
+    let a = start .args in
     let x = c .match .rest in
     left-over (a .quality) (a .last-send-time) (a .now) (a .epoch) (a .magic) (a .out .now) (a .queued) (a .full) (a .body) (c .before .kind-of .result) _ refl (c .before .kind-of .ensures) (x .0 .0 .1) (x .0 .1) (x .1)
 

@@ -6,14 +6,14 @@ use native.Mathlib.Omega.{arith}
 use Rattle.answer.specs.Number.{numberOf}
 use Rattle.answer.proofs.Done.{not-done}
 use Rattle.spectator.specs.Stores.{inputsOf}
-use Rattle.spectator.specs.Inside.Requests.{refusalsIn}
+use Rattle.spectator_rules.specs.Advance.{framesRefusalBy}
 use Rattle.spectator.proofs.Laws.Requests.{refusals-next, refusals-here, refusals-none}
 use Rattle.spectator.proofs.inputs.Inputs.frames_refusal.Statement.{statement}
 use Rattle.spectator.proofs.inputs.Inputs.frames_refusal.Tie as tie
 
 abbrev Inv-loop : tie.InvT-loop
 Inv-loop self slots frame n k₀ k =
-    (k ≤ n) × (frame + n ≤ 2 ^ 32) × (refusalsIn slots (n - k) (frame + k) (inputsOf self) ≡ refusalsIn slots n frame (inputsOf self))
+    (k ≤ n) × (frame + n ≤ 2 ^ 32) × (framesRefusalBy slots (n - k) (frame + k) (inputsOf self) ≡ framesRefusalBy slots n frame (inputsOf self))
 
 abbrev μ-loop : tie.MeasureT-loop
 μ-loop self slots frame n k₀ k = n - k
@@ -56,7 +56,7 @@ loop-again c =
     let m : a .n - l .k ≡ suc (a .n - (l .k + 1)) = omega arith in
     let f : a .frame + (l .k + 1) ≡ suc (a .frame + l .k) = omega arith in
     let z = sym (r .ensures) ∙ ap numberOf (c .enum-told .given .1) in
-    let h : refusalsIn (a .slots) (suc (a .n - (l .k + 1))) (a .frame + l .k) (inputsOf (a .self)) ≡ refusalsIn (a .slots) (a .n) (a .frame) (inputsOf (a .self)) = rw m at (l .inv .2) in
+    let h : framesRefusalBy (a .slots) (suc (a .n - (l .k + 1))) (a .frame + l .k) (inputsOf (a .self)) ≡ framesRefusalBy (a .slots) (a .n) (a .frame) (inputsOf (a .self)) = rw m at (l .inv .2) in
     (omega arith, l .inv .1, rw f (sym (refusals-next (a .slots) (inputsOf (a .self)) (a .n - (l .k + 1)) (a .frame + l .k) z) ∙ h))
 
 returns-2 : tie.Need-returns-2 Inv-loop μ-loop

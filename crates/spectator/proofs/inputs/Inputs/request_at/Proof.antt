@@ -1,6 +1,6 @@
 use borrow.Author.Needs.{needs}
 use Rattle.spectator.specs.Stores.{requestOf}
-use Rattle.spectator.specs.Inside.Requests.{requestIn}
+use Rattle.spectator_rules.specs.Advance.{frameInputsBy}
 use Rattle.spectator.proofs.inputs.Inputs.request_at.Statement.{statement}
 use Rattle.spectator.proofs.inputs.Inputs.request_at.Tie as tie
 
@@ -17,7 +17,7 @@ synced-at-requires-4 : tie.Need-synced-at-requires-4
 synced-at-requires-4 c κs = search needs
 
 returns : tie.Need-returns
-unfolding requestOf requestIn
+unfolding requestOf frameInputsBy
 returns c = rw (c .before .before .before .synced-at .ensures, c .before .before .synced-at2 .ensures, c .before .synced-at3 .ensures, c .synced-at4 .ensures)
 
 pub request-at-spec : {M : Type 1} → statement M

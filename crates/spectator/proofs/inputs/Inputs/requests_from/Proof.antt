@@ -8,7 +8,7 @@ use lib.ListN.{length, take, length-set}
 use Rattle.base.proofs.Arrays.{unmap}
 use Rattle.status.specs.Statuses.{heldStatuses}
 use Rattle.spectator.specs.Stores.{inputsOf, requestOf, requestFrames}
-use Rattle.spectator.specs.Inside.Requests.{requestsIn}
+use Rattle.spectator_rules.specs.Advance.{requestsBy}
 use Rattle.spectator.proofs.Laws.Requests.{request-turn}
 use Rattle.spectator.proofs.inputs.Inputs.requests_from.Statement.{statement}
 use Rattle.spectator.proofs.inputs.Inputs.requests_from.Tie as tie
@@ -16,7 +16,7 @@ use Rattle.spectator.proofs.inputs.Inputs.requests_from.Tie as tie
 abbrev Inv-loop : tie.InvT-loop
 Inv-loop self statuses slots players frame n requests₀ k₀ requests k =
     (k ≤ n) × (n ≤ 63) × (frame + n ≤ 2 ^ 32) × (length (requests .frames) ≡ 63)
-    × (map requestOf (take k (requests .frames)) ≡ requestsIn slots k frame players (inputsOf self) (heldStatuses statuses))
+    × (map requestOf (take k (requests .frames)) ≡ requestsBy slots k frame players (inputsOf self) (heldStatuses statuses))
 
 abbrev μ-loop : tie.MeasureT-loop
 μ-loop self statuses slots players frame n requests₀ k₀ requests k = n - k
@@ -25,7 +25,7 @@ none-requires : tie.Need-none-requires Inv-loop μ-loop
 none-requires c κs = search needs
 
 loop-holds : tie.Need-loop-holds Inv-loop μ-loop
-unfolding requestsIn
+unfolding requestsBy
 loop-holds c = (omega arith, c .before .pre .1, c .before .pre .0, search (unmap, needs), refl)
 
 add-request-at : tie.Need-add-request-at Inv-loop μ-loop
