@@ -35,9 +35,17 @@ new-requires-8 c κs = search needs
 
 returns : tie.Need-returns
 returns c =
-    makes (c .before .before .before .before .before .before .before .before .before .before .args .setup) (c .before .before .before .before .before .before .before .before .before .before .args .now)
-    (c .before .before .before .before .before .before .before .sorted .result) (c .before .before .before .before .before .before .new2 .result) (c .before .before .before .before .before .new3 .result) (c .before .before .before .before .new4 .result) (c .before .before .before .new5 .result) (c .before .before .new6 .result) (c .before .before .before .before .before .before .before .before .new .result) (c .before .new7 .result) (c .new8 .result)
-    (c .before .before .before .before .before .before .before .sorted .ensures .0) (c .before .before .before .before .before .before .new2 .ensures) (c .before .before .before .before .before .new3 .ensures) (c .before .before .before .before .new4 .ensures) (c .before .before .before .new5 .ensures) (c .before .before .new6 .ensures) (c .before .before .before .before .before .before .before .before .new .ensures .0) (c .before .new7 .ensures) (c .new8 .ensures)
+    let after-new6 : tie.After-new6 = search in
+    let after-new5 : tie.After-new5 = search in
+    let after-new4 : tie.After-new4 = search in
+    let after-new3 : tie.After-new3 = search in
+    let after-new2 : tie.After-new2 = search in
+    let after-sorted : tie.After-sorted = search in
+    let after-new : tie.After-new = search in
+    let start : tie.Start = search in
+    makes (start .args .setup) (start .args .now)
+    (after-sorted .sorted .result) (after-new2 .new2 .result) (after-new3 .new3 .result) (after-new4 .new4 .result) (after-new5 .new5 .result) (after-new6 .new6 .result) (after-new .new .result) (c .before .new7 .result) (c .new8 .result)
+    (after-sorted .sorted .ensures .0) (after-new2 .new2 .ensures) (after-new3 .new3 .ensures) (after-new4 .new4 .ensures) (after-new5 .new5 .ensures) (after-new6 .new6 .ensures) (after-new .new .ensures .0) (c .before .new7 .ensures) (c .new8 .ensures)
 
 pub made-spec : {M : Type 1} → statement M
 made-spec =

@@ -19,7 +19,14 @@ same-length : tie.Need-same-length
 same-length c = search needs
 
 returns-2 : tie.Need-returns-2
-returns-2 c = send-checksum-full (c .before .before .before .before .before .before .before .before .before .args .self) (c .before .before .before .before .before .before .before .before .before .args .out .now) (c .before .before .before .before .before .before .before .before .before .args .frame) (c .before .before .before .before .before .before .before .before .before .args .checksum) (c .before .before .before .before .before .before .before .before .before .args .now) (sym (c .before .before .before .before .before .before .before .is-bad .ensures) ∙ c .before .before .before .before .before .before .if1 .left) (c .before .before .before .before .body-only .result) (c .before .before .before .before .body-only .last .0) (c .before .before .before .before .body-only .ensures) (not-true _ (c .if2 .taken))
+returns-2 c =
+    let after-body-only : tie.After-body-only = search in
+    let else1 : tie.Else1 = search in
+    let after-is-bad : tie.After-is-bad = search in
+    let start : tie.Start = search in
+    let a = start .args in
+    let w = after-body-only .body-only in
+    send-checksum-full (a .self) (a .out .now) (a .frame) (a .checksum) (a .now) (sym (after-is-bad .is-bad .ensures) ∙ else1 .if1 .left) (w .result) (w .last .0) (w .ensures) (not-true _ (c .if2 .taken))
 
 sent-requires : tie.Need-sent-requires
 sent-requires c κs = search needs
@@ -29,10 +36,14 @@ same-length-2 c = search needs
 
 returns-3 : tie.Need-returns-3
 returns-3 c =
-    let s = c .before .before .before .before .before .before .before .before .before .before .args in
-    send-checksum-done (s .self) (s .out .now) (s .frame) (s .checksum) (s .now) (sym (c .before .before .before .before .before .before .before .before .is-bad .ensures) ∙ c .before .before .before .before .before .before .before .if1 .left)
-    (c .before .before .before .before .before .body-only .result) (c .before .before .before .before .before .body-only .last .0) (c .before .before .before .before .before .body-only .ensures) (c .sent .result)
-    (no-event-fits (s .self) _ (c .before .before .before .before .before .before .before .before .before .before .good .0)) (not-false _ (c .before .if2 .left)) (c .sent .ensures)
+    let after-body-only : tie.After-body-only = search in
+    let else1 : tie.Else1 = search in
+    let after-is-bad : tie.After-is-bad = search in
+    let start : tie.Start = search in
+    let a = start .args in
+    let w = after-body-only .body-only in
+    send-checksum-done (a .self) (a .out .now) (a .frame) (a .checksum) (a .now) (sym (after-is-bad .is-bad .ensures) ∙ else1 .if1 .left) (w .result) (w .last .0) (w .ensures) (c .sent .result)
+    (no-event-fits (a .self) _ (start .good .0)) (not-false _ (c .before .if2 .left)) (c .sent .ensures)
 
 pub send-checksum-report-spec : {M : Type 1} → statement M
 send-checksum-report-spec =

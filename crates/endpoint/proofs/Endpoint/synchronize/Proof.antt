@@ -1,6 +1,8 @@
 use borrow.Author.Tests.{not-true, not-false}
 use mathlib.Core.Logic.{⊎-elim}
-use mathlib.Core.Path.{ap}
+use mathlib.Core.Bool.{Bool, false, _||_}
+use mathlib.Core.Path.{_≡_, sym, _∙_, ap}
+use Rattle.timers.specs.Timers.{badClocks}
 use Rattle.endpoint_rules.specs.Seen.{isInitializing}
 use Rattle.endpoint.proofs.Laws.Phases.{not-initializing}
 use Rattle.endpoint.proofs.Laws.Lengths.{no-event-fits}
@@ -23,10 +25,21 @@ returns c =
 enum-told : tie.Need-enum-told
 enum-told c = search needs
 
+-- the point that the statement below speaks of
+abbrev start-of : tie.Else2 → tie.Start
+start-of c = c .before .before .before .before .before
+
+none-bad : (x y : Bool) → x ≡ false → y ≡ false → x || y ≡ false
+none-bad x y h k = rw (h, k)
+
+timely : (c : tie.Else2) → badClocks (start-of c .args .now) (start-of c .args .epoch) ≡ false
+timely c = none-bad _ _ (sym (c .before .before .before .is-bad .ensures) ∙ c .before .before .if1 .left) (sym (c .before .is-bad2 .ensures) ∙ c .if2 .left)
+
 returns-2 : tie.Need-returns-2
 returns-2 c =
-    let a = c .before .before .before .before .before .before .before .args in
-    synchronize-state (a .self) (a .out .now) (a .now) (a .epoch) (a .nonce) (rw (← c .before .before .before .before .before .is-bad .ensures, c .before .before .before .before .if1 .left, ← c .before .before .before .is-bad2 .ensures, c .before .before .if2 .left)) (not-initializing (a .self .sync .phase) (c .match .keys2))
+    let else2 : tie.Else2 = search in
+    let a = start-of else2 .args in
+    synchronize-state (a .self) (a .out .now) (a .now) (a .epoch) (a .nonce) (timely else2) (not-initializing (a .self .sync .phase) (c .match .keys2))
 
 issue-requires : tie.Need-issue-requires
 issue-requires c κs = search needs
@@ -39,10 +52,14 @@ same-length c = search needs
 
 returns-3 : tie.Need-returns-3
 returns-3 c =
-    let a = c .before .before .before .before .before .before .before .before .before .before .before .before .before .before .before .args in
-    let asked = c .before .before .before .before .request in
-    synchronize-full (a .self) (a .out .now) (a .now) (a .epoch) (a .nonce) (rw (← c .before .before .before .before .before .before .before .before .before .before .before .before .before .is-bad .ensures, c .before .before .before .before .before .before .before .before .before .before .before .before .if1 .left, ← c .before .before .before .before .before .before .before .before .before .before .before .is-bad2 .ensures, c .before .before .before .before .before .before .before .before .before .before .if2 .left))
-    (ap isInitializing (c .before .before .before .before .before .before .before .enum-told .given .1)) (c .before .before .before .before .before .before .issue .result) (c .before .before .before .before .before .before .issue .ensures) (asked .result) (asked .last .1 .1 .1 .1 .1 .0) (asked .ensures) (not-true _ (c .if3 .taken))
+    let after-request : tie.After-request = search in
+    let after-issue : tie.After-issue = search in
+    let after-enum-told : tie.After-enum-told = search in
+    let else2 : tie.Else2 = search in
+    let a = start-of else2 .args in
+    let asked = after-request .request in
+    synchronize-full (a .self) (a .out .now) (a .now) (a .epoch) (a .nonce) (timely else2) (ap isInitializing (after-enum-told .enum-told .given .1))
+    (after-issue .issue .result) (after-issue .issue .ensures) (asked .result) (asked .last .1 .1 .1 .1 .1 .0) (asked .ensures) (not-true _ (c .if3 .taken))
 
 started-requires : tie.Need-started-requires
 started-requires c κs = search needs
@@ -52,12 +69,17 @@ same-length-2 c = search needs
 
 returns-4 : tie.Need-returns-4
 returns-4 c =
-    let s = c .before .before .before .before .before .before .before .before .before .before .before .before .before .before .before .before .before .before in
-    let a = s .args in
-    let asked = c .before .before .before .before .before .before .before .request in
-    synchronize-done (a .self) (a .out .now) (a .now) (a .epoch) (a .nonce) (rw (← c .before .before .before .before .before .before .before .before .before .before .before .before .before .before .before .before .is-bad .ensures, c .before .before .before .before .before .before .before .before .before .before .before .before .before .before .before .if1 .left, ← c .before .before .before .before .before .before .before .before .before .before .before .before .before .before .is-bad2 .ensures, c .before .before .before .before .before .before .before .before .before .before .before .before .before .if2 .left))
-    (ap isInitializing (c .before .before .before .before .before .before .before .before .before .before .enum-told .given .1)) (c .before .before .before .before .before .before .before .before .before .issue .result) (c .before .before .before .before .before .before .before .before .before .issue .ensures) (asked .result) (asked .last .1 .1 .1 .1 .1 .0) (asked .ensures) (not-false _ (c .before .before .before .if3 .left))
-    (no-event-fits (a .self) _ (s .good .0)) (c .started .result) (c .started .ensures)
+    let else3 : tie.Else3 = search in
+    let after-request : tie.After-request = search in
+    let after-issue : tie.After-issue = search in
+    let after-enum-told : tie.After-enum-told = search in
+    let else2 : tie.Else2 = search in
+    let start = start-of else2 in
+    let a = start .args in
+    let asked = after-request .request in
+    synchronize-done (a .self) (a .out .now) (a .now) (a .epoch) (a .nonce) (timely else2) (ap isInitializing (after-enum-told .enum-told .given .1))
+    (after-issue .issue .result) (after-issue .issue .ensures) (asked .result) (asked .last .1 .1 .1 .1 .1 .0) (asked .ensures) (not-false _ (else3 .if3 .left))
+    (no-event-fits (a .self) _ (start .good .0)) (c .started .result) (c .started .ensures)
 
 pub synchronize-spec : {M : Type 1} → statement M
 synchronize-spec =

@@ -19,9 +19,12 @@ same-length c = search needs
 
 returns-2 : tie.Need-returns-2
 returns-2 c =
-    let a = c .before .before .before .before .before .before .before .before .args in
-    let q = c .before .before .before .before .body-only in
-    ask-full (a .clocks) (a .magic) (a .now) (a .nonce) (a .out .now) (a .queued) (a .roomy) (not-false _ (c .before .before .before .before .before .before .if1 .left)) (q .result) (q .last .0) (q .ensures) (not-true _ (c .if2 .taken))
+    let after-body-only : tie.After-body-only = search in
+    let else1 : tie.Else1 = search in
+    let start : tie.Start = search in
+    let a = start .args in
+    let q = after-body-only .body-only in
+    ask-full (a .clocks) (a .magic) (a .now) (a .nonce) (a .out .now) (a .queued) (a .roomy) (not-false _ (else1 .if1 .left)) (q .result) (q .last .0) (q .ensures) (not-true _ (c .if2 .taken))
 
 requested-requires : tie.Need-requested-requires
 requested-requires c κs = search needs
@@ -34,10 +37,14 @@ same-length-2 c = search needs
 
 returns-3 : tie.Need-returns-3
 returns-3 c =
-    let a = c .before .before .before .before .before .before .before .before .before .before .args in
-    let q = c .before .before .before .before .before .before .body-only in
-    ask-done (a .clocks) (a .magic) (a .now) (a .nonce) (a .out .now) (a .queued) (a .roomy) (not-false _ (c .before .before .before .before .before .before .before .before .if1 .left)) (q .result) (q .last .0) (q .ensures)
-    (c .sent .result) (not-false _ (c .before .before .if2 .left)) (c .sent .ensures ∙ ap (sentAt _) (c .before .requested .ensures))
+    let else2 : tie.Else2 = search in
+    let after-body-only : tie.After-body-only = search in
+    let else1 : tie.Else1 = search in
+    let start : tie.Start = search in
+    let a = start .args in
+    let q = after-body-only .body-only in
+    ask-done (a .clocks) (a .magic) (a .now) (a .nonce) (a .out .now) (a .queued) (a .roomy) (not-false _ (else1 .if1 .left)) (q .result) (q .last .0) (q .ensures)
+    (c .sent .result) (not-false _ (else2 .if2 .left)) (c .sent .ensures ∙ ap (sentAt _) (c .before .requested .ensures))
 
 pub request-spec : {M : Type 1} → statement M
 request-spec =

@@ -26,10 +26,14 @@ new-requires-4 c κs = search needs
 
 returns : tie.Need-returns
 returns c =
-    let a = c .before .before .before .before .before .before .before .before .before .args in
-    let e = c .before .before .before .before .before .before .before .new in
-    let h = c .before .before .before .before .before .before .before .before .host-setup in
-    makes (a .setup) (a .now) (e .result) (rw (h .ensures) at (e .ensures)) (c .before .before .before .before .before .before .refusal .result) (c .before .before .before .before .before .before .refusal .ensures)
+    let after-refusal : tie.After-refusal = search in
+    let after-new : tie.After-new = search in
+    let after-host-setup : tie.After-host-setup = search in
+    let start : tie.Start = search in
+    let a = start .args in
+    let e = after-new .new in
+    let h = after-host-setup .host-setup in
+    makes (a .setup) (a .now) (e .result) (rw (h .ensures) at (e .ensures)) (after-refusal .refusal .result) (after-refusal .refusal .ensures)
     (c .before .before .before .new2 .result) (c .before .before .before .new2 .ensures) (c .before .new3 .result) (c .before .new3 .ensures .0) (c .new4 .result) (c .new4 .ensures)
 
 pub new-spec : {M : Type 1} → statement M

@@ -24,10 +24,14 @@ same-length c = search needs
 
 returns : tie.Need-returns
 returns c =
-    let a = c .before .before .before .before .before .before .before .before .before .before .args in
-    let o = c .before .before .before .before .before .before .before .before .take-events in
-    let t = c .before .before .before .before .before .before .lent in
-    let e = c .before .before .before .before .act in
+    let after-act : tie.After-act = search in
+    let after-lent : tie.After-lent = search in
+    let after-take-events : tie.After-take-events = search in
+    let start : tie.Start = search in
+    let a = start .args in
+    let o = after-take-events .take-events in
+    let t = after-lent .lent in
+    let e = after-act .act in
     act-refuses (a .self) (a .now) (a .epoch) (a .nonce) (a .out .now) _ (o .result) (o .ensures) (t .result) (t .ensures) (e .result) (e .ensures) (not-done (e .result .answer) (c .before .match .keys2)) (c .refused .result) (c .refused .ensures)
 
 take-in-requires : tie.Need-take-in-requires
@@ -38,10 +42,14 @@ same-length-2 c = search needs
 
 returns-2 : tie.Need-returns-2
 returns-2 c =
-    let a = c .before .before .before .before .before .before .before .before .before .before .before .before .args in
-    let o = c .before .before .before .before .before .before .before .before .before .before .take-events in
-    let t = c .before .before .before .before .before .before .before .before .lent in
-    let e = c .before .before .before .before .before .before .act in
+    let after-act : tie.After-act = search in
+    let after-lent : tie.After-lent = search in
+    let after-take-events : tie.After-take-events = search in
+    let start : tie.Start = search in
+    let a = start .args in
+    let o = after-take-events .take-events in
+    let t = after-lent .lent in
+    let e = after-act .act in
     act-done-polls (a .self) (a .now) (a .epoch) (a .nonce) (a .out .now) _ (o .result) (o .ensures) (t .result) (t .ensures) (e .result) (e .ensures) (c .before .before .enum-told .given .1) (e .kept .1 .1 .1 .1 .1 .0) (c .take-in .result) (c .take-in .ensures)
 
 pub poll-remote-clients-spec : {M : Type 1} → statement M

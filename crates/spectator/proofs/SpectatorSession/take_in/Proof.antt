@@ -34,11 +34,16 @@ handle-all-requires-2 c κs = search needs
 
 returns-2 : tie.Need-returns-2
 returns-2 c =
-    let a = c .before .before .before .before .before .before .before .before .before .before .before .before .before .before .args in
-    let e = c .before .before .before .before .before .before .before .before .before .before .before .before .take-events in
-    let p = c .before .before .before .before .before .before .before .before .before .before .messages in
-    let t = c .before .before .before .before .before .before .before .before .before .take-messages in
-    take-in-done (a .self) (a .old) (a .acted) (a .out .now) (e .result) (e .ensures) (t .result) (t .ensures) _ (p .ensures) (c .before .before .before .before .before .before .before .enum-told .given .1) (c .before .handle-all .result) (c .handle-all2 .result) (c .before .handle-all .ensures) (c .handle-all2 .ensures)
+    let after-enum-told : tie.After-enum-told = search in
+    let after-take-messages : tie.After-take-messages = search in
+    let after-messages : tie.After-messages = search in
+    let after-take-events : tie.After-take-events = search in
+    let start : tie.Start = search in
+    let a = start .args in
+    let e = after-take-events .take-events in
+    let p = after-messages .messages in
+    let t = after-take-messages .take-messages in
+    take-in-done (a .self) (a .old) (a .acted) (a .out .now) (e .result) (e .ensures) (t .result) (t .ensures) _ (p .ensures) (after-enum-told .enum-told .given .1) (c .before .handle-all .result) (c .handle-all2 .result) (c .before .handle-all .ensures) (c .handle-all2 .ensures)
 
 pub take-in-spec : {M : Type 1} → statement M
 take-in-spec =

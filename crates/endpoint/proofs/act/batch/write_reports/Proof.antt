@@ -20,10 +20,14 @@ same-length c = search needs
 returns : tie.Need-returns
 unfolding dueReports
 returns c =
-    let a = c .before .before .before .before .before .before .before .before .before .before .args in
-    let first = c .before .before .before .before .before .before .body-only-if in
-    let second = c .before .before .body-only-if2 in
-    written-then (a .out .now) (a .at) _ _ (first .result) (second .result) _ _ (rw (c .before .before .before .before .before .before .before .before .clamped .ensures) at (first .ensures)) (second .ensures)
+    let after-second : tie.After-body-only-if2 = search in
+    let after-first : tie.After-body-only-if = search in
+    let after-clamped : tie.After-clamped = search in
+    let start : tie.Start = search in
+    let a = start .args in
+    let first = after-first .body-only-if in
+    let second = after-second .body-only-if2 in
+    written-then (a .out .now) (a .at) _ _ (first .result) (second .result) _ _ (rw (after-clamped .clamped .ensures) at (first .ensures)) (second .ensures)
 
 pub write-reports-spec : {M : Type 1} → statement M
 write-reports-spec =
