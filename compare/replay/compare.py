@@ -1,5 +1,7 @@
 #!/usr/bin/env python3
-"""compare.py DIR COMMAND..: runs DIR's scripts on the command that starts `test_replay` and holds what it writes against DIR's answers."""
+"""compare.py DIR COMMAND..: runs DIR's scripts on the command that starts `test_replay` and holds what it writes against DIR's answers. Of a script whose
+answers differ it names the first record and field that do. Answers that are digests tell no field: where a judge is built (JUDGE names it, else
+compare/judge's is looked for), it and `test_replay` run such a script once more for whole answers."""
 
 import os
 import struct
@@ -8,38 +10,46 @@ import sys
 from concurrent.futures import ThreadPoolExecutor
 from pathlib import Path
 
-HEADER, RECORD, ANSWER = 8, 64, 12
-DIGEST = 1
+sys.dont_write_bytecode = True  # of layout.py, beside it
+from layout import DIGEST, MODE, OBJECTS, WHOLE, call_name, named, records
+
+JUDGE = os.environ.get("JUDGE") or Path(__file__).parent.parent / "judge/target/release/judge"
 
 
-def calls(script):
-    """How many records a script has."""
-    count, at = 0, HEADER
-    while at < len(script):
-        (length,) = struct.unpack_from("<I", script, at + 4)
-        count, at = count + 1, at + RECORD + length
-    return count
+def shown(layout, bytes):
+    """A field's value; the bytes where it is a row of them, or where they are too few."""
+    size = struct.calcsize("<" + layout)
+    if layout.endswith("s") or len(bytes) < size:
+        return bytes[:size].hex() or "nothing"
+    return struct.unpack_from("<" + layout, bytes)[0]
 
 
 def difference(script, expected, got):
-    """Where the answers differ first, or None."""
-    if got == expected:
-        return None
-    if script[5] == DIGEST:
-        for k in range(calls(script)):
-            part = slice(ANSWER * k, ANSWER * (k + 1))
-            if got[part] != expected[part]:
-                return f"call {k}: expected {expected[part].hex()}, found {got[part].hex()}"
+    """Which field of which record differs first."""
     at = len(os.path.commonprefix([expected, got]))
-    return f"byte {at}: expected {expected[at:at + 8].hex()}, found {got[at:at + 8].hex()}"
+    for number, call, object, place, layout, name in named(script, expected):
+        if at < place + struct.calcsize("<" + layout):
+            where = f"record {number}, {call_name(call, object)} on {OBJECTS[object]}: {name}"
+            return f"{where}: expected {shown(layout, expected[place:])}, found {shown(layout, got[place:])}"
+    return f"behind the last record: found {len(got) - len(expected)} bytes more"
 
 
 def main(folder, *replay):
+    def run(command, script):
+        return subprocess.run(command, input=script, capture_output=True, check=False)
+
     def held(path):
         """The calls of a script, and where its answers differ."""
         script, expected = path.read_bytes(), path.with_suffix(".answers").read_bytes()
-        got = subprocess.run(replay, input=script, stdout=subprocess.PIPE, check=False).stdout
-        return calls(script), difference(script, expected, got)
+        ended = run(replay, script)
+        if ended.stdout == expected:
+            return len(list(records(script))), None
+        found, told = difference(script, expected, ended.stdout), ended.stderr.decode(errors="replace").strip()
+        if script[MODE] == DIGEST and os.access(JUDGE, os.X_OK):
+            whole = script[:MODE] + bytes([WHOLE]) + script[MODE + 1 :]
+            answers = run([JUDGE, "run"], whole).stdout, run(replay, whole).stdout
+            found = difference(whole, *answers) if answers[0] != answers[1] else f"{found} (but not where whole answers are compared)"
+        return len(list(records(script))), f"{found} ({told})" if told else found
 
     scripts = sorted(Path(folder).glob("*.script"))
     compared = faults = 0

@@ -13,7 +13,7 @@ use Rattle.codec.specs.Message.{Wire, Fits, FitAll}
 use Rattle.codec.specs.Bytes.{bytes, queueOf}
 use Rattle.codec.specs.Read.{number, part, message, datagram, wireIn}
 use Rattle.codec.specs.Read.Reading.{fault}
-use Rattle.codec.specs.Calls.{messageEnd}
+use Rattle.codec.specs.Calls.{messageEnd, cutFrom, cut}
 use Rattle.codec.proofs.Left.{message-shortens}
 use Rattle.codec.proofs.Laws.{message-bytes, read-bytes, least}
 
@@ -40,11 +40,11 @@ pub message-end-written : (front : List ℕ) (w : Wire) (rest : List ℕ) → Fi
 unfolding messageEnd
 message-end-written front w rest h = rw (drop-append-seam front (bytes w ++ rest), message-bytes w rest h) (simp length-append (omega arith))
 
--- a queue cut from a place on, as a loop over `message_end` cuts it: at most k datagrams
-unfoldable pub cutFrom : ℕ → List ℕ → ℕ → List (List ℕ)
-cutFrom zero queue at = []
-cutFrom (suc k) queue at =
-    pick (ltb at (length queue)) (take (messageEnd queue at - at) (drop at queue) ∷ cutFrom k queue (messageEnd queue at)) []
+-- messages queued behind others: their bytes come behind the others'
+pub queue-append : (xs ys : List Wire) → queueOf (xs ++ ys) ≡ queueOf xs ++ queueOf ys
+unfolding flatten
+queue-append [] ys = refl
+queue-append (x ∷ xs) ys = rw (queue-append xs ys) (sym (append-assoc (bytes x) (queueOf xs) (queueOf ys)))
 
 -- whatever the queue holds, its datagrams one after another are the queue
 pub cut-whole : (queue : List ℕ) (k at : ℕ) → length queue ≤ at + k → flatten (cutFrom k queue at) ≡ drop at queue
@@ -82,8 +82,13 @@ cut-from front (w ∷ ws) (suc k) h l =
       next,
     )
 
+-- of nothing there is no datagram
+pub cut-none : cut [] ≡ []
+unfolding cutFrom
+cut-none = refl
+
 -- the queue's own length is count enough
-pub cut-queue : (ws : List Wire) → FitAll ws → cutFrom (length (queueOf ws)) (queueOf ws) 0 ≡ map bytes ws
+pub cut-queue : (ws : List Wire) → FitAll ws → cut (queueOf ws) ≡ map bytes ws
 unfolding flatten
 cut-queue ws h = cut-from [] ws (length (queueOf ws)) h (count ws)
   where
@@ -92,7 +97,7 @@ cut-queue ws h = cut-from [] ws (length (queueOf ws)) h (count ws)
     count (w ∷ ws) = simp length-append (omega (arith, least w, count ws))
 
 -- and the messages come back
-pub read-queue : (ws : List Wire) → FitAll ws → map (λ d. wireIn (datagram d)) (cutFrom (length (queueOf ws)) (queueOf ws) 0) ≡ ws
+pub read-queue : (ws : List Wire) → FitAll ws → map (λ d. wireIn (datagram d)) (cut (queueOf ws)) ≡ ws
 read-queue ws h = rw (cut-queue ws h) (each ws h)
   where
     each : (ws : List Wire) → FitAll ws → map (λ d. wireIn (datagram d)) (map bytes ws) ≡ ws

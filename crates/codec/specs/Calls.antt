@@ -2,9 +2,9 @@
 use mathlib.Core.Path.{_≡_}
 use mathlib.Core.Bool.{Bool, true, false}
 use mathlib.Core.List.{List, [], _∷_}
-use Prim.Native.Nat.{ℕ, _+_, _-_}
+use Prim.Native.Nat.{ℕ, zero, suc, _+_, _-_}
 use lib.Dec.{ltb, eqb}
-use lib.ListN.{length, drop}
+use lib.ListN.{length, take, drop}
 use Rattle.base.specs.Pick.{pick}
 use Rattle.base.specs.First.{firstOf}
 use Rattle.base.specs.Lay.{noRoom, laidAt}
@@ -72,3 +72,13 @@ pub record PayloadAs (d r : List ℕ) : Type 0 where
 -- that they end with the queue
 unfoldable pub messageEnd : List ℕ → ℕ → ℕ
 messageEnd queue at = length queue - length (leftIn (message (drop at queue)))
+
+-- a queue cut into datagrams from a place on, as a loop over `message_end` cuts it: at most k of them
+unfoldable pub cutFrom : ℕ → List ℕ → ℕ → List (List ℕ)
+cutFrom zero queue at = []
+cutFrom (suc k) queue at =
+    pick (ltb at (length queue)) (take (messageEnd queue at - at) (drop at queue) ∷ cutFrom k queue (messageEnd queue at)) []
+
+-- all of it: its length is count enough, since a message has a byte at least
+abbrev pub cut : List ℕ → List (List ℕ)
+cut queue = cutFrom (length queue) queue 0

@@ -5,6 +5,7 @@ use endpoint::NetworkStats;
 use endpoint::Phase;
 use endpoint::StatsResult;
 use frame::BIAS32;
+use libc::STDERR_FILENO;
 use libc::STDOUT_FILENO;
 use text::Draft;
 
@@ -14,12 +15,21 @@ pub(crate) fn heading(text: &[u8]) {
     put(b"\n");
 }
 
-fn put(text: &[u8]) {
-    io::write_all(STDOUT_FILENO, text);
+// Writes the bytes. Where that fails it is told on standard error, once: it is closed behind the line.
+fn put(bytes: &[u8]) {
+    if !io::write_all(STDOUT_FILENO, bytes) {
+        io::write_all(
+            STDERR_FILENO,
+            b"demo_bout: standard output cannot be written\n",
+        );
+        libc::close(STDERR_FILENO);
+    }
 }
 
 fn number(n: u64) {
-    io::print_decimal(STDOUT_FILENO, n);
+    let draft = Draft::new().put_decimal(n, 0);
+    let bytes = draft.bytes;
+    put(text::filled(&bytes, draft.used));
 }
 
 // Advantages are read as signed numbers.

@@ -9,6 +9,7 @@ use endpoint::Message;
 use endpoint::MessageBody;
 use endpoint::Wide;
 use frame::BIAS32;
+use libc::STDERR_FILENO;
 use libc::STDOUT_FILENO;
 use std::num::wrapping_sub_usize;
 use text::Draft;
@@ -22,13 +23,10 @@ fn main() {
     let full = show(BIAS32 + 100, report(falling(), BIAS32 + 100, 110));
     let refused = show(BIAS32 + 99, report(full, BIAS32 + 99, 120));
     if same(full.checksums(), refused.checksums()) {
-        io::write_all(STDOUT_FILENO, b"All 64 are as they were\n");
+        put(b"All 64 are as they were\n");
     }
     if unheard(full, refused) {
-        io::write_all(
-            STDOUT_FILENO,
-            b"And nothing was heard, announced or queued\n",
-        );
+        put(b"And nothing was heard, announced or queued\n");
     }
     let later = show(BIAS32 + 164, report(refused, BIAS32 + 164, 130));
     show(BIAS32 + 99, report(later, BIAS32 + 99, 140));
@@ -84,7 +82,7 @@ fn print_line(frame: u32, answer: Answer, held: Checksums) {
         .put_signed(last.frame, BIAS32)
         .put(b"\n");
     let bytes = line.bytes;
-    io::write_all(STDOUT_FILENO, text::filled(&bytes, line.used));
+    put(text::filled(&bytes, line.used));
 }
 
 // All that fit, place by place.
@@ -107,4 +105,15 @@ fn unheard(before: Endpoint, after: Endpoint) -> bool {
         & (before.events.count() == after.events.count())
         & (before.queued == after.queued)
         & (before.last_recv_frame() == after.last_recv_frame())
+}
+
+// Writes the bytes. Where that fails it is told on standard error, once: it is closed behind the line.
+fn put(bytes: &[u8]) {
+    if !io::write_all(STDOUT_FILENO, bytes) {
+        io::write_all(
+            STDERR_FILENO,
+            b"demo_ceiling: standard output cannot be written\n",
+        );
+        libc::close(STDERR_FILENO);
+    }
 }

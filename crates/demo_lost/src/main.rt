@@ -2,6 +2,7 @@
 use endpoint::Endpoint;
 use endpoint::Statuses;
 use frame::BIAS32;
+use libc::STDERR_FILENO;
 use libc::STDOUT_FILENO;
 
 // The ends' magics, and their numbers as peers.
@@ -35,7 +36,7 @@ fn send(words: &[u8; 9], a: Endpoint, frame: u32, input: u8, queue: &mut [u8; 12
         .send_input(frame, &[input], Statuses::new(2), 100, queue);
     let mut page = [0u8; 256];
     let end = message_line::line_after(&mut page, 0, words, sent.endpoint.messages(queue));
-    io::write_all(STDOUT_FILENO, text::filled(&page, end));
+    put(text::filled(&page, end));
     sent.endpoint
 }
 
@@ -55,7 +56,7 @@ fn arrive(
     let mut page = [0u8; 256];
     let end = event_line::lines(&mut page, 0, b'B', announced.events, 1);
     let end = message_line::line_after(&mut page, end, words, announced.endpoint.messages(answers));
-    io::write_all(STDOUT_FILENO, text::filled(&page, end));
+    put(text::filled(&page, end));
     announced.endpoint
 }
 
@@ -63,4 +64,15 @@ fn arrive(
 fn answer(a: Endpoint, b: Endpoint, answers: &[u8; 128], queue: &mut [u8; 128]) -> Endpoint {
     let heard = a.datagram(B as u32, b.messages(answers), 140, 140, 0, queue);
     heard.endpoint
+}
+
+// Writes the bytes. Where that fails it is told on standard error, once: it is closed behind the line.
+fn put(bytes: &[u8]) {
+    if !io::write_all(STDOUT_FILENO, bytes) {
+        io::write_all(
+            STDERR_FILENO,
+            b"demo_lost: standard output cannot be written\n",
+        );
+        libc::close(STDERR_FILENO);
+    }
 }

@@ -2,6 +2,7 @@
 use endpoint::Endpoint;
 use endpoint::Statuses;
 use frame::BIAS32;
+use libc::STDERR_FILENO;
 use libc::STDOUT_FILENO;
 
 // The ends' magics, and their numbers as peers.
@@ -38,7 +39,18 @@ fn arrive(b: Endpoint, datagram: &[u8], now: u64) -> Endpoint {
     let at = event_line::lines(&mut page, at, b'B', taken.events, 1);
     let answer = taken.endpoint.messages(&queue);
     let at = message_line::line_after(&mut page, at, b"B: sends ", answer);
-    io::write_all(STDOUT_FILENO, text::filled(&page, at));
+    put(text::filled(&page, at));
     let answered = taken.endpoint.take_messages(&queue);
     answered.endpoint
+}
+
+// Writes the bytes. Where that fails it is told on standard error, once: it is closed behind the line.
+fn put(bytes: &[u8]) {
+    if !io::write_all(STDOUT_FILENO, bytes) {
+        io::write_all(
+            STDERR_FILENO,
+            b"demo_repeated: standard output cannot be written\n",
+        );
+        libc::close(STDERR_FILENO);
+    }
 }

@@ -3,6 +3,7 @@ use crate::ends::BOX;
 use crate::ends::HOST;
 use endpoint::Events;
 use frame::BIAS32;
+use libc::STDERR_FILENO;
 use libc::STDOUT_FILENO;
 use spectator::Answer;
 use spectator::FramesBehind;
@@ -16,8 +17,15 @@ use spectator::StatsResult;
 use spectator::SyncedInput;
 use text::Draft;
 
-fn put(text: &[u8]) {
-    io::write_all(STDOUT_FILENO, text);
+// Writes the bytes. Where that fails it is told on standard error, once: it is closed behind the line.
+fn put(bytes: &[u8]) {
+    if !io::write_all(STDOUT_FILENO, bytes) {
+        io::write_all(
+            STDERR_FILENO,
+            b"demo_watch: standard output cannot be written\n",
+        );
+        libc::close(STDERR_FILENO);
+    }
 }
 
 pub(crate) fn heading(text: &[u8]) {

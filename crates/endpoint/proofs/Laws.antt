@@ -15,3 +15,5 @@ pub mod Disconnecting
 pub mod Reports
 pub mod Taking
 pub mod Getters
+-- The law of all runs of calls.
+pub mod Run

@@ -37,11 +37,17 @@ seen e =
       queued = e .queued;
     }
 
+-- what no call changes: the setup, as it stands, and the count of the statuses, which a refusal (3) may read as it is
+pub record SameTerms (e r : Endpoint) : Type 0 where
+  pub setup : r .setup ≡ e .setup
+  pub count : r .statuses .count ≡ e .statuses .count
+
 -- a call that may queue messages: its number, the state after it, and the lent buffer, in which what it queues stands behind what was queued.
 -- A refusal gives the very endpoint back
 pub record DidAs (e : Endpoint) (d : Did) (buffer : List ℕ) (r : Ended) (buffer′ : List ℕ) : Type 0 where
   pub answer : numberOf (r .answer) ≡ d .answer
   pub after : seen (r .endpoint) ≡ d .after
+  pub terms : SameTerms e (r .endpoint)
   pub lent : buffer′ ≡ laidAt buffer (e .queued) (queueOf (d .out))
   pub same : (d .answer ≡ 0 → ⊥) → r .endpoint ≡ e
 
@@ -49,4 +55,5 @@ pub record DidAs (e : Endpoint) (d : Did) (buffer : List ℕ) (r : Ended) (buffe
 pub record DoneAs (e : Endpoint) (d : Did) (r : Ended) : Type 0 where
   pub answer : numberOf (r .answer) ≡ d .answer
   pub after : seen (r .endpoint) ≡ d .after
+  pub terms : SameTerms e (r .endpoint)
   pub same : (d .answer ≡ 0 → ⊥) → r .endpoint ≡ e

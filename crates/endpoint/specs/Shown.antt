@@ -5,6 +5,8 @@ use lib.Dec.{eqb}
 use lib.ListN.{length}
 use Rattle.base.specs.Pick.{pick}
 use Rattle.answer.specs.Number.{numberOf}
+use Rattle.checksums.specs.declared.Checksums.{Checksums}
+use Rattle.checksums.specs.Checksums.{stored}
 use Rattle.setup.specs.declared.Handles.{Handles}
 use Rattle.setup.specs.Setup.{handleList}
 use Rattle.endpoint_rules.specs.Seen.{Seen}
@@ -22,6 +24,10 @@ shown c s = (step c s .answer, pick (eqb (step c s .answer) 0) (valueOf c s) Val
 -- the handles, with a count that is their number
 abbrev pub HandlesAs : Seen → Handles → Type 0
 HandlesAs s r = (Value.numbers (handleList r) ≡ valueOf (Call.ask Question.handles) s) × (r .count ≡ length (handleList r))
+
+-- the checksums that the other end reported, with a count that is their number
+abbrev pub ChecksumsAs : Seen → Checksums → Type 0
+ChecksumsAs s r = (Value.checksums (stored r) ≡ valueOf (Call.ask Question.checksums) s) × (r .used ≡ length (stored r))
 
 abbrev pub shownStatus : StatusResult → ℕ × Value
 shownStatus (Status status) = (0, Value.status status)

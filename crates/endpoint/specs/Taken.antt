@@ -11,11 +11,14 @@ use Rattle.endpoint_rules.specs.Value.{Value, valueOf, handedBack}
 use Rattle.endpoint.specs.declared.Endpoint.{Endpoint}
 use Rattle.endpoint.specs.declared.taking.TakenEvents.{TakenEvents}
 use Rattle.endpoint.specs.declared.taking.TakenMessages.{TakenMessages}
-use Rattle.endpoint.specs.Endpoint.{seen, DoneAs}
+use Rattle.endpoint.specs.Endpoint.{seen, SameTerms, DoneAs}
 
+-- the events that were held, with a count that is their number, and the endpoint without them
 pub record TakenAs (e : Endpoint) (r : TakenEvents) : Type 0 where
   pub events : Value.events (heldEvents (r .events)) ≡ valueOf Call.takeEvents (seen e)
+  pub count : r .events .used ≡ length (heldEvents (r .events))
   pub after : seen (r .endpoint) ≡ step Call.takeEvents (seen e) .after
+  pub terms : SameTerms e (r .endpoint)
 
 -- the shorter of the buffer that has the queue and the one that it is copied to
 abbrev pub shorter : (queue into : List ℕ) → ℕ

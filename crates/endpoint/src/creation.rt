@@ -1,6 +1,8 @@
 // Making an endpoint. It is made whatever the setup says; beside a refusal it is of no use.
 ghost use mathlib.Core.Path.{_≡_};
+ghost use Prim.Native.Nat.{min};
 ghost use Rattle.answer.specs.Number.{numberOf};
+ghost use Rattle.ceilings.specs.Ceilings.{mostPlayers};
 ghost use Rattle.endpoint_rules.specs.Seen.{made};
 ghost use Rattle.endpoint_rules.specs.Step.{fresh};
 ghost use Rattle.endpoint.specs.Endpoint.{seen};
@@ -37,7 +39,7 @@ fn refusal(setup: Setup, now: u64) -> Answer
 
 impl Endpoint {
     fn made(setup: Setup, now: u64) -> Endpoint
-        ensures { λ r. ⌜ seen r ≡ made setup now ⌝ }
+        ensures { λ r. ⌜ (seen r ≡ made setup now) × (r .setup .handles .count ≡ setup .handles .count) × (r .statuses .count ≡ min (setup .«num_players») mostPlayers) ⌝ }
     {
         let statuses = Statuses::new(setup.num_players as usize);
         let setup = setup.sorted();

@@ -1,11 +1,10 @@
 // What an endpoint shows of itself: nothing changes.
 ghost use mathlib.Core.Path.{_≡_};
-ghost use Rattle.checksums.specs.Checksums.{stored};
 ghost use Rattle.endpoint_rules.specs.Reports.{notSynchronizedIn, earlyBy};
 ghost use Rattle.endpoint_rules.specs.Call.{Call, Question};
 ghost use Rattle.endpoint_rules.specs.Value.{Value, valueOf, synchronizedIn};
 ghost use Rattle.endpoint.specs.Endpoint.{seen};
-ghost use Rattle.endpoint.specs.Shown.{shown, HandlesAs, shownStatus, shownStats};
+ghost use Rattle.endpoint.specs.Shown.{shown, HandlesAs, ChecksumsAs, shownStatus, shownStats};
 use crate::Endpoint;
 use answer::Answer;
 use checksums::Checksums;
@@ -115,11 +114,13 @@ impl Endpoint {
         sync.phase
     }
 
-    // Those that the other end reported.
+    // Those that the other end reported, with a count that is their number.
     pub fn checksums(self) -> Checksums
-        ensures { λ r. ⌜ Value.checksums (stored r) ≡ valueOf (Call.ask Question.checksums) (seen self) ⌝ }
+        ensures { λ r. ⌜ ChecksumsAs (seen self) r ⌝ }
     {
-        self.checksums
+        let mut checksums = self.checksums;
+        checksums.used = self.checksums.count();
+        checksums
     }
 
     // What the other end reported of a player.

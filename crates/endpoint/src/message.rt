@@ -269,7 +269,7 @@ impl Endpoint {
                     body,
                     full,
                     self.quality,
-                    self.clocks.last_send_time,
+                    self.clocks,
                     now,
                     epoch,
                     self.setup.magic,
@@ -284,7 +284,8 @@ impl Endpoint {
                 }
                 self.quality.remote_frame_advantage = reacted.quality.remote_frame_advantage;
                 self.quality.round_trip_time = reacted.quality.round_trip_time;
-                self.clocks.last_send_time = reacted.last_send_time;
+                let clocks = reacted.clocks;
+                self.clocks = clocks;
                 self.queued = reacted.end;
             }
             _ => {
@@ -301,7 +302,8 @@ impl Endpoint {
             self.events = events;
             self.flags.disconnect_notify_sent = false;
         }
-        self.clocks.last_recv_time = now;
+        let clocks = self.clocks.heard(now);
+        self.clocks = clocks;
         Ended {
             endpoint: self,
             answer: Answer::Done,

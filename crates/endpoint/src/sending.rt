@@ -114,7 +114,8 @@ impl Endpoint {
             width,
             acked,
         );
-        self.clocks.last_send_time = now;
+        let clocks = self.clocks.sent(now);
+        self.clocks = clocks;
         self.queued = queued.end;
         Ended {
             endpoint: self,

@@ -52,11 +52,12 @@ fn filled(phase: Phase, queued: usize, room: usize) -> usize
 }
 
 impl Endpoint {
-    // The events held, and the endpoint without them.
+    // The events held, with a count that is their number, and the endpoint without them.
     pub fn take_events(mut self) -> TakenEvents
         ensures { λ r. ⌜ TakenAs self r ⌝ }
     {
-        let events = self.events;
+        let mut events = self.events;
+        events.used = self.events.count();
         self.events.used = 0;
         TakenEvents {
             endpoint: self,

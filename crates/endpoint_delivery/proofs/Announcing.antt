@@ -60,7 +60,7 @@ shares-append size (p ∷ ps) b more h =
     let m = suc-mul (length ps) size in
     rw (take-append-le size b more (omega arith), drop-append-le size b more (omega arith), shares-append size ps (drop size b) more (omega (arith, length-drop size b)))
 
-shares-padded : (size : ℕ) (ps b : List ℕ) → length b ≤ 64 → length ps * size ≤ length b → shares size ps (padded b) ≡ shares size ps b
+pub shares-padded : (size : ℕ) (ps b : List ℕ) → length b ≤ 64 → length ps * size ≤ length b → shares size ps (padded b) ≡ shares size ps b
 unfolding padded
 shares-padded size ps b few h = rw (take-all 64 b few) (shares-append size ps b (replicate (64 - length b) 0) h)
 
@@ -80,7 +80,7 @@ shares-sized size (p ∷ ps) b h =
 
 module _ (size : ℕ) (few : size ≤ 16) where
   -- a player's input, as it stands in an event
-  input-back : (b : List ℕ) → size ≤ length b → take size (inputOf (take size b)) ≡ take size b
+  pub input-back : (b : List ℕ) → size ≤ length b → take size (inputOf (take size b)) ≡ take size b
   unfolding inputOf
   input-back b h =
       let l : length (take size b) ≡ size = length-take-le size b h in

@@ -1,20 +1,18 @@
 -- An Input that is neither refused nor ignored nor discarded brings its receiver at least to its last frame, if the receiver has none yet or still holds the
 -- frame before its first; otherwise it announces no frame.
 use mathlib.Core.Bool.{Bool, true, false, not, _&&_, _||_, and-false}
-use mathlib.Core.List.{List, [], _∷_, _++_, append-nil}
+use mathlib.Core.List.{List, [], _∷_}
 use mathlib.Core.Logic.{_⊎_, inl, inr}
-use mathlib.Core.Path.{_≡_, sym, ap, _∙_}
+use mathlib.Core.Path.{_≡_, ap, _∙_}
 use Prim.Native.Nat.{ℕ, _≤_}
 use lib.Dec.{eqb}
 use lib.ListN.{length}
 use borrow.Author.Tests.{le-ltb, eq-eqb}
-use Rattle.base.proofs.Kept.{kept-append}
 use Rattle.frame.specs.Bias.{bias32, nullFrame}
 use Rattle.history.specs.History.{newestOf}
 use Rattle.codec.specs.Message.{Wire}
 use Rattle.codec.specs.declared.StatusReport.{StatusReport}
 use Rattle.codec.specs.declared.MessageBody.the-variants.{Input}
-use Rattle.events.specs.declared.Entry.{Entry}
 use Rattle.events.specs.Events.{announcedEach}
 use Rattle.endpoint_rules.specs.Seen.{Seen}
 use Rattle.endpoint_rules.specs.Did.{Did, tested, decided, done}
@@ -23,15 +21,15 @@ use Rattle.endpoint_rules.specs.Call.{Call}
 use Rattle.endpoint_rules.specs.Step.{ignored, heard, onBody, step, messageStep, datagramStep}
 use Rattle.endpoint_rules.proofs.Laws.{message-done}
 use Rattle.endpoint_invariant.specs.Each.{Each}
-use Rattle.endpoint_delivery.specs.Frames.{announcedIn, lastAnnounced}
+use Rattle.endpoint_delivery.specs.Frames.{lastAnnounced}
 use Rattle.endpoint_delivery.specs.Runs.{End, next, announcedBy, Run, Heard, Heeded, Brings, EachBrings}
 use Rattle.endpoint_delivery.proofs.Lists.{Mem}
 use Rattle.endpoint_delivery.proofs.Wires.{OnInput, each-mem}
 use Rattle.endpoint_delivery.proofs.Tape.{Packet}
-use Rattle.endpoint_delivery.proofs.Moves.{isInput, inputsIn, reaches, unready}
+use Rattle.endpoint_delivery.proofs.Moves.{inputsIn, reaches, unready}
 use Rattle.endpoint_delivery.proofs.Effects.{Does, takenIn, taking, hearing}
-use Rattle.endpoint_delivery.proofs.Calls.{Side, Way, Both, message-both, datagram-both}
-use Rattle.endpoint_delivery.proofs.Announcing.{of-inputs}
+use Rattle.endpoint_delivery.proofs.Calls.{Way, Both, message-both, datagram-both}
+use Rattle.endpoint_delivery.proofs.Silent.{quiet-call, Free, free, silent}
 use Rattle.endpoint_delivery.proofs.InOrder.{side, side-next, Tied, turned, tied, ordered, none-yet}
 
 any : {X : Type 0} (l : List X) → Each (λ x. (magic : ℕ) → Unit {0}) l
@@ -57,13 +55,6 @@ heeded-passes d count start s h = rw (le-ltb start bias32 (h .from)) (go (h .com
     go (inl e) = rw e
     go (inr e) = rw (eq-eqb _ _ e, and-false (not d))
 
--- events without an input announce no frame
-quiet-after : (size : ℕ) (l more : List Entry) → inputsIn more ≡ [] → announcedIn size (l ++ more) ≡ announcedIn size l
-quiet-after size l more e =
-    of-inputs size (l ++ more)
-    ∙ ap (announcedIn size) (kept-append isInput l more ∙ ap (λ (z : List Entry). inputsIn l ++ z) e ∙ append-nil (inputsIn l))
-    ∙ sym (of-inputs size l)
-
 module _ (a b : End) (t : Tied a b) where
   abbrev s : Seen
   s = a .state
@@ -76,33 +67,33 @@ module _ (a b : End) (t : Tied a b) where
       (does : step c s ≡ done (inputTaken now (inputMessage d start ack reports payload) (heard now s))) where
     abbrev Effect : Did → Type 0
     Effect x =
-        Does s (takenIn (λ _. Unit {0}) (λ m b q. tt) s start payload ack) (announcedEach (s .setup .inputSize) (s .setup .handles) (receive (s .setup) start payload (s .carried .receiver) .newFrames))
-        (λ _. Unit {0}) (x .after) (x .out) (x .events)
+        Does s (takenIn Free free s start payload ack) (announcedEach (s .setup .inputSize) (s .setup .handles) (receive (s .setup) start payload (s .carried .receiver) .newFrames))
+        Free (x .after) (x .out) (x .events)
 
     effect : Effect (step c s)
     unfolding done
     effect =
-        let h = taking (λ _. Unit {0}) (λ m b q. tt) s start payload now ack d reports (any _) in
+        let h = taking Free free s start payload now ack d reports (any _) in
         let e : Effect (done (inputTaken now (inputMessage d start ack reports payload) (heard now s))) = record { setup = h .setup; carried = h .carried; out = h .out; events = h .events } in
         rw does e
 
     taken-brings : Packet (way .tape) (way .reached) payload start → bias32 ≤ start → Brings start payload a c
     unfolding lastAnnounced announcedEach
     taken-brings p from =
-        let o = ordered b (next c a) (k .comes) (rw (effect .setup) (t .soundA .setup)) in
-        let none : announcedBy a ≡ [] → newestOf (s .carried .receiver .history) ≡ nullFrame = λ e. rw e at (ordered b a way (t .soundA .setup) .newest) in
+        let o = ordered b (next c a) (k .comes) (rw (effect .setup) (t .soundA .setup)) (rw (effect .setup) (t .meet .back)) in
+        let none : announcedBy a ≡ [] → newestOf (s .carried .receiver .history) ≡ nullFrame = λ e. rw e at (ordered b a way (t .soundA .setup) (t .meet .back) .newest) in
         record {
           reaches = λ y. rw (← o .newest, effect .carried) (reaches (s .setup) (t .soundA .setup) way (t .soundA .receiver) start payload p (elim y [ inl e ↦ inl (none e) | inr x ↦ inr x ]));
           nothing = λ n.
               let news = unready (s .setup) start payload (s .carried .receiver) from (λ y. n (elim y [ inl e ↦ inl (none-yet b a way (t .soundA .setup) e) | inr x ↦ inr x ])) in
               let none-new : inputsIn (step c s .events) ≡ [] = effect .events ∙ rw news in
-              rw (effect .setup, ap (λ (x : Side). x .events) (side-next c a)) (quiet-after (s .setup .inputSize) (a .taken ++ s .events) (step c s .events) none-new);
+              quiet-call c a none-new;
         }
 
   module _ (count : ℕ) (w : Wire) (now epoch nonce : ℕ) (d : Bool) (start ack : ℕ) (e : w .body ≡ Input d start ack) (x : Heeded d count start s) where
     not-discarded : discarded d count start (heard now s .state) ≡ false
     unfolding discarded
-    not-discarded = rw (hearing (λ _. Unit {0}) (λ m b q. tt) s now .setup) (heeded-passes d count start s x)
+    not-discarded = rw (hearing Free free s now .setup) (heeded-passes d count start s x)
 
     effect-is : onBody (w .body) count w now epoch nonce (heard now s) .effect ≡ inputTaken now (inputMessage d start ack (w .reports) (w .payload)) (heard now s)
     unfolding onBody onInput inputUnless
@@ -129,6 +120,7 @@ module _ (a b : End) (t : Tied a b) where
         taken-brings c (rw (side-next c a) (k .both)) now d start ack (w .reports) (w .payload)
         (rw g (taken-done (length (w .reports)) w now epoch nonce d start ack e x peer buffer (rw g at z) i))
         (packet (length (w .reports)) w now epoch nonce d start ack e x m) (x .from);
+    silent = λ c n. silent c a n;
   }
 
 -- demand 3, its second part, at both ends

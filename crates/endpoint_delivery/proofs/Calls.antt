@@ -58,7 +58,7 @@ pub record Side : Type 0 where
 -- what is sent from one to the other
 abbrev pub Way : Side → Side → Type 0
 Way a b =
-    Dir (receivingWidth (b .state .setup)) (b .state .setup .inputSize) (b .state .setup .handles) (a .state .carried .sender) (b .state .carried .receiver)
+    Dir (receivingWidth (b .state .setup)) (b .state .setup .inputSize) (b .state .setup .maxPrediction) (b .state .setup .handles) (a .state .carried .sender) (b .state .carried .receiver)
     (a .queued) (b .queued) (a .accepted) (b .events)
 
 pub record Both (a b : Side) : Type 0 where

@@ -6,5 +6,6 @@ pub mod Effects
 pub mod Calls
 pub mod Announcing
 pub mod InOrder
+pub mod Silent
 pub mod Brings
 pub mod Examples

@@ -35,6 +35,15 @@ module _ {X : Type 0} where
       go ih true m = elim (cases-cons m) [ inl p ↦ here p | inr q ↦ there (ih q) ]
       go ih false m = there (ih m)
 
+  pub kept-passes : (t : X → Bool) (l : List X) {e : X} → Mem e (kept t l) → t e ≡ true
+  unfolding kept
+  kept-passes t [] h = absurd (not-nil h)
+  kept-passes t (x ∷ xs) {e} h = go (λ m. kept-passes t xs m) (t x) refl h
+    where
+      go : (Mem e (kept t xs) → t e ≡ true) → (b : Bool) → t x ≡ b → Mem e (pick b (x ∷ kept t xs) (kept t xs)) → t e ≡ true
+      go ih true q m = elim (cases-cons m) [ inl p ↦ rw p q | inr r ↦ ih r ]
+      go ih false q m = ih m
+
   pub mem-kept : (t : X → Bool) (l : List X) {e : X} → Mem e l → t e ≡ true → Mem e (kept t l)
   unfolding kept
   mem-kept t l {e} (here {x} {xs} q) p = rw (← q, p) (here refl)

@@ -19,7 +19,7 @@ use Rattle.packing.specs.Packing.{frameCount, decodable, Wide}
 use Rattle.packing.specs.declared.input_bytes.InputBytes.{InputBytes}
 use Rattle.packing.proofs.Laws.{pack-length}
 use Rattle.pending.specs.Pending.{firstFrame, payload}
-use Rattle.history.specs.History.{blankFrame, newestOf, foundIn, referenceFrame, numbered, packetOf}
+use Rattle.history.specs.History.{blankFrame, highest, newestOf, foundIn, referenceFrame, numbered, packetOf}
 use Rattle.history.proofs.Laws.{found-frame}
 use Rattle.codec.specs.Message.{Wire}
 use Rattle.events.specs.declared.Entry.{Entry}
@@ -38,7 +38,7 @@ use Rattle.endpoint_invariant.proofs.Eaches.{each-also, each-append}
 use Rattle.endpoint_delivery.specs.Frames.{Frame}
 use Rattle.endpoint_delivery.proofs.Lists.{Mem, here, one, entry, wide-end, found-mem, mem-found, number-append}
 use Rattle.endpoint_delivery.proofs.Wires.{OnInput, OnAck, input-also, ack-also}
-use Rattle.endpoint_delivery.proofs.Tape.{Tape, ref, part, framed, Sending, Holding, Packet, Ack, Packets, Acks, Took, takes, ref-inj, ref-suc, ref-long, size-part, wide-part, top-is, pop-inv, last-is, sent}
+use Rattle.endpoint_delivery.proofs.Tape.{Tape, ref, part, framed, Sending, Holding, Packet, Ack, Packets, Acks, Lined, Took, takes, ref-inj, ref-suc, ref-long, size-part, wide-part, top-held, top-is, pop-inv, last-is, sent}
 
 -- the Input events among some
 abbrev pub isInput : Entry → Bool
@@ -65,20 +65,21 @@ announced-append size hs [] b = refl
 announced-append size hs (x ∷ a) b = rw (announced-append size hs a b, append-assoc)
 
 -- the whole: sender s, receiver r, their ends' messages ls and lr so far, the frames accepted and the events events so far
-pub record Link {w : ℕ} (t : Tape w) (size : ℕ) (hs : List ℕ) (k n : ℕ) (s : Sender) (r : Receiver) (ls lr : List Wire) (acc : List Frame) (events : List Entry) : Type 0 where
+pub record Link {w : ℕ} (t : Tape w) (size mp : ℕ) (hs : List ℕ) (k n : ℕ) (s : Sender) (r : Receiver) (ls lr : List Wire) (acc : List Frame) (events : List Entry) : Type 0 where
   pub behind : k ≤ n
   pub sending : Sending t k s
-  pub holding : Holding t n (r .history)
+  pub holding : Holding t mp n (r .history)
+  pub lined : Lined mp (r .history)
   pub packets : Packets t n ls
   pub acks : Acks t n lr
   pub accepted : acc ≡ framed (t .f) (t .bs)
   pub announced : inputsIn events ≡ announcedEach size hs (numbered (t .f) (take n (t .bs)))
 
-pub record Dir (w size : ℕ) (hs : List ℕ) (s : Sender) (r : Receiver) (ls lr : List Wire) (acc : List Frame) (events : List Entry) : Type 0 where
+pub record Dir (w size mp : ℕ) (hs : List ℕ) (s : Sender) (r : Receiver) (ls lr : List Wire) (acc : List Frame) (events : List Entry) : Type 0 where
   pub tape : Tape w
   pub dropped : ℕ
   pub reached : ℕ
-  pub link : Link tape size hs dropped reached s r ls lr acc events
+  pub link : Link tape size mp hs dropped reached s r ls lr acc events
 
 -- ---- more frames reached
 
@@ -122,11 +123,11 @@ module _ {w : ℕ} (t : Tape w) (b : List ℕ) (e : length b ≡ w) (frame : ℕ
   grow-ack : (n : ℕ) → n ≤ length (t .bs) → (x : ℕ) → Ack t n x → Ack longer n x
   grow-ack n m x q = record { count = q .count; most = q .most; is = rw (same (q .count) (omega arith)) (q .is) }
 
-  pub grow : (size : ℕ) (hs : List ℕ) (k n : ℕ) (s : Sender) (r : Receiver) (ls lr : List Wire) (acc : List Frame) (events : List Entry) → Link t size hs k n s r ls lr acc events
-      → Link longer size hs k n (record { pending = s .pending ++ entry frame b ∷ []; acked = s .acked }) r ls lr
+  pub grow : (size mp : ℕ) (hs : List ℕ) (k n : ℕ) (s : Sender) (r : Receiver) (ls lr : List Wire) (acc : List Frame) (events : List Entry) → Link t size mp hs k n s r ls lr acc events
+      → Link longer size mp hs k n (record { pending = s .pending ++ entry frame b ∷ []; acked = s .acked }) r ls lr
       (acc ++ record { number = frame; bytes = b } ∷ []) events
   unfolding numbered
-  grow size hs k n s r ls lr acc events h =
+  grow size mp hs k n s r ls lr acc events h =
       record {
         behind = h .behind;
         sending = record {
@@ -138,8 +139,11 @@ module _ {w : ℕ} (t : Tape w) (b : List ℕ) (e : length b ≡ w) (frame : ℕ
         holding = record {
           most = omega (arith, size′, h .holding .most);
           old = λ e m. let j = h .holding .old e m in (j .0, j .1, rw (same (j .0) (omega (arith, h .holding .most))) (j .2));
-          has = rw (same n (h .holding .most)) (h .holding .has);
+          has = λ j b q.
+              let m : j ≤ length (t .bs) = omega (arith, h .holding .most) in
+              rw (same j m) (h .holding .has j b (rw (same n (h .holding .most), same j m) at q));
         };
+        lined = h .lined;
         packets =
             each-also (λ (x : Wire). OnInput (Packet t n (x .payload)) (x .body)) (λ (x : Wire). OnInput (Packet longer n (x .payload)) (x .body))
             (λ x. input-also (Packet t n (x .payload)) (Packet longer n (x .payload)) (grow-packet n (h .holding .most) (x .payload)) (x .body)) ls (h .packets);
@@ -163,10 +167,10 @@ module _ {w : ℕ} (t : Tape w) (f : ℕ) (l : nullFrame < f) (m : f < 2 ^ 32) w
   nil-of [] e = refl
   nil-of (b ∷ x) e = absurd (omega arith)
 
-  pub rebase : (size : ℕ) (hs : List ℕ) (k n : ℕ) (s : Sender) (r : Receiver) (ls lr : List Wire) (acc : List Frame) (events : List Entry) → length (t .bs) ≡ 0
-      → Link t size hs k n s r ls lr acc events → Link based size hs 0 0 s r ls lr acc events
+  pub rebase : (size mp : ℕ) (hs : List ℕ) (k n : ℕ) (s : Sender) (r : Receiver) (ls lr : List Wire) (acc : List Frame) (events : List Entry) → length (t .bs) ≡ 0
+      → Link t size mp hs k n s r ls lr acc events → Link based size mp hs 0 0 s r ls lr acc events
   unfolding numbered
-  rebase size hs k n s r ls lr acc events e h =
+  rebase size mp hs k n s r ls lr acc events e h =
       let zk : k ≡ 0 = omega (arith, h .sending .most) in
       let zn : n ≡ 0 = omega (arith, h .holding .most) in
       let zb : t .bs ≡ [] = nil-of (t .bs) e in
@@ -176,8 +180,9 @@ module _ {w : ℕ} (t : Tape w) (f : ℕ) (l : nullFrame < f) (m : f < 2 ^ 32) w
         holding = record {
           most = omega arith;
           old = λ e m. let j = h .holding .old e m in let z : j .0 ≡ 0 = omega arith in (0, omega arith, rw z at (j .2));
-          has = rw zn at (h .holding .has);
+          has = λ j b q. let z : j ≡ 0 = omega arith in rw z (rw zn at (top-held t n (r .history) (h .holding)));
         };
+        lined = h .lined;
         packets =
             each-also (λ (x : Wire). OnInput (Packet t n (x .payload)) (x .body)) (λ (x : Wire). OnInput (Packet based 0 (x .payload)) (x .body))
             (λ x. input-also (Packet t n (x .payload)) (Packet based 0 (x .payload)) (λ start q. absurd (omega arith)) (x .body)) ls (h .packets);
@@ -190,16 +195,17 @@ module _ {w : ℕ} (t : Tape w) (f : ℕ) (l : nullFrame < f) (m : f < 2 ^ 32) w
 
 -- ---- the moves
 
-pub begins : (w size : ℕ) (hs : List ℕ) → Dir w size hs (record { pending = []; acked = blankFrame }) (record { history = blankFrame ∷ [] }) [] [] [] []
-unfolding Wide Each numbered kept announcedEach
-begins w size hs = record {
+pub begins : (w size mp : ℕ) (hs : List ℕ) → Dir w size mp hs (record { pending = []; acked = blankFrame }) (record { history = blankFrame ∷ [] }) [] [] [] []
+unfolding Wide Each numbered kept announcedEach newestOf highest
+begins w size mp hs = record {
   tape = record { f = bias32; bs = []; first = omega arith; last = omega arith; wide = tt };
   dropped = 0;
   reached = 0;
   link = record {
     behind = omega arith;
     sending = record { most = omega arith; pend = refl; ackd = refl };
-    holding = record { most = omega arith; old = λ e m. (0, omega arith, one m); has = here refl };
+    holding = record { most = omega arith; old = λ e m. (0, omega arith, one m); has = λ j b q. let z : j ≡ 0 = omega arith in rw z (here refl) };
+    lined = λ e m. rw (one m) (omega arith);
     packets = tt;
     acks = tt;
     accepted = refl;
@@ -207,9 +213,9 @@ begins w size hs = record {
   };
 }
 
-module _ {w size : ℕ} {hs : List ℕ} {s : Sender} {r : Receiver} {ls lr : List Wire} {acc : List Frame} {events : List Entry} (d : Dir w size hs s r ls lr acc events) where
+module _ {w size mp : ℕ} {hs : List ℕ} {s : Sender} {r : Receiver} {ls lr : List Wire} {acc : List Frame} {events : List Entry} (d : Dir w size mp hs s r ls lr acc events) where
   -- the sender hears an ack; its end queues messages, whose Inputs are packets
-  pub hears : (x : ℕ) → Ack (d .tape) (d .reached) x → (out : List Wire) → Packets (d .tape) (d .reached) out → Dir w size hs (droppedTo x s) r (ls ++ out) lr acc events
+  pub hears : (x : ℕ) → Ack (d .tape) (d .reached) x → (out : List Wire) → Packets (d .tape) (d .reached) out → Dir w size mp hs (droppedTo x s) r (ls ++ out) lr acc events
   hears x a out h =
       let l = d .link in
       let p = pop-inv (d .tape) (d .dropped) (a .count) s (l .sending) (omega (arith, l .holding .most)) in
@@ -218,7 +224,7 @@ module _ {w size : ℕ} {hs : List ℕ} {s : Sender} {r : Receiver} {ls lr : Lis
       rw (a .is) (record { tape = d .tape; dropped = p .0; reached = d .reached; link = search })
 
   -- the sender's end queues messages, whose Inputs are packets
-  pub queues : (out : List Wire) → Packets (d .tape) (d .reached) out → Dir w size hs s r (ls ++ out) lr acc events
+  pub queues : (out : List Wire) → Packets (d .tape) (d .reached) out → Dir w size mp hs s r (ls ++ out) lr acc events
   queues out h =
       let l = d .link in
       let pk : Packets (d .tape) (d .reached) (ls ++ out) = each-append (λ (x : Wire). OnInput (Packet (d .tape) (d .reached) (x .payload)) (x .body)) ls out (l .packets) h in
@@ -230,7 +236,7 @@ module _ {w size : ℕ} {hs : List ℕ} {s : Sender} {r : Receiver} {ls lr : Lis
   resends v q few x xs e = rw q (sent (d .tape) (d .dropped) (d .reached) s x xs few (d .link .sending) (d .link .behind) e)
 
   -- the receiver's end queues messages, whose acks are of frames reached
-  pub acked : (out : List Wire) → Acks (d .tape) (d .reached) out → Dir w size hs s r ls (lr ++ out) acc events
+  pub acked : (out : List Wire) → Acks (d .tape) (d .reached) out → Dir w size mp hs s r ls (lr ++ out) acc events
   acked out h =
       let l = d .link in
       let ak : Acks (d .tape) (d .reached) (lr ++ out) = each-append (λ (x : Wire). OnAck (Ack (d .tape) (d .reached)) (x .body)) lr out (l .acks) h in
@@ -241,7 +247,7 @@ module _ {w size : ℕ} {hs : List ℕ} {s : Sender} {r : Receiver} {ls lr : Lis
   newest-ack = record { count = d .reached; most = omega arith; is = top-is (d .tape) (d .reached) (r .history) (d .link .holding) }
 
   -- the receiver's end announces other things
-  pub announces-more : (more : List Entry) → inputsIn more ≡ [] → Dir w size hs s r ls lr acc (events ++ more)
+  pub announces-more : (more : List Entry) → inputsIn more ≡ [] → Dir w size mp hs s r ls lr acc (events ++ more)
   announces-more more e =
       let l = d .link in
       let an : inputsIn (events ++ more) ≡ announcedEach size hs (numbered (d .tape .f) (take (d .reached) (d .tape .bs))) =
@@ -250,7 +256,7 @@ module _ {w size : ℕ} {hs : List ℕ} {s : Sender} {r : Receiver} {ls lr : Lis
 
   -- the sender accepts an input
   pub sends : (frame : ℕ) (b : List ℕ) → frame < 2 ^ 32 → length b ≡ w → badFrame frame s ≡ false
-      → Dir w size hs (record { pending = s .pending ++ entry frame b ∷ []; acked = s .acked }) r ls lr (acc ++ record { number = frame; bytes = b } ∷ []) events
+      → Dir w size mp hs (record { pending = s .pending ++ entry frame b ∷ []; acked = s .acked }) r ls lr (acc ++ record { number = frame; bytes = b } ∷ []) events
   unfolding badFrame blankFrame
   sends frame b small e h = go (length (d .tape .bs)) refl
     where
@@ -261,14 +267,14 @@ module _ {w size : ℕ} {hs : List ℕ} {s : Sender} {r : Receiver} {ls lr : Lis
       on q = eqb-true frame (suc (lastAccepted s)) (not-false _ (and-none (leb bias32 (lastAccepted s)) _ (neither (ltb frame bias32) _ h .1) (le-leb _ _ q)))
 
       go : (m : ℕ) → length (d .tape .bs) ≡ m
-          → Dir w size hs (record { pending = s .pending ++ entry frame b ∷ []; acked = s .acked }) r ls lr (acc ++ record { number = frame; bytes = b } ∷ []) events
+          → Dir w size mp hs (record { pending = s .pending ++ entry frame b ∷ []; acked = s .acked }) r ls lr (acc ++ record { number = frame; bytes = b } ∷ []) events
       go zero z =
           let t : Tape w = based (d .tape) frame (omega (arith, from)) small in
           record {
             tape = longer t b e frame (omega arith) small;
             dropped = 0;
             reached = 0;
-            link = grow t b e frame (omega arith) small size hs 0 0 s r ls lr acc events (rebase (d .tape) frame (omega (arith, from)) small size hs (d .dropped) (d .reached) s r ls lr acc events z (d .link));
+            link = grow t b e frame (omega arith) small size mp hs 0 0 s r ls lr acc events (rebase (d .tape) frame (omega (arith, from)) small size mp hs (d .dropped) (d .reached) s r ls lr acc events z (d .link));
           }
       go (suc m) z =
           let last = last-is (d .tape) (d .dropped) s (d .link .sending) (suc m) z in
@@ -277,7 +283,7 @@ module _ {w size : ℕ} {hs : List ℕ} {s : Sender} {r : Receiver} {ls lr : Lis
             tape = longer (d .tape) b e frame at small;
             dropped = d .dropped;
             reached = d .reached;
-            link = grow (d .tape) b e frame at small size hs (d .dropped) (d .reached) s r ls lr acc events (d .link);
+            link = grow (d .tape) b e frame at small size mp hs (d .dropped) (d .reached) s r ls lr acc events (d .link);
           }
 
 -- ---- the receiver takes an Input of the sender's
@@ -287,18 +293,18 @@ abbrev pub Awaits : (start : ℕ) → Receiver → Type 0
 Awaits start r = (newestOf (r .history) ≡ nullFrame) ⊎ ((x : InputBytes) × Mem x (r .history) × (suc (x .frame) ≡ start))
 
 module _ (g : Terms) (sg : SoundSetup g) {size : ℕ} {hs : List ℕ} {s : Sender} {r : Receiver} {ls lr : List Wire} {acc : List Frame} {events : List Entry}
-    (d : Dir (receivingWidth g) size hs s r ls lr acc events) (sound : SoundReceiver (receivingWidth g) (g .maxPrediction) r)
+    (d : Dir (receivingWidth g) size (g .maxPrediction) hs s r ls lr acc events) (sound : SoundReceiver (receivingWidth g) (g .maxPrediction) r)
     (start : ℕ) (p : List ℕ) (k : Packet (d .tape) (d .reached) p start) where
   abbrev got : Reception
   got = receive g start p r
 
-  pub took : Took (d .tape) (d .reached) (k .upto) (foundIn (referenceFrame start (r .history)) (r .history) .held ≡ true) got
-  took = takes g sg (d .tape) (d .reached) start p (r .history) sound (d .link .holding) k
+  pub took : Took (d .tape) (g .maxPrediction) (d .reached) (k .upto) (foundIn (referenceFrame start (r .history)) (r .history) .held ≡ true) got
+  took = takes g sg (d .tape) (d .reached) start p (r .history) sound (d .link .holding) (d .link .lined) k
 
   -- the events announced of it among others, and the messages that acknowledge it
   pub gets : (more : List Entry) → inputsIn more ≡ announcedEach size hs (got .newFrames) → (out : List Wire)
       → ((n : ℕ) → Each (Ack (d .tape) n) (got .acks) → Acks (d .tape) n out)
-      → Dir (receivingWidth g) size hs s (got .receiver) ls (lr ++ out) acc (events ++ more)
+      → Dir (receivingWidth g) size (g .maxPrediction) hs s (got .receiver) ls (lr ++ out) acc (events ++ more)
   gets more e out f =
       let l = d .link in
       let t = took in
@@ -309,10 +315,10 @@ module _ (g : Terms) (sg : SoundSetup g) {size : ℕ} {hs : List ℕ} {s : Sende
       let an : inputsIn (events ++ more) ≡ announcedEach size hs (numbered (d .tape .f) (take (t .count) (d .tape .bs))) =
       kept-append isInput events more ∙ ap (λ (z : List Entry). inputsIn events ++ z) e ∙ ap (λ (z : List Entry). z ++ announcedEach size hs (got .newFrames)) (l .announced)
       ∙ sym (announced-append size hs (numbered (d .tape .f) (take (d .reached) (d .tape .bs))) (got .newFrames)) ∙ ap (announcedEach size hs) (t .newFrames) in
-      let hd : Holding (d .tape) (t .count) (got .receiver .history) = t .holding in
+      let hd : Holding (d .tape) (g .maxPrediction) (t .count) (got .receiver .history) = t .holding in
       let sn : Sending (d .tape) (d .dropped) s = l .sending in
       let ac : acc ≡ framed (d .tape .f) (d .tape .bs) = l .accepted in
-      record { tape = d .tape; dropped = d .dropped; reached = t .count; link = record { behind = b; sending = sn; holding = hd; packets = pk; acks = ak; accepted = ac; announced = an } }
+      record { tape = d .tape; dropped = d .dropped; reached = t .count; link = record { behind = b; sending = sn; holding = hd; lined = t .lined; packets = pk; acks = ak; accepted = ac; announced = an } }
 
   ready-found : Awaits start r → foundIn (referenceFrame start (r .history)) (r .history) .held ≡ true
   unfolding referenceFrame blankFrame
@@ -321,7 +327,7 @@ module _ (g : Terms) (sg : SoundSetup g) {size : ℕ} {hs : List ℕ} {s : Sende
       blank-held : newestOf (r .history) ≡ nullFrame → Mem blankFrame (r .history)
       blank-held e =
           let z : d .reached ≡ 0 = ref-inj (d .tape) (d .reached) 0 (sym (top-is (d .tape) (d .reached) (r .history) (d .link .holding)) ∙ e) in
-          rw z at (d .link .holding .has)
+          rw z at (top-held (d .tape) (d .reached) (r .history) (d .link .holding))
 
       go : (b : Bool) → eqb (newestOf (r .history)) nullFrame ≡ b → Awaits start r → foundIn (pick b nullFrame (start - 1)) (r .history) .held ≡ true
       go true q y = mem-found nullFrame (r .history) (blank-held (eqb-true _ _ q)) refl

@@ -9,7 +9,7 @@ use native.Mathlib.Nat.{add-suc, add-assoc}
 use lib.Dec.{eqb}
 use lib.ListN.{length, getD, take, drop, length-drop, take-append-drop, drop-of-length-le}
 use lib.Seq.{getD-drop, getD-take, drop-drop, take-take, length-take-le, take-length, take-all}
-use borrow.Author.Tests.{eqb-true, le-leb}
+use borrow.Author.Tests.{eqb-true, le-leb, leb-true}
 use Rattle.base.specs.Pick.{pick}
 use Rattle.base.proofs.Digits.{below-or-not}
 use Rattle.frame.specs.Bias.{nullFrame}
@@ -30,7 +30,7 @@ use Rattle.endpoint_invariant.specs.Each.{Each}
 use Rattle.endpoint_invariant.specs.Sound.{SoundReceiver}
 use Rattle.endpoint_invariant.proofs.Receivers.{never-full}
 use Rattle.endpoint_delivery.specs.Frames.{Frame}
-use Rattle.endpoint_delivery.proofs.Lists.{Mem, append-cases, mem-left, mem-right, entry, kept-mem, mem-kept, found-mem, newest-bound, newest-mem, wide-take, wide-drop, bytes-numbered, number-append, mem-number, number-mem, above-all, above-drop, drop-none, last-none, drop-some, last-some, last-number}
+use Rattle.endpoint_delivery.proofs.Lists.{Mem, append-cases, mem-left, mem-right, entry, kept-mem, kept-passes, mem-kept, found-mem, newest-bound, newest-mem, wide-take, wide-drop, bytes-numbered, number-append, mem-number, number-mem, above-all, above-drop, drop-none, last-none, drop-some, last-some, last-number}
 use Rattle.endpoint_delivery.proofs.Wires.{OnInput, OnAck}
 
 -- ---- what has been accepted for sending: bytes of one width, at the frames f, f + 1, ...
@@ -54,7 +54,7 @@ abbrev pub framed : ℕ → List (List ℕ) → List Frame
 framed f [] = []
 framed f (b ∷ bs) = record { number = f; bytes = b } ∷ framed (suc f) bs
 
--- ---- the invariant, in parts. k: how many the sender has dropped; n: how many the receiver has announced
+-- ---- the invariant, in parts. k: how many the sender has dropped; n: how many the receiver has announced; mp: its max_prediction, which sets the keep line
 
 module _ {w : ℕ} (t : Tape w) where
   pub record Sending (k : ℕ) (s : Sender) : Type 0 where
@@ -62,10 +62,10 @@ module _ {w : ℕ} (t : Tape w) where
     pub pend : s .pending ≡ numbered (t .f + k) (drop k (t .bs))
     pub ackd : s .acked ≡ ref t k
 
-  pub record Holding (n : ℕ) (h : List InputBytes) : Type 0 where
+  pub record Holding (mp n : ℕ) (h : List InputBytes) : Type 0 where
     pub most : n ≤ length (t .bs)
     pub old : (e : InputBytes) → Mem e h → (j : ℕ) × (j ≤ n) × (e ≡ ref t j)
-    pub has : Mem (ref t n) h
+    pub has : (j : ℕ) → j ≤ n → ref t n .frame ≤ ref t j .frame + 2 * mp → Mem (ref t j) h
 
   pub record Packet (n : ℕ) (p : List ℕ) (start : ℕ) : Type 0 where
     pub from : ℕ
@@ -86,6 +86,10 @@ module _ {w : ℕ} (t : Tape w) where
 
   abbrev pub Acks : ℕ → List Wire → Type 0
   Acks n log = Each (λ (x : Wire). OnAck (Ack n) (x .body)) log
+
+-- nothing held lies below the keep line of the newest
+abbrev pub Lined : (mp : ℕ) → List InputBytes → Type 0
+Lined mp h = (e : InputBytes) → Mem e h → newestOf h ≤ e .frame + 2 * mp
 
 -- ---- references
 
@@ -123,10 +127,14 @@ module _ {w : ℕ} (t : Tape w) where
   pub wide-part : (a b : ℕ) → Wide w (part t a b)
   wide-part a b = wide-drop w a (take b (t .bs)) (wide-take w b (t .bs) (t .wide))
 
-  pub top-is : (n : ℕ) (h : List InputBytes) → Holding t n h → newestOf h ≡ ref t n .frame
+  -- the newest is held at any max_prediction
+  pub top-held : {mp : ℕ} (n : ℕ) (h : List InputBytes) → Holding t mp n h → Mem (ref t n) h
+  top-held n h i = i .has n (omega arith) (omega arith)
+
+  pub top-is : {mp : ℕ} (n : ℕ) (h : List InputBytes) → Holding t mp n h → newestOf h ≡ ref t n .frame
   top-is n h i =
       let up : newestOf h ≤ ref t n .frame = newest-bound (ref t n .frame) h (null-ref n) (λ e m. let r = i .old e m in rw (r .2) (ref-le (r .0) n (r .1))) in
-      omega (arith, newest-mem h (i .has))
+      omega (arith, newest-mem h (top-held n h i))
 
   -- ---- the sender drops
 
@@ -192,25 +200,25 @@ module _ {w : ℕ} (t : Tape w) where
 
   -- ---- the receiver takes in
 
-  last-mem : (n n′ : ℕ) → n < n′ → n′ ≤ length (t .bs) → Mem (ref t n′) (numbered (t .f + n) (part t n n′))
-  last-mem n zero l m = absurd (omega arith)
-  last-mem n (suc i) l m =
+  new-mem : (n j n′ : ℕ) → n < j → j ≤ n′ → n′ ≤ length (t .bs) → Mem (ref t j) (numbered (t .f + n) (part t n n′))
+  new-mem n zero n′ l b m = absurd (omega arith)
+  new-mem n (suc i) n′ l b m =
       let d : ℕ = i - n in
       let q : n + d ≡ i = omega arith in
-      let r : i < suc i = omega arith in
-      simp (add-assoc, getD-drop, getD-take, q, r) at (mem-number (t .f + n) (part t n (suc i)) d (omega (arith, size-part n (suc i) m)))
+      let r : i < n′ = omega arith in
+      simp (add-assoc, getD-drop, getD-take, q, r) at (mem-number (t .f + n) (part t n n′) d (omega (arith, size-part n n′ m)))
 
   -- the frames from n up to n′, on top of a history up to n
-  extend-inv : (n n′ : ℕ) (h : List InputBytes) → n ≤ n′ → n′ ≤ length (t .bs) → Holding t n h → Holding t n′ (h ++ numbered (t .f + n) (part t n n′))
+  extend-inv : {mp : ℕ} (n n′ : ℕ) (h : List InputBytes) → n ≤ n′ → n′ ≤ length (t .bs) → Holding t mp n h → Holding t mp n′ (h ++ numbered (t .f + n) (part t n n′))
   extend-inv n n′ h l m i = record {
     most = m;
     old = λ e q. elim (append-cases h q) [
       | inl a ↦ (i .old e a .0, omega (arith, i .old e a .1), i .old e a .2)
       | inr a ↦ new e (number-mem (t .f + n) (part t n n′) a)
     ];
-    has = elim (below-or-not n n′) [
-      | inl a ↦ mem-right h (last-mem n n′ a m)
-      | inr a ↦ let q : n′ ≡ n = omega arith in mem-left {s = h} (numbered (t .f + n) (part t n n′)) (rw q (i .has))
+    has = λ j b q. elim (below-or-not n j) [
+      | inl a ↦ mem-right h (new-mem n j n′ a b m)
+      | inr a ↦ mem-left {s = h} (numbered (t .f + n) (part t n n′)) (i .has j a (omega (arith, ref-le n n′ l)))
     ];
   }
     where
@@ -220,13 +228,19 @@ module _ {w : ℕ} (t : Tape w) where
           (suc (n + q .0), r, simp (add-assoc, getD-drop, getD-take, r) at (q .2))
 
   -- what is too old goes
-  line-inv : (n mp : ℕ) (h : List InputBytes) → Holding t n h → Holding t n (atLine mp h)
+  line-inv : (n mp : ℕ) (h : List InputBytes) → Holding t mp n h → Holding t mp n (atLine mp h)
   unfolding atLine
   line-inv n mp h i = record {
     most = i .most;
     old = λ e m. i .old e (kept-mem (λ (x : InputBytes). stays (newestOf h) mp (x .frame)) h m);
-    has = mem-kept (λ (x : InputBytes). stays (newestOf h) mp (x .frame)) h (i .has) (le-leb (newestOf h) (ref t n .frame + 2 * mp) (omega (arith, top-is n h i)));
+    has = λ j b q. mem-kept (λ (x : InputBytes). stays (newestOf h) mp (x .frame)) h (i .has j b q) (le-leb (newestOf h) (ref t j .frame + 2 * mp) (omega (arith, top-is n h i)));
   }
+
+  line-lined : (n mp : ℕ) (h : List InputBytes) → Holding t mp n h → Lined mp (atLine mp h)
+  unfolding atLine
+  line-lined n mp h i e m =
+      let passes : newestOf h ≤ e .frame + 2 * mp = leb-true _ _ (kept-passes (λ (x : InputBytes). stays (newestOf h) mp (x .frame)) h m) in
+      omega (arith, passes, top-is n h i, top-is n (atLine mp h) (line-inv n mp h i))
 
   -- of the frames from `from` on, those above the newest are those from n on
   above-is : (from n x : ℕ) (l : List (List ℕ)) → from ≤ n → x ≡ ref t n .frame
@@ -244,7 +258,7 @@ module _ {w : ℕ} (t : Tape w) where
       cc (take-append-drop n u, number-append (t .f) (take n u) (drop n u), take-take n n′ (t .bs) l, length-take-le n (t .bs) (omega arith))
 
   -- the reference found is the one that the packet was made with
-  ref-found : (n start : ℕ) (p : List ℕ) (h : List InputBytes) → Holding t n h → (k : Packet t n p start)
+  ref-found : {mp : ℕ} (n start : ℕ) (p : List ℕ) (h : List InputBytes) → Holding t mp n h → (k : Packet t n p start)
       → foundIn (referenceFrame start h) h .held ≡ true → foundIn (referenceFrame start h) h .input ≡ ref t (k .from)
   unfolding referenceFrame blankFrame
   ref-found n start p h i k q = go (eqb (newestOf h) nullFrame) refl (found-mem (referenceFrame start h) h q) (found-frame (referenceFrame start h) h q)
@@ -267,30 +281,33 @@ module _ {w : ℕ} (t : Tape w) where
           rw y at (j .2)
 
   -- what the receiver gets of a packet of the sender's
-  pub record Took (n upto : ℕ) (held : Type 0) (g : Reception) : Type 0 where
+  pub record Took (mp n upto : ℕ) (held : Type 0) (g : Reception) : Type 0 where
     pub count : ℕ
     pub grows : n ≤ count
-    pub holding : Holding t count (g .receiver .history)
+    pub holding : Holding t mp count (g .receiver .history)
+    pub lined : Lined mp (g .receiver .history)
     pub newFrames : numbered (t .f) (take n (t .bs)) ++ g .newFrames ≡ numbered (t .f) (take count (t .bs))
     pub acks : Each (Ack t count) (g .acks)
     pub reaches : held → upto ≤ count
 
   -- the decoded frames, from..upto, are taken in; n′ is the larger of n and upto
-  stored : (mp n n′ start : ℕ) (p : List ℕ) (l : List InputBytes) {held : Type 0} → Holding t n l → (k : Packet t n p start)
+  stored : (mp n n′ start : ℕ) (p : List ℕ) (l : List InputBytes) {held : Type 0} → Holding t mp n l → (k : Packet t n p start)
       → n ≤ n′ → k .upto ≤ n′ → n′ ≤ length (t .bs) → part t n (k .upto) ≡ part t n n′
       → take 33 (takenIn mp l (numbered start (part t (k .from) (k .upto)))) ≡ takenIn mp l (numbered start (part t (k .from) (k .upto)))
-      → Took n (k .upto) held (taken mp (numbered start (part t (k .from) (k .upto))) (record { history = l }))
+      → Took mp n (k .upto) held (taken mp (numbered start (part t (k .from) (k .upto))) (record { history = l }))
   unfolding taken takenIn Each
   stored mp n n′ start p l i k a b m e room =
       let new : List InputBytes = numbered (t .f + n) (part t n n′) in
       let q : above (newestOf l) (numbered start (part t (k .from) (k .upto))) ≡ new =
       ap (λ (z : ℕ). above (newestOf l) (numbered z (part t (k .from) (k .upto)))) (k .starts)
       ∙ above-is (k .from) n (newestOf l) (take (k .upto) (t .bs)) (k .known) (top-is n l i) ∙ ap (λ (z : List (List ℕ)). numbered (t .f + n) z) e in
-      let h : Holding t n′ (atLine mp (l ++ new)) = line-inv n′ mp (l ++ new) (extend-inv n n′ l a m i) in
+      let more : Holding t mp n′ (l ++ new) = extend-inv n n′ l a m i in
+      let h : Holding t mp n′ (atLine mp (l ++ new)) = line-inv n′ mp (l ++ new) more in
       rw (room, q) (record {
         count = n′;
         grows = a;
         holding = h;
+        lined = line-lined n′ mp (l ++ new) more;
         newFrames = grown n n′ a m;
         acks = (record { count = n′; most = omega arith; is = top-is n′ (atLine mp (l ++ new)) h }, tt);
         reaches = λ h. b;
@@ -298,7 +315,7 @@ module _ {w : ℕ} (t : Tape w) where
 
 -- the receiver's step
 module _ (g : Terms) (sg : SoundSetup g) (t : Tape (receivingWidth g)) (n start : ℕ) (p : List ℕ) (l : List InputBytes)
-    (sound : SoundReceiver (receivingWidth g) (g .maxPrediction) (record { history = l })) (i : Holding t n l) (k : Packet t n p start) where
+    (sound : SoundReceiver (receivingWidth g) (g .maxPrediction) (record { history = l })) (i : Holding t (g .maxPrediction) n l) (low : Lined (g .maxPrediction) l) (k : Packet t n p start) where
   abbrev found : Found
   found = foundIn (referenceFrame start l) l
 
@@ -317,7 +334,7 @@ module _ (g : Terms) (sg : SoundSetup g) (t : Tape (receivingWidth g)) (n start 
       rw (k .is) (pack-decodable (receivingWidth g) (ref t (k .from) .bytes) (omega (arith, ref-long t (k .from))) (w .0) (part t (k .from) (k .upto)) (wide-part t (k .from) (k .upto)))
 
   took-it : found .input ≡ ref t (k .from)
-      → Took t n (k .upto) (true ≡ true) (taken (g .maxPrediction) (packetOf start (receivingWidth g) (found .input .bytes) p) (record { history = l }))
+      → Took t (g .maxPrediction) n (k .upto) (true ≡ true) (taken (g .maxPrediction) (packetOf start (receivingWidth g) (found .input .bytes) p) (record { history = l }))
   took-it e =
       let room = never-full (receivingWidth g) (g .maxPrediction) l (sg .maxPrediction) sound start (receivingWidth g) (ref t (k .from) .bytes) p in
       rw (e, decoded) (elim (below-or-not n (k .upto)) [
@@ -327,17 +344,18 @@ module _ (g : Terms) (sg : SoundSetup g) (t : Tape (receivingWidth g)) (n start 
             (rw decoded at room)
       ])
 
-  pub takes : Took t n (k .upto) (found .held ≡ true) (receive g start p (record { history = l }))
+  pub takes : Took t (g .maxPrediction) n (k .upto) (found .held ≡ true) (receive g start p (record { history = l }))
   unfolding receive receivedIf Each
   takes = rw is-decodable (go (found .held) refl)
     where
       go : (b : Bool) → found .held ≡ b
-          → Took t n (k .upto) (b ≡ true) (receivedIf b true (g .maxPrediction) (packetOf start (receivingWidth g) (found .input .bytes) p) (record { history = l }))
+          → Took t (g .maxPrediction) n (k .upto) (b ≡ true) (receivedIf b true (g .maxPrediction) (packetOf start (receivingWidth g) (found .input .bytes) p) (record { history = l }))
       go true q = took-it (ref-found t n start p l i k q)
       go false q = record {
         count = n;
         grows = omega arith;
         holding = i;
+        lined = low;
         newFrames = append-nil (numbered (t .f) (take n (t .bs)));
         acks = tt;
         reaches = λ e. absurd (let z : _≡_ {A = ℕ} 0 1 = cc in omega arith);

@@ -4,8 +4,8 @@ use mathlib.Core.Bool.{Bool, true, false}
 use mathlib.Core.List.{List, [], _++_, map, List·Memᴰ as Mem}
 use mathlib.Core.Logic.{_⊎_}
 use mathlib.Core.Path.{_≡_}
-use Prim.Native.Nat.{ℕ, suc, _+_, _≤_}
-use lib.ListN.{length, take}
+use Prim.Native.Nat.{ℕ, suc, _+_, _*_, _≤_}
+use lib.ListN.{length, take, drop}
 use Rattle.frame.specs.Bias.{bias32, nullFrame}
 use Rattle.packing.specs.Packing.{frameCount}
 use Rattle.packing.specs.declared.input_bytes.InputBytes.{InputBytes}
@@ -47,6 +47,10 @@ next c x =
 -- the frames announced so far: read off the events taken and those still held
 abbrev pub announcedBy : End → List Announced
 announcedBy x = announcedIn (x .state .setup .inputSize) (x .taken ++ x .state .events)
+
+-- the frames that still pend: accepted, and part of every Input that it queues until the other end acknowledges them. In the store zeros stand behind their bytes
+abbrev pub pendingBy : End → List Frame
+pendingBy x = map (λ (y : InputBytes). record { number = y .frame; bytes = take (sendingWidth (x .state .setup)) (y .bytes) }) (x .state .carried .sender .pending)
 
 -- ---- what may be handed over
 
@@ -95,6 +99,16 @@ pub data Run : End → End → Type 0 where
 
 -- ---- what is to hold
 
+-- an end holds a received frame of a number
+abbrev pub Holds : (number : ℕ) → End → Type 0
+Holds number x = (y : InputBytes) × Mem y (x .state .carried .receiver .history) × (y .frame ≡ number)
+
+-- it is to hold it, by what it announced: the frame was announced, or is the blank one, -1; and it is not below the keep line, which lies 2 max_prediction below the
+-- last announced (E-29)
+abbrev pub IsToHold : (number : ℕ) → End → Type 0
+IsToHold number x =
+    ((number ≡ nullFrame) ⊎ ((y : Announced) × Mem y (announcedBy x) × (y .number ≡ number))) × (lastAnnounced nullFrame (announcedBy x) ≤ number + 2 * x .state .setup .maxPrediction)
+
 -- what the one announced is what the other accepted first, announced to all handles; and its newest frame is the last that it announced
 pub record InOrder (from to : End) : Type 0 where
   pub first : ℕ
@@ -104,6 +118,13 @@ pub record InOrder (from to : End) : Type 0 where
   pub most : count ≤ length (from .accepted)
   pub announced : announcedBy to ≡ map (announcedTo (to .state .setup .inputSize) (to .state .setup .handles)) (take count (from .accepted))
   pub newest : newestOf (to .state .carried .receiver .history) ≡ lastAnnounced nullFrame (announcedBy to)
+  -- nothing that was accepted is lost: the sender has dropped its first frames, only such as were announced, and all others still pend, so that it sends them again
+  pub dropped : ℕ
+  pub arrived : dropped ≤ count
+  pub pending : pendingBy from ≡ drop dropped (from .accepted)
+  -- the receiver holds what it is to hold, and nothing else: what was announced tells for which Inputs it is ready
+  pub holds : (number : ℕ) → IsToHold number to → Holds number to
+  pub only : (number : ℕ) → Holds number to → IsToHold number to
 
 -- an Input is not ignored: not in Shutdown, from the peer, and its magic passes the filter, which 0 leaves off
 pub record Heard (peer magic : ℕ) (s : Seen) : Type 0 where
@@ -125,6 +146,33 @@ pub record Brings (start : ℕ) (payload : List ℕ) (x : End) (c : Call) : Type
   pub reaches : Ready start x → start + frameCount (receivingWidth (x .state .setup)) (length payload) ≤ suc (lastAnnounced nullFrame (announcedBy (next c x)))
   pub nothing : ¬ Ready start x → announcedBy (next c x) ≡ announcedBy x
 
+-- a message is an Input that is neither refused nor ignored nor discarded: by the number that it is answered, and by its peer number and status count
+pub record Passing (answer peer count : ℕ) (w : Wire) (s : Seen) : Type 0 where
+  pub disconnect : Bool
+  pub start : ℕ
+  pub ack : ℕ
+  pub body : w .body ≡ Input disconnect start ack
+  pub done : answer ≡ 0
+  pub heard : Heard peer (w .magic) s
+  pub heeded : Heeded disconnect count start s
+
+-- a call hands over such an Input, as a message or as a datagram
+abbrev pub HandsInput : Call → Seen → Type 0
+HandsInput (Call.synchronize now epoch nonce buffer) s = ⊥
+HandsInput (Call.message peer count w now epoch nonce buffer) s = Passing (step (Call.message peer count w now epoch nonce buffer) s .answer) peer count w s
+HandsInput (Call.datagram peer bytes now epoch nonce buffer) s =
+    (w : Wire) × (rest : List ℕ) × (datagram bytes ≡ got w rest) × Passing (step (Call.datagram peer bytes now epoch nonce buffer) s .answer) peer (length (w .reports)) w s
+HandsInput (Call.act count statuses now epoch nonce buffer) s = ⊥
+HandsInput (Call.sendInput frame bytes count statuses now buffer) s = ⊥
+HandsInput (Call.disconnect now) s = ⊥
+HandsInput (Call.sendChecksumReport frame checksum now buffer) s = ⊥
+HandsInput (Call.updateLocalFrameAdvantage localFrame) s = ⊥
+HandsInput (Call.networkStats epoch) s = ⊥
+HandsInput (Call.peerConnectStatus handle) s = ⊥
+HandsInput Call.takeEvents s = ⊥
+HandsInput (Call.takeMessages buffer) s = ⊥
+HandsInput (Call.ask question) s = ⊥
+
 -- every Input of the other end's that is neither refused nor ignored nor discarded, as a message and as a datagram
 pub record EachBrings (to from : End) : Type 0 where
   pub message : (peer count : ℕ) (w : Wire) (now epoch nonce buffer : ℕ) → Mem w (from .queued) → (d : Bool) (start ack : ℕ) → w .body ≡ Input d start ack
@@ -133,3 +181,5 @@ pub record EachBrings (to from : End) : Type 0 where
   pub bytes : (peer : ℕ) (bytes : List ℕ) (w : Wire) (rest : List ℕ) (now epoch nonce buffer : ℕ) → datagram bytes ≡ got w rest → Mem w (from .queued) → (d : Bool) (start ack : ℕ)
       → w .body ≡ Input d start ack → step (Call.datagram peer bytes now epoch nonce buffer) (to .state) .answer ≡ 0 → Heard peer (w .magic) (to .state)
       → Heeded d (length (w .reports)) start (to .state) → Brings start (w .payload) to (Call.datagram peer bytes now epoch nonce buffer)
+  -- every other call announces no frame: an Input that is refused, ignored or discarded, whoever queued it, and whatever hands over no Input
+  pub silent : (c : Call) → ¬ HandsInput c (to .state) → announcedBy (next c to) ≡ announcedBy to

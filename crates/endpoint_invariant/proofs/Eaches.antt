@@ -1,4 +1,4 @@
--- What holds of every element holds of those of a list that is joined, sieved or put into.
+-- What holds of every element holds of those of a list that is joined, cut, sieved or put into.
 use mathlib.Core.Bool.{Bool, true, false}
 use mathlib.Core.List.{List, [], _∷_, _++_}
 use mathlib.Core.Path.{_≡_, refl}
@@ -10,10 +10,20 @@ use Rattle.base.specs.Keyed.{kept, put}
 use Rattle.endpoint_invariant.specs.Each.{Each}
 
 module _ {X : Type 0} (P : X → Type 0) where
+  pub each-all : ((x : X) → P x) → (l : List X) → Each P l
+  unfolding Each
+  each-all f [] = tt
+  each-all f (x ∷ l) = (f x, each-all f l)
+
   pub each-append : (l m : List X) → Each P l → Each P m → Each P (l ++ m)
   unfolding Each
   each-append [] m h k = k
   each-append (x ∷ l) m h k = (h .0, each-append l m (h .1) k)
+
+  pub each-behind : (l m : List X) → Each P (l ++ m) → Each P m
+  unfolding Each
+  each-behind [] m h = h
+  each-behind (x ∷ l) m h = each-behind l m (h .1)
 
   pub each-kept : (p : X → Bool) (l : List X) → Each P l → Each P (kept p l)
   unfolding Each kept

@@ -16,5 +16,8 @@ pub mod Hearing
 pub mod Acts
 pub mod Typed
 pub mod Sound
+pub mod Telling
+pub mod Staying
+pub mod Announcements
 pub mod Runs
 pub mod Examples

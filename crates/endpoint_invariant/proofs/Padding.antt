@@ -23,7 +23,7 @@ use Rattle.endpoint_invariant.specs.Sound.{Kept}
 
 -- ---- bytes
 
-bytes-zeros : (n : ℕ) → Bytes (replicate n 0)
+pub bytes-zeros : (n : ℕ) → Bytes (replicate n 0)
 bytes-zeros zero = bytes-none
 bytes-zeros (suc n) = bytes-cons 0 (replicate n 0) (omega arith) (bytes-zeros n)
 

@@ -16,7 +16,8 @@ use Rattle.base.proofs.Lay.{laid-none, laid-front, laid-length}
 use Rattle.base.proofs.Bools.{neither}
 use Rattle.endpoint_rules.specs.declared.Phase.the-variants.{Disconnected}
 use Rattle.codec.specs.Message.{Wire, FitAll}
-use Rattle.codec.specs.Bytes.{bytes, queueOf}
+use Rattle.codec.specs.Bytes.{queueOf}
+use Rattle.codec.proofs.Queue.{queue-append}
 use Rattle.events.specs.declared.Entry.{Entry}
 use Rattle.outbox.specs.Outbox.{queueSize}
 use Rattle.outbox.proofs.Laws.{queue-size}
@@ -172,11 +173,6 @@ gone-handed n b s h = rw h (go (eqb (step (Call.takeMessages n) s .answer) 0))
     go true = refl
     go false = refl
 
-both : (xs ys : List Wire) → queueOf (xs ++ ys) ≡ queueOf xs ++ queueOf ys
-unfolding flatten
-both [] ys = refl
-both (x ∷ xs) ys = rw (both xs ys) (sym (append-assoc (bytes x) (queueOf xs) (queueOf ys)))
-
 -- and every run
 pub run-queues : (cs : List Call) (b : List ℕ) (s : Seen) → Lent (length b) cs s → s .queued ≤ length b
     → allGone cs b s ++ take (ran cs s .queued) (lentRan cs b s) ≡ take (s .queued) b ++ queueOf (allOut cs s)
@@ -192,4 +188,4 @@ run-queues (c ∷ cs) b s l w =
     ∙ sym (append-assoc (gone c b s) (take (s′ .queued) b′) (queueOf (allOut cs s′)))
     ∙ ap (λ x. x ++ queueOf (allOut cs s′)) (h .bytes)
     ∙ append-assoc (take (s .queued) b) (queueOf (step c s .out)) (queueOf (allOut cs s′))
-    ∙ ap (λ x. take (s .queued) b ++ x) (sym (both (step c s .out) (allOut cs s′)))
+    ∙ ap (λ x. take (s .queued) b ++ x) (sym (queue-append (step c s .out) (allOut cs s′)))

@@ -91,6 +91,18 @@ numbered-kept width start [] few from h = tt
 numbered-kept width start (f ∷ fs) few from h =
     (kept-padded width start f (h .0 .0) (h .0 .1) few (λ e. omega arith), numbered-kept width (suc start) fs few (omega arith) (h .1))
 
+-- of a frame that a packet brings: its number is one of a frame that is not negative, and it is made of bytes
+abbrev pub Brought : InputBytes → Type 0
+Brought x = (bias32 ≤ x .frame) × (x .frame < 2 ^ 32) × Bytes (x .bytes)
+
+numbered-brought : (width start : ℕ) (fs : List (List ℕ)) → width ≤ 64 → bias32 ≤ start → start + length fs ≤ 2 ^ 32 → Each (IsFrame width) fs → Each Brought (numbered start fs)
+unfolding Each numbered
+numbered-brought width start [] few from upto h = tt
+numbered-brought width start (f ∷ fs) few from upto h = (
+  (from, omega arith, kept-padded width start f (h .0 .0) (h .0 .1) few (λ e. omega arith) .bytes),
+  numbered-brought width (suc start) fs few (omega arith) (omega arith) (h .1),
+)
+
 found-kept : (width f : ℕ) (l : List InputBytes) → Each (Kept width) l → Kept width (foundIn f l .input)
 unfolding Each foundIn
 found-kept width f [] h = kept-blank width
@@ -208,8 +220,23 @@ module _ (t : Terms) (s : SoundSetup t) (start : ℕ) (payload : List ℕ) (from
         rw (never-full (receivingWidth t) (t .maxPrediction) l (s .maxPrediction) h start (receivingWidth t) (x .bytes) payload)
         (record { receiver = packet-sound; acks = (packet-sound .newest, tt) })
 
+    got-brought : (isHeld isDecodable : Bool) → Each Brought (receivedIf isHeld isDecodable (t .maxPrediction) packet (holds l) .newFrames)
+    unfolding receivedIf taken packetOf above Each
+    got-brought false d = tt
+    got-brought true false = tt
+    got-brought true true =
+        let w = receiving-within t s in
+        each-kept Brought _ _ (numbered-brought (receivingWidth t) start (frames (x .bytes)) (w .1) from (upto (x .bytes)) each-frame)
+
   pub received-sound : SoundGot (receivingWidth t) (t .maxPrediction) (receive t start payload (holds l))
   unfolding receive
   received-sound =
       let found : Found = reference start (holds l) in
       got-sound (found .input) (found-kept (receivingWidth t) _ l (h .inputs)) (found .held) (decodable (receivingWidth t) payload)
+
+  -- of all frames that are announced
+  pub received-brought : Each Brought (receive t start payload (holds l) .newFrames)
+  unfolding receive
+  received-brought =
+      let found : Found = reference start (holds l) in
+      got-brought (found .input) (found-kept (receivingWidth t) _ l (h .inputs)) (found .held) (decodable (receivingWidth t) payload)

@@ -15,11 +15,8 @@ use Rattle.status.specs.Status.{defaultStatus}
 use Rattle.status.specs.Statuses.{defaultStatuses}
 use Rattle.quality.proofs.Laws.{advantage-below}
 use Rattle.codec.specs.Message.{Wire, FitAll, FitsWide}
-use Rattle.codec.specs.Read.{Reading, datagram, numberIn, wireIn}
-use Rattle.codec.specs.Read.Reading.{got, fault}
 use Rattle.codec.specs.declared.Wide.{Wide}
 use Rattle.codec.specs.declared.MessageBody.the-variants.{ChecksumReport}
-use Rattle.codec.proofs.Laws.{bytes-read, datagram-fault-range}
 use Rattle.setup.specs.declared.Setup.{Setup}
 use Rattle.setup.specs.Setup.{badSetup, termsWith}
 use Rattle.setup.proofs.Laws.{setup-sound}
@@ -48,6 +45,7 @@ use Rattle.endpoint_invariant.proofs.Effects.{Keeps, begun, body-only-g
 use Rattle.endpoint_invariant.proofs.Requests.{synchronized-good}
 use Rattle.endpoint_invariant.proofs.Hearing.{heard-good, body-good}
 use Rattle.endpoint_invariant.proofs.Acts.{closed-phase, acted-good, sent-good}
+use Rattle.endpoint_invariant.proofs.Typed.{datagram-typed}
 
 -- ---- new
 
@@ -102,16 +100,6 @@ module _ (s : Seen) (h : Sound s) where
       let small = clocks-small now epoch (z .0) in
       done-keeps buffer (r .effect) (f .1)
       (body-good now (small .0) (heard now s) (heard-good now s (small .0) h) epoch nonce (small .1) named count w t (w .body) (t .body) (f .0))))
-
-  -- what the reader gives is a message of the code's types
-  datagram-typed : (bytes : List ℕ) → Bytes bytes → numberIn (datagram bytes) ≡ 0 → TypedWire (wireIn (datagram bytes))
-  datagram-typed bytes are z = go (datagram bytes) refl z
-    where
-      go : (g : Reading Wire) → datagram bytes ≡ g → numberIn g ≡ 0 → TypedWire (wireIn g)
-      go (got w left) m z =
-          let f = bytes-read bytes w left are m .1 in
-          record { magic = f .magic; body = f .body; frames = f .frames; bytes = f .bytes }
-      go (fault n) m z = absurd (omega (arith, datagram-fault-range bytes n are m))
 
   act-keeps : (count : ℕ) (statuses : List ConnectionStatus) (now epoch nonce buffer : ℕ) → TypedStatuses count statuses → nonce < 2 ^ 32 → Keeps (actStep count statuses now epoch nonce buffer s)
   unfolding actStep

@@ -1,8 +1,9 @@
--- Values of the code's types are typed: a message with the payload beside it, a list of statuses, a setup. `Is` says that a value is what a machine value of its type means;
+-- Values of the code's types are typed: a message with the payload beside it, one that is read, a list of statuses, a setup. `Is` says that a value is what a machine value of its type means;
 -- every function may take this of its parameters as given.
 use mathlib.Core.List.{List, [], _∷_, map}
-use mathlib.Core.Path.{_≡_, _∙_}
+use mathlib.Core.Path.{_≡_, refl, _∙_}
 use Prim.Native.Nat.{ℕ, zero, suc}
+use native.Mathlib.Omega.{arith}
 use lib.ListN.{length, take, length-take}
 use borrow.Author.Needs.{needs}
 use denote.Laws.{Is}
@@ -20,10 +21,13 @@ use Rattle.status.specs.declared.ConnectionStatus.{ConnectionStatus}
 use Rattle.status.specs.declared.list.Statuses.{Statuses}
 use Rattle.status.proofs.ConnectionStatus as ConnectionStatus
 use Rattle.status.proofs.list.Statuses as Statuses
-use Rattle.codec.specs.Message.{meant}
+use Rattle.codec.specs.Message.{Wire, meant}
+use Rattle.codec.specs.Read.{Reading, datagram, numberIn, wireIn}
+use Rattle.codec.specs.Read.Reading.{got, fault}
 use Rattle.codec.specs.declared.Message.{Message}
 use Rattle.codec.proofs.Message as Message
 use Rattle.codec.proofs.Typed.{message-typed}
+use Rattle.codec.proofs.Laws.{bytes-read, datagram-fault-range}
 use Rattle.setup.specs.declared.Setup.{Setup}
 use Rattle.setup.specs.declared.DesyncDetection.{DesyncDetection}
 use Rattle.setup.specs.declared.DesyncDetection.the-variants.{Off, On}
@@ -34,6 +38,16 @@ use Rattle.endpoint_invariant.specs.Typed.{IsU32, TypedStatuses, TypedWi
 
 pub wire-typed : (m : Message) (vs : List Val) → Is (Struct.row Message.the-type) m vs → (payload : List ℕ) → Bytes payload → TypedWire (meant m payload)
 wire-typed m vs h payload q = let t = message-typed m vs h payload q in record { magic = t .0; body = t .1; frames = t .2; bytes = t .3 }
+
+-- what the reader gives is a message of the code's types
+pub datagram-typed : (bytes : List ℕ) → Bytes bytes → numberIn (datagram bytes) ≡ 0 → TypedWire (wireIn (datagram bytes))
+datagram-typed bytes are z = go (datagram bytes) refl z
+  where
+    go : (g : Reading Wire) → datagram bytes ≡ g → numberIn g ≡ 0 → TypedWire (wireIn g)
+    go (got w left) m z =
+        let f = bytes-read bytes w left are m .1 in
+        record { magic = f .magic; body = f .body; frames = f .frames; bytes = f .bytes }
+    go (fault n) m z = absurd (omega (arith, datagram-fault-range bytes n are m))
 
 numbers-typed : (l : List ℕ) (us : List Val) → shadow (each ℕ (UInt w32 .own) (map (λ (n : ℕ). n) l) us) → Each IsU32 l
 unfolding Each

@@ -2,3 +2,4 @@ pub mod Each
 pub mod Runs
 pub mod Typed
 pub mod Sound
+pub mod Announcement

@@ -2,8 +2,9 @@
 -- then on.
 use borrow.Author.Tests.{eqb-true}
 use mathlib.Core.Bool.{Bool, true, false}
-use mathlib.Core.List.{List, [], _∷_}
+use mathlib.Core.List.{List}
 use mathlib.Core.Path.{_≡_, refl}
+use native.Mathlib.Omega.{arith}
 use Prim.Native.Nat.{ℕ}
 use lib.Dec.{eqb}
 use Rattle.base.specs.Pick.{pick}
@@ -13,13 +14,15 @@ use Rattle.history.specs.History.{blankFrame, highest, newestOf}
 use Rattle.endpoint_rules.specs.Seen.{made}
 use Rattle.endpoint_rules.specs.Sending.{newest}
 use Rattle.endpoint_rules.specs.Step.{fresh}
-use Rattle.endpoint_rules.proofs.Bouts.{setupWith, setup-taken, new, fr}
+use Rattle.endpoint_rules.proofs.Bouts.{setupWith, setup-taken, new}
 use Rattle.endpoint.specs.declared.Endpoint.{Endpoint}
 use Rattle.endpoint.specs.declared.Ended.{Ended}
 use Rattle.endpoint.specs.Endpoint.{seen}
-use Rattle.endpoint_ruled_out.specs.Unusable.{Version, Asked, Reached, Received, FirstOnly, endpointAfter}
-use Rattle.endpoint_ruled_out.proofs.Right.{right, right-meets}
-use Rattle.endpoint_ruled_out.proofs.Unusable.{own, own-seen, input, buffer, first-received}
+use Rattle.endpoint_version.specs.Version.{Version, endpointAfter}
+use Rattle.endpoint_version.specs.Meets.{Reached}
+use Rattle.endpoint_version.proofs.Right.{right, right-meets}
+use Rattle.endpoint_ruled_out.specs.Unusable.{Received, FirstOnly}
+use Rattle.endpoint_ruled_out.proofs.Unusable.{bouts-typed, own, own-seen, p3, p3-asked, first-received}
 
 abbrev untilReceived : Endpoint → (out : List ℕ) → Ended × List ℕ → Ended × List ℕ
 untilReceived e out r = pick (eqb (newest (seen e)) nullFrame) r (record { endpoint = e; answer = Done }, out)
@@ -59,10 +62,10 @@ keeps e out r h = go (eqb (newest (seen e)) nullFrame) refl
     go false k = refl
 
 once-messages : FirstOnly once
-once-messages = FirstOnly.messages (λ e r h from m payload now epoch nonce out. keeps e out (right .message e from m payload now epoch nonce out) h)
+once-messages = FirstOnly.messages (λ e r h from m payload now epoch nonce out k. keeps e out (right .message e from m payload now epoch nonce out) h)
 
 once-datagrams : FirstOnly once
-once-datagrams = FirstOnly.datagrams (λ e r h from d are now epoch nonce out. keeps e out (right .datagram e from d now epoch nonce out) h)
+once-datagrams = FirstOnly.datagrams (λ e r h from d now epoch nonce out k. keeps e out (right .datagram e from d now epoch nonce out) h)
 
 -- ---- it does receive: P3's packet comes to the endpoint that it makes
 
@@ -70,12 +73,11 @@ none-yet : newest new ≡ nullFrame
 unfolding blankFrame highest newestOf fresh made
 none-yet = refl
 
-abbrev p3 : Asked
-p3 = Asked.message 3 (input (fr 0)) (5 ∷ 7 ∷ []) 2000 72000 0 (buffer right right-meets)
-
 own-heeds : eqb (newest (seen (own right right-meets))) nullFrame ≡ true
 own-heeds = rw (own-seen right right-meets, none-yet)
 
+own-reached : Reached once (own right right-meets)
+own-reached = Reached.made (setupWith 1) 1000 bouts-typed (omega arith) setup-taken
+
 once-receives : (e : Endpoint) × Reached once e × Received e
-once-receives =
-    (endpointAfter once (own right right-meets) p3, Reached.called (own right right-meets) (Reached.made (setupWith 1) 1000 setup-taken) p3, rw (own-heeds, endpointAfter) (first-received right right-meets))
+once-receives = (endpointAfter once (own right right-meets) p3, Reached.called (own right right-meets) own-reached p3 p3-asked, rw (own-heeds, endpointAfter) (first-received right right-meets))

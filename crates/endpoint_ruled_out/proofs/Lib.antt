@@ -1,5 +1,5 @@
 pub mod Steps
+pub mod Told
 pub mod Unusable
-pub mod Right
 pub mod Lazy
 pub mod First

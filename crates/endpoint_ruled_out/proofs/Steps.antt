@@ -25,7 +25,7 @@ use Rattle.endpoint_rules.specs.Step.{synchronizeStep, ignored, heard, onBody, 
 use Rattle.endpoint_rules.proofs.Tested.{tested-both, tested-done, decided-both}
 use Rattle.endpoint_rules.proofs.Laws.{message-done, by-hearing}
 use Rattle.endpoint_invariant.proofs.Leaves.{Leaves, Reply, counts, acted-leaves, sent-leaves, heard-leaves, body-leaves}
-use Rattle.endpoint_ruled_out.specs.Unusable.{Asked, callOf, functionOf}
+use Rattle.endpoint_version.specs.Version.{Asked, functionOf, callOf}
 
 -- no reply is counted
 abbrev pub Calm : Seen → Did → Type 0
@@ -44,7 +44,7 @@ pub idle-calm : (c : Asked) (s : Seen) → 2 < functionOf c → Calm s (step (ca
 unfolding step actStep sendStep checksumStep checksumSent queueWire disconnectStep advantageStep advantageUpdated localAdvantage takeStep statsStep statusStep done refused
 idle-calm (Asked.synchronize now epoch nonce out) s h = absurd (omega arith)
 idle-calm (Asked.message from m payload now epoch nonce out) s h = absurd (omega arith)
-idle-calm (Asked.datagram from d are now epoch nonce out) s h = absurd (omega arith)
+idle-calm (Asked.datagram from d now epoch nonce out) s h = absurd (omega arith)
 idle-calm (Asked.act statuses now epoch nonce out) s h = calmly _ s _ (counts (acted-leaves now (s .phase) epoch nonce (heldStatuses statuses) (begin s)))
 idle-calm (Asked.sendInput frame bytes statuses now out) s h = calmly _ s _ (counts (sent-leaves now frame bytes (heldStatuses statuses) (begin s)))
 idle-calm (Asked.disconnect now) s h = calmly _ s _ refl
@@ -153,7 +153,7 @@ pub one-counts : (c : Asked) (s : Seen) → 0 < functionOf c → CountsOne s (st
 unfolding step
 one-counts (Asked.synchronize now epoch nonce out) s h = absurd (omega arith)
 one-counts (Asked.message from m payload now epoch nonce out) s h = message-counts s from _ _ now epoch nonce (length out)
-one-counts (Asked.datagram from d are now epoch nonce out) s h = datagram-counts s from d now epoch nonce (length out)
+one-counts (Asked.datagram from d now epoch nonce out) s h = datagram-counts s from d now epoch nonce (length out)
 one-counts (Asked.act statuses now epoch nonce out) s h = inl (idle-calm (Asked.act statuses now epoch nonce out) s (omega arith))
 one-counts (Asked.sendInput frame bytes statuses now out) s h = inl (idle-calm (Asked.sendInput frame bytes statuses now out) s (omega arith))
 one-counts (Asked.disconnect now) s h = inl (idle-calm (Asked.disconnect now) s (omega arith))

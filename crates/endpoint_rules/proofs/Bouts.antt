@@ -161,6 +161,10 @@ heardClocks =
 abbrev pub P10 : Did
 P10 = step (packet (fr 0) none (1 ∷ 2 ∷ 3 ∷ [])) (fresh (setupWith 2) 1000 .1)
 
+-- the handshake has begun: the first request is queued at 1000
+abbrev pub requested : Seen
+requested = after (starting ∷ []) new
+
 -- one frame received, and the advantage then taken for a local frame
 abbrev pub advanced : (start local : ℕ) → List Call
 advanced start local = packet start none (5 ∷ []) ∷ Call.updateLocalFrameAdvantage local ∷ []
@@ -202,9 +206,9 @@ pub bouts :
     × (P10 .after .clocks .«running_last_input_recv» ≡ 2000)
     × (bodies P10 ≡ [])
     -- P11: last request at 1000, act at 1200: nothing; 1201: a request
-    × (step (actAt 1200) (after (starting ∷ []) new) .answer ≡ 0)
-    × (bodies (step (actAt 1200) (after (starting ∷ []) new)) ≡ [])
-    × (bodies (step (actAt 1201) (after (starting ∷ []) new)) ≡ SyncRequest 99 ∷ [])
+    × (step (actAt 1200) requested ≡ record { answer = 0; after = requested; out = []; events = [] })
+    × (step (actAt 1201) requested .events ≡ [])
+    × (bodies (step (actAt 1201) requested) ≡ SyncRequest 99 ∷ [])
     -- P12: disconnect at 1000, act at 6000: Disconnected; 6001: Shutdown
     × (step (actAt 6000) (after (Call.disconnect 1000 ∷ []) new) .answer ≡ 0)
     × (after (Call.disconnect 1000 ∷ actAt 6000 ∷ []) new .phase ≡ Disconnected)

@@ -2,7 +2,7 @@
 use mathlib.Core.List.{List, [], _∷_}
 use mathlib.Core.Path.{_≡_}
 use Prim.Native.Nat.{ℕ}
-use lib.ListN.{take}
+use lib.ListN.{length, take}
 use Rattle.base.proofs.Settled.{settled}
 use Rattle.packing.specs.declared.input_bytes.InputBytes.{InputBytes}
 use Rattle.history.specs.declared.History.{History}
@@ -13,6 +13,9 @@ pub new-settled : (r s : History) → received r ≡ blankFrame ∷ [] → recei
 new-settled = settled received (blankFrame ∷ [])
 
 module _ (h : History) where
+  pub count-settled : (r s : ℕ) → r ≡ length (received h) → s ≡ length (received h) → r ≡ s
+  count-settled = settled (λ r. r) (length (received h))
+
   pub newest-settled : (r s : ℕ) → r ≡ newestOf (received h) → s ≡ newestOf (received h) → r ≡ s
   newest-settled = settled (λ r. r) (newestOf (received h))
 

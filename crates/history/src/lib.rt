@@ -93,7 +93,8 @@ impl History {
         }
     }
 
-    fn count(self) -> usize
+    // How many inputs are held.
+    pub fn count(self) -> usize
         ensures { λ r. ⌜ r ≡ length (received self) ⌝ }
     {
         numbers::least(self.used, MOST_RECEIVED)

@@ -7,5 +7,7 @@ pub mod Requests
 pub mod Creation
 pub mod Advancing
 pub mod Polling
+-- Laws of all stores.
+pub mod Counts
 -- Laws of all calls.
 pub mod Settled

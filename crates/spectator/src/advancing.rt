@@ -9,7 +9,7 @@ ghost use Rattle.quality.specs.Advantage.{differenceOverflows};
 ghost use Rattle.spectator_rules.specs.Watch.{isRunning};
 ghost use Rattle.spectator_rules.specs.Advance.{framesBy, advanceTests};
 ghost use Rattle.spectator.specs.Session.{seen};
-ghost use Rattle.spectator.specs.Stores.{requestFrames};
+ghost use Rattle.spectator.specs.Stores.{RequestsAs};
 ghost use Rattle.spectator.specs.Answers.{AdvancedAs};
 use crate::Requests;
 use crate::SpectatorSession;
@@ -88,7 +88,7 @@ impl SpectatorSession {
     }
 
     fn not_advanced(self, answer: Answer) -> Advanced
-        ensures { λ r. ⌜ (r .answer ≡ answer) × (requestFrames (r .requests) ≡ []) × (r .session ≡ self) ⌝ }
+        ensures { λ r. ⌜ (r .answer ≡ answer) × RequestsAs [] (r .requests) × (r .session ≡ self) ⌝ }
     {
         let requests = Requests::none();
         Advanced {

@@ -38,11 +38,12 @@ impl SpectatorSession {
         FramesBehind::Frames(behind)
     }
 
-    // The events held, and the session without them.
+    // The events held, with a count that is their number, and the session without them.
     pub fn take_events(mut self) -> TakenEvents
         ensures { λ r. ⌜ TakenAs self r ⌝ }
     {
-        let events = self.events;
+        let mut events = self.events;
+        events.used = self.events.count();
         self.events.used = 0;
         TakenEvents {
             session: self,

@@ -2,7 +2,7 @@
 ghost use mathlib.Core.Path.{_≡_};
 ghost use lib.ListN.{length};
 ghost use Rattle.spectator_rules.specs.Inputs.{freshInputs, slotOf, placeOf, inputStored, playerInputAt};
-ghost use Rattle.spectator.specs.Stores.{inputsOf};
+ghost use Rattle.spectator.specs.Stores.{inputsOf, InputsAs};
 use ceilings::MOST_INPUT_SIZE;
 use ceilings::MOST_PLACES;
 use ceilings::MOST_PLAYERS;
@@ -43,7 +43,7 @@ fn place_of(slots: u32, frame: u32, player: u32) -> usize
 impl Inputs {
     // Every place blank, of at most 64 slots.
     pub(crate) fn new(slots: u32) -> Inputs
-        ensures { λ r. ⌜ inputsOf r ≡ freshInputs slots ⌝ }
+        ensures { λ r. ⌜ InputsAs (freshInputs slots) r ⌝ }
     {
         let used = numbers::least(slots as usize, MOST_SLOTS) * MOST_PLAYERS;
         Inputs {
@@ -52,7 +52,8 @@ impl Inputs {
         }
     }
 
-    fn count(self) -> usize
+    // How many places there are, four a slot.
+    pub fn count(self) -> usize
         ensures { λ r. ⌜ r ≡ length (inputsOf self) ⌝ }
     {
         numbers::least(self.used, MOST_PLACES)
@@ -77,10 +78,12 @@ impl Inputs {
         player: u32,
         input: [u8; MOST_INPUT_SIZE],
     ) -> Inputs
-        ensures { λ r. ⌜ inputsOf r ≡ inputStored slots frame player input (inputsOf self) ⌝ }
+        ensures { λ r. ⌜ InputsAs (inputStored slots frame player input (inputsOf self)) r ⌝ }
     {
         let place = place_of(slots, frame, player);
-        if place < self.count() {
+        let n = self.count();
+        self.used = n;
+        if place < n {
             self.entries[place] = PlayerInput { frame, input };
         }
         self

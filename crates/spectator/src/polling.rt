@@ -5,10 +5,10 @@ ghost use Rattle.events.specs.Events.{heldEvents};
 ghost use Rattle.spectator_rules.specs.Call.{Call};
 ghost use Rattle.spectator_rules.specs.Handling.{handledAll};
 ghost use Rattle.spectator_rules.specs.Step.{step};
-ghost use Rattle.spectator.specs.Session.{seen};
-ghost use Rattle.spectator.specs.Inside.Handling.{assembled, TermsOf};
+ghost use Rattle.spectator.specs.Session.{seen, Counted};
+ghost use Rattle.spectator.specs.Inside.Handling.{assembled, TermsOf, PartsCounted};
 ghost use Rattle.spectator.specs.Answers.{polledPart, PolledAs, TakenInAs};
-ghost use Rattle.endpoint.specs.Endpoint.{seen as seenHost};
+ghost use Rattle.endpoint.specs.Endpoint.{SameTerms};
 use crate::SpectatorSession;
 use crate::handling::Parts;
 use crate::handling::Terms;
@@ -49,12 +49,15 @@ impl SpectatorSession {
         }
     }
 
+    // With each count the number of what its store holds.
     fn parts(self) -> Parts
-        ensures { λ r. ⌜ assembled (seen self) r ≡ seen self ⌝ }
+        ensures { λ r. ⌜ (assembled (seen self) r ≡ seen self) × PartsCounted r ⌝ }
     {
-        let inputs = self.inputs;
-        let statuses = self.statuses;
-        let events = self.events;
+        let mut inputs = self.inputs;
+        inputs.used = self.inputs.count();
+        let statuses = self.statuses.lent();
+        let mut events = self.events;
+        events.used = self.events.count();
         let quality = self.host.quality;
         let state = self.state;
         Parts {
@@ -68,7 +71,7 @@ impl SpectatorSession {
     }
 
     fn with_parts(self, parts: Parts) -> SpectatorSession
-        ensures { λ r. ⌜ seen r ≡ assembled (seen self) parts ⌝ }
+        ensures { λ r. ⌜ (seen r ≡ assembled (seen self) parts) × (PartsCounted parts → Counted r) × SameTerms (self .host) (r .host) ⌝ }
     {
         let quality = parts.quality;
         let host = self.host;
@@ -90,7 +93,7 @@ impl SpectatorSession {
 
     // Oldest first.
     fn handle_all(self, events: Events) -> SpectatorSession
-        ensures { λ r. ⌜ seen r ≡ handledAll (heldEvents events) (seen self) ⌝ }
+        ensures { λ r. ⌜ (seen r ≡ handledAll (heldEvents events) (seen self)) × Counted r × SameTerms (self .host) (r .host) ⌝ }
     {
         let parts = self.parts().handle_all(self.terms(), events);
         self.with_parts(parts)
@@ -98,7 +101,7 @@ impl SpectatorSession {
 
     // What is left of a poll once the host has acted: its events, old and new, are handled, and its messages taken.
     fn take_in(self, old: Events, acted: Endpoint, out: &[u8]) -> Polled
-        ensures { λ r. ⌜ TakenInAs self (heldEvents old) (seenHost acted) (length (now (out .entry))) r ⌝ }
+        ensures { λ r. ⌜ TakenInAs self (heldEvents old) acted (length (now (out .entry))) r ⌝ }
     {
         let new = acted.take_events();
         let host = new.endpoint;

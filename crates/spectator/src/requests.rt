@@ -4,9 +4,9 @@ ghost use mathlib.Core.List.{[]};
 ghost use Prim.Native.Nat.{_+_, _^_, _≤_};
 ghost use lib.ListN.{length, getD};
 ghost use Rattle.answer.specs.Number.{numberOf};
-ghost use Rattle.ceilings.specs.Ceilings.{mostAdvanced};
+ghost use Rattle.ceilings.specs.Ceilings.{mostAdvanced, mostPlayers};
 ghost use Rattle.status.specs.Statuses.{heldStatuses};
-ghost use Rattle.spectator.specs.Stores.{inputsOf, requestOf, requestFrames, blankSynced};
+ghost use Rattle.spectator.specs.Stores.{inputsOf, requestOf, requestFrames, RequestAs, RequestsAs, blankSynced};
 ghost use Rattle.spectator_rules.specs.Advance.{syncedOf, syncedBy, frameInputsBy, requestsBy, frameRefusalBy, framesRefusalBy};
 use crate::Inputs;
 use answer::Answer;
@@ -64,9 +64,9 @@ impl Inputs {
         )
     }
 
-    // Of at most 4 players.
     fn request_at(self, statuses: Statuses, slots: u32, frame: u32, players: usize) -> Request
-        ensures { λ r. ⌜ requestOf r ≡ frameInputsBy slots frame players (inputsOf self) (heldStatuses statuses) ⌝ }
+        requires { ⌜ players ≤ mostPlayers ⌝ }
+        ensures { λ r. ⌜ RequestAs (frameInputsBy slots frame players (inputsOf self) (heldStatuses statuses)) r ⌝ }
     {
         let inputs = [
             self.synced_at(statuses, slots, frame, 0),
@@ -118,8 +118,8 @@ impl Inputs {
         frame: u32,
         n: u32,
     ) -> Requests
-        requires { ⌜ (frame + n ≤ 2 ^ 32) × (n ≤ mostAdvanced) ⌝ }
-        ensures { λ r. ⌜ requestFrames r ≡ requestsBy slots n frame players (inputsOf self) (heldStatuses statuses) ⌝ }
+        requires { ⌜ (frame + n ≤ 2 ^ 32) × (n ≤ mostAdvanced) × (players ≤ mostPlayers) ⌝ }
+        ensures { λ r. ⌜ RequestsAs (requestsBy slots n frame players (inputsOf self) (heldStatuses statuses)) r ⌝ }
     {
         let mut requests = Requests::none();
         let mut k = 0;
@@ -135,7 +135,7 @@ impl Inputs {
 
 impl Request {
     fn none() -> Request
-        ensures { λ r. ⌜ requestOf r ≡ [] ⌝ }
+        ensures { λ r. ⌜ RequestAs [] r ⌝ }
     {
         Request {
             inputs: [BLANK_SYNCED; MOST_PLAYERS],
@@ -164,7 +164,7 @@ impl Request {
 
 impl Requests {
     pub(crate) fn none() -> Requests
-        ensures { λ r. ⌜ requestFrames r ≡ [] ⌝ }
+        ensures { λ r. ⌜ RequestsAs [] r ⌝ }
     {
         let none = Request::none();
         Requests {
@@ -182,11 +182,13 @@ impl Requests {
 
     // The i-th of them, in the order in which they are to be played; past the last, a frame of no players.
     pub fn frame(self, i: usize) -> Request
-        ensures { λ r. ⌜ requestOf r ≡ getD (requestFrames self) i [] ⌝ }
+        ensures { λ r. ⌜ RequestAs (getD (requestFrames self) i []) r ⌝ }
     {
         let n = self.count();
         if i < n {
-            return self.frames[i];
+            let frame = self.frames[i];
+            let used = frame.count();
+            return Request { used, ..frame };
         }
         Request::none()
     }

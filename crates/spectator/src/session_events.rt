@@ -1,12 +1,11 @@
 // The session's events that wait to be taken, oldest first: at most so many, the oldest dropped beyond them.
 ghost use mathlib.Core.Path.{_≡_};
 ghost use mathlib.Core.List.{[], _∷_, _++_};
-ghost use lib.Dec.{ltb};
+ghost use Prim.Native.Nat.{_<_};
 ghost use lib.ListN.{length, drop, getD};
-ghost use Rattle.base.specs.Pick.{pick};
 ghost use Rattle.ceilings.specs.Ceilings.{mostSessionEvents};
 ghost use Rattle.spectator_rules.specs.Handling.{eventAdded};
-ghost use Rattle.spectator.specs.Stores.{eventsOf, blankSessionEntry};
+ghost use Rattle.spectator.specs.Stores.{eventsOf, EventsAs, blankSessionEntry};
 use ceilings::MOST_SESSION_EVENTS;
 use spectator_rules::SessionEntry;
 use spectator_rules::SessionEvent;
@@ -24,7 +23,7 @@ const BLANK_ENTRY: SessionEntry = SessionEntry {
 
 impl SessionEvents {
     pub(crate) fn new() -> SessionEvents
-        ensures { λ r. ⌜ eventsOf r ≡ [] ⌝ }
+        ensures { λ r. ⌜ EventsAs [] r ⌝ }
     {
         SessionEvents {
             entries: [BLANK_ENTRY; MOST_SESSION_EVENTS],
@@ -51,7 +50,7 @@ impl SessionEvents {
 
     // The store after all its events are taken.
     pub(crate) fn take_all(mut self) -> SessionEvents
-        ensures { λ r. ⌜ eventsOf r ≡ [] ⌝ }
+        ensures { λ r. ⌜ EventsAs [] r ⌝ }
     {
         self.used = 0;
         self
@@ -59,7 +58,7 @@ impl SessionEvents {
 
     // Those from the k-th on, moved to the front.
     fn shift(mut self, k: usize) -> SessionEvents
-        ensures { λ r. ⌜ eventsOf r ≡ drop k (eventsOf self) ⌝ }
+        ensures { λ r. ⌜ EventsAs (drop k (eventsOf self)) r ⌝ }
     {
         let n = self.count();
         if n <= k {
@@ -77,21 +76,20 @@ impl SessionEvents {
         self
     }
 
-    // One more at the end, where there is a place.
+    // One more at the end.
     fn push(mut self, entry: SessionEntry) -> SessionEvents
-        ensures { λ r. ⌜ eventsOf r ≡ pick (ltb (length (eventsOf self)) mostSessionEvents) (eventsOf self ++ entry ∷ []) (eventsOf self) ⌝ }
+        requires { ⌜ length (eventsOf self) < mostSessionEvents ⌝ }
+        ensures { λ r. ⌜ EventsAs (eventsOf self ++ entry ∷ []) r ⌝ }
     {
         let n = self.count();
-        if n < MOST_SESSION_EVENTS {
-            self.entries[n] = entry;
-            self.used = n + 1;
-        }
+        self.entries[n] = entry;
+        self.used = n + 1;
         self
     }
 
     // One more at the end; the oldest are dropped beyond `most`.
     pub(crate) fn announce(self, entry: SessionEntry, most: u32) -> SessionEvents
-        ensures { λ r. ⌜ eventsOf r ≡ eventAdded most entry (eventsOf self) ⌝ }
+        ensures { λ r. ⌜ EventsAs (eventAdded most entry (eventsOf self)) r ⌝ }
     {
         let most = numbers::least(most as usize, MOST_SESSION_EVENTS);
         let n = self.count();

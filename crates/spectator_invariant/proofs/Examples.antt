@@ -93,16 +93,16 @@ falls = (
 
 -- ---- a session of two players, with four slots, which goes on by two frames where it is more than two behind
 
-abbrev setup : SessionSetup
+abbrev pub setup : SessionSetup
 setup = setupWith 4 8 2 2
 
-session-typed : TypedSession setup
+pub session-typed : TypedSession setup
 unfolding hostSetup Each
 session-typed =
     small-typed (0 ∷ 1 ∷ 2 ∷ 3 ∷ []) 2 1 1 2 7 refl (omega arith, (omega arith, (omega arith, (omega arith, tt))))
     (omega arith, (omega arith, (omega arith, (omega arith, (omega arith, tt)))))
 
-session-taken : fresh setup 1000 .0 ≡ 0
+pub session-taken : fresh setup 1000 .0 ≡ 0
 unfolding fresh badSession hostSetup badSetup badLimits anyAbove anyTwice has
 session-taken = refl
 
@@ -181,10 +181,10 @@ unfolding ran
 reached-is = ap (ran (poll ∷ Call.takeEvents ∷ three ∷ poll ∷ [])) greeted-is ∙ ap (ran (three ∷ poll ∷ [])) running-is
 
 -- one byte as a player's input
-abbrev byte : ℕ → List ℕ
+abbrev pub byte : ℕ → List ℕ
 byte b = b ∷ 0 ∷ 0 ∷ 0 ∷ 0 ∷ 0 ∷ 0 ∷ 0 ∷ 0 ∷ 0 ∷ 0 ∷ 0 ∷ 0 ∷ 0 ∷ 0 ∷ 0 ∷ []
 
-abbrev confirmed : ℕ → SyncedInput
+abbrev pub confirmed : ℕ → SyncedInput
 confirmed b = record { input = byte b; status = Confirmed }
 
 -- an advance is not refused, and hands back two of the three frames; one is left

@@ -120,7 +120,7 @@ module _ (w : Watch) (h : Seated w) (events : List Entry) (so : Came events (w .
   unfolding decided refused
   decided-quiet n d k = by-pick (λ (x : Did). Kept w events [] (x .after)) (eqb n 0) d (refused n w) (λ _. k) (λ _. quiet w refl refl refl)
 
-  call-kept : (c : Call) → Typed c → Kept w events (handledBy c w) (step c w .after)
+  pub call-kept : (c : Call) → Typed c → Kept w events (handledBy c w) (step c w .after)
   unfolding step byHost pollStep decided refused advanceStep framesBehindStep
   call-kept (Call.synchronize now epoch nonce buffer) t = quiet _ (synchronize-announces (w .host) (h .host) (few w h) now epoch nonce buffer .setup) refl refl
   call-kept (Call.message from count m now epoch nonce buffer) t = quiet _ (message-announces (w .host) (h .host) (few w h) from count m now epoch nonce buffer .setup) refl refl
@@ -140,6 +140,16 @@ module _ (w : Watch) (h : Seated w) (events : List Entry) (so : Came events (w .
   call-kept Call.currentFrame t = quiet w refl refl refl
   call-kept Call.numPlayers t = quiet w refl refl refl
 
+  -- what stands for a player at a frame of an advance is what was announced of that frame for that player
+  pub advance-came : advanceRefusal w ≡ 0 → (i player : ℕ) → i < framesToAdvance w → player < w .host .setup .players
+      → Mem (inputEvent player (record { frame = suc (w .current) + i; input = syncedAt (suc (w .current) + i) player w .input })) events
+  unfolding playerInputAt syncedAt
+  advance-came r i player b c =
+      let frame : ℕ = suc (w .current) + i in
+      let e : playerInputAt (w .limits .slots) frame player (w .inputs) .frame ≡ frame = advance-there w h r i player b c in
+      elim (so (slotOf (w .limits .slots) frame) player (omega (arith, h .host .setup .players .1)))
+      [ inl k ↦ absurd (omega (arith, h .own .current, e, k)) | inr m ↦ rw e at m ]
+
 -- ---- a run
 
 run-kept : (cs : List Call) → Each Typed cs → (w : Watch) (h : Seated w) (events : List Entry) → Came events (w .inputs) → Kept w events (allHandled cs w) (ran cs w)
@@ -154,7 +164,11 @@ run-kept (c ∷ cs) t w h events came =
       came = rw (← append-assoc events (handledBy c w) (allHandled cs (step c w .after))) (r .came);
     }
 
--- from `new` on
+-- from `new` on, where every place is blank
+pub fresh-came : (g : SessionSetup) (now : ℕ) → Came [] (fresh g now .1 .inputs)
+unfolding fresh madeWatch freshInputs
+fresh-came g now slot player b = inl (blank-frame (min (g .limits .slots) 64 * 4) (slot * 4 + player))
+
 module _ (g : SessionSetup) (now : ℕ) (t : TypedSession g) (z : fresh g now .0 ≡ 0) (cs : List Call) (ts : Each Typed cs) where
   abbrev begun : Watch
   begun = fresh g now .1
@@ -162,12 +176,8 @@ module _ (g : SessionSetup) (now : ℕ) (t : TypedSession g) (z : fresh g now .0
   abbrev reached : Watch
   reached = ran cs begun
 
-  fresh-came : Came [] (begun .inputs)
-  unfolding fresh madeWatch freshInputs
-  fresh-came slot player b = inl (blank-frame (min (g .limits .slots) 64 * 4) (slot * 4 + player))
-
   kept : Kept begun [] (allHandled cs begun) reached
-  kept = run-kept cs ts begun (fresh-seated g now t z) [] fresh-came
+  kept = run-kept cs ts begun (fresh-seated g now t z) [] (fresh-came g now)
 
   -- the first frame may be any that is not negative; after it frame by frame without a gap, each once for each player
   pub handled-rises : Rising (g .«num_players») nullFrame 0 (reached .newest) (allHandled cs begun)
@@ -182,10 +192,4 @@ module _ (g : SessionSetup) (now : ℕ) (t : TypedSession g) (z : fresh g now .0
   -- what stands for a player at a frame of an advance, which is what it hands back (`advance-gives`), is what was announced of that frame for that player
   pub advance-handled : advanceRefusal reached ≡ 0 → (i player : ℕ) → i < framesToAdvance reached → player < reached .host .setup .players
       → Mem (inputEvent player (record { frame = suc (reached .current) + i; input = syncedAt (suc (reached .current) + i) player reached .input })) (allHandled cs begun)
-  unfolding playerInputAt syncedAt
-  advance-handled r i player b c =
-      let s = reached-seated g now t z cs ts in
-      let frame : ℕ = suc (reached .current) + i in
-      let e : playerInputAt (reached .limits .slots) frame player (reached .inputs) .frame ≡ frame = advance-there reached s r i player b c in
-      elim (kept .came (slotOf (reached .limits .slots) frame) player (omega (arith, s .host .setup .players .1)))
-      [ inl k ↦ absurd (omega (arith, s .own .current, e, k)) | inr m ↦ rw e at m ]
+  advance-handled r i player b c = advance-came reached (reached-seated g now t z cs ts) (allHandled cs begun) (kept .came) r i player b c

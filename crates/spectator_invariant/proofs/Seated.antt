@@ -24,7 +24,7 @@ use Rattle.endpoint_rules.specs.Call as Host
 use Rattle.endpoint_rules.specs.Step.{fresh as hostFresh, step as hostStep, synchronizeStep, messageStep, datagramStep, statsStep, takeStep}
 use Rattle.endpoint_rules.proofs.Tested.{tested-both}
 use Rattle.endpoint_invariant.specs.Each.{Each}
-use Rattle.endpoint_invariant.specs.Typed.{TypedPlace, TypedStatuses}
+use Rattle.endpoint_invariant.specs.Typed.{Typed as HostTyped, TypedPlace}
 use Rattle.endpoint_invariant.specs.Sound.{Sound}
 use Rattle.endpoint_invariant.proofs.Choices.{passes, by-pick}
 use Rattle.endpoint_invariant.proofs.Eaches.{each-replicate}
@@ -152,14 +152,18 @@ module _ (w : Watch) (h : Seated w) where
     abbrev pub acts : HostDid
     acts = hostActs now epoch nonce buffer w
 
-    typed : TypedStatuses (length (w .statuses)) (w .statuses)
-    typed = record { few = omega (arith, h .own .players, h .host .setup .players .1); frames = h .own .statuses }
+    -- the act is given values of the code's types
+    pub act-typed : HostTyped (Host.Call.act (length (w .statuses)) (w .statuses) now epoch nonce buffer)
+    act-typed = (
+      omega (arith, h .own .players, h .host .setup .players .1),
+      record { few = omega (arith, h .own .players, h .host .setup .players .1); frames = h .own .statuses },
+      t,
+    )
 
     acts-sound : Sound (acts .after)
     unfolding hostActs hostStep
     acts-sound =
-        step-sound (Host.Call.act (length (w .statuses)) (w .statuses) now epoch nonce buffer)
-        (omega (arith, h .own .players, h .host .setup .players .1), typed, t) aside aside-sound
+        step-sound (Host.Call.act (length (w .statuses)) (w .statuses) now epoch nonce buffer) act-typed aside aside-sound
 
     acts-announces : Announces aside acts
     unfolding hostActs

@@ -6,6 +6,7 @@ mod ends;
 mod exchange;
 mod wire;
 
+use libc::STDERR_FILENO;
 use libc::STDIN_FILENO;
 use libc::STDOUT_FILENO;
 ghost use Prim.Native.Nat.{_<_};
@@ -23,7 +24,7 @@ fn main() {
 // False where the input ends before a record does.
 fn one() -> bool {
     let mut head = [0u8; 6];
-    if io::read_full(STDIN_FILENO, &mut head) < 6 {
+    if !is_read(&mut head) {
         return false;
     }
     let item = head[0];
@@ -44,11 +45,13 @@ pub(crate) fn wide(byte: u8) -> u32
 }
 
 fn answered(item: u8, count: u32, datagram: &mut [u8]) -> bool {
-    if io::read_full(STDIN_FILENO, datagram) < datagram.len() {
+    if !is_read(datagram) {
         return false;
     }
-    io::print_decimal(STDOUT_FILENO, sum_of(item, count, datagram));
-    io::write_all(STDOUT_FILENO, b"\n");
+    let mut digits = [0u8; 20];
+    let used = io::decimal(sum_of(item, count, datagram), &mut digits);
+    put(&digits[..used]);
+    put(b"\n");
     true
 }
 
@@ -65,4 +68,27 @@ fn sum_of(item: u8, count: u32, datagram: &mut [u8]) -> u64 {
         8 => exchange::run(count),
         _ => 0,
     }
+}
+
+// Whether all of the slice was read. Where it was not, the input ended, or a read failed, which is told: at the end of the input another read gives
+// nothing, and does not fail.
+fn is_read(buf: &mut [u8]) -> bool {
+    let whole = io::read_full(STDIN_FILENO, buf) == buf.len();
+    let mut more = [0u8; 1];
+    if !whole && libc::read(STDIN_FILENO, &mut more) != 0 {
+        tell(b"test_bench: standard input cannot be read\n");
+    }
+    whole
+}
+
+fn put(bytes: &[u8]) {
+    if !io::write_all(STDOUT_FILENO, bytes) {
+        tell(b"test_bench: standard output cannot be written\n");
+    }
+}
+
+// One line on standard error, which is closed behind it: of several faults the first is told.
+fn tell(line: &[u8]) {
+    io::write_all(STDERR_FILENO, line);
+    libc::close(STDERR_FILENO);
 }

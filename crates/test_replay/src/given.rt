@@ -10,14 +10,16 @@ use crate::snapshot::put_status;
 use endpoint::Endpoint;
 use endpoint::StatsResult;
 use endpoint::StatusResult;
+use endpoint::TakenEvents;
 
-// By the endpoint before the call, where the call is done; `array` is the object's.
+// By the endpoint before the call, where the call is done; `array` is the object's. What a call hands back is the call's own answer, made once more: an
+// endpoint is a value, and gives the same again.
 pub(crate) fn put_given(out: Out, endpoint: Endpoint, record: Record, array: &[u8]) -> Out {
     let call = record.call;
     match call {
         10 => put_stats(out, endpoint.network_stats(record.epoch)),
         11 => put_peer_status(out, endpoint.peer_connect_status(record.number as usize)),
-        12 => put_events(out, endpoint.events, endpoint.setup.input_size),
+        12 => put_taken(out, endpoint.take_events(), endpoint.setup.input_size),
         13 => put_all(out, endpoint.messages(text::filled(array, record.buffer))),
         14 => put_getters(out, endpoint, record.number),
         15 => out.u32(crc32(array)),
@@ -40,6 +42,10 @@ pub(crate) fn put_stats(out: Out, result: StatsResult) -> Out {
         .count(stats.send_queue_len)
         .frame(stats.local_frames_behind)
         .frame(stats.remote_frames_behind)
+}
+
+fn put_taken(out: Out, taken: TakenEvents, size: u32) -> Out {
+    put_events(out, taken.events, size)
 }
 
 fn put_peer_status(out: Out, result: StatusResult) -> Out {

@@ -1,6 +1,7 @@
 // Runs a script of calls on two endpoints and a spectator session and writes the canonical answers: docs/REPLAY.md.
 mod calls;
 mod crc;
+mod faults;
 mod given;
 mod little;
 mod out;
@@ -28,7 +29,7 @@ fn main() {
     match mode {
         Mode::Whole => replay(false),
         Mode::Digest => replay(true),
-        Mode::None => script::complain(b"replay: no header of a script\n"),
+        Mode::None => {}
     }
 }
 
@@ -45,16 +46,16 @@ fn run(digest: bool, a: &mut [u8], b: &mut [u8], c: &mut [u8], payload: &mut [u8
     let mut first = Side::absent();
     let mut second = first;
     let mut third = Watcher::absent();
-    let mut left = MOST;
-    while 0 < left {
-        let next = script::next_record(payload, a, b, c);
+    let mut at = 0;
+    while at < MOST {
+        let next = script::next_record(at, payload, a, b, c);
         if !next.more {
             return;
         }
         first = answered(digest, 0, first, next.record, payload, a);
         second = answered(digest, 1, second, next.record, payload, b);
         third = answered_by_watcher(digest, third, next.record, payload, c);
-        left -= 1;
+        at += 1;
     }
 }
 

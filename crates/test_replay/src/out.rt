@@ -2,6 +2,7 @@
 use crate::crc::NONE;
 use crate::crc::sum_of;
 use crate::crc::with_bytes;
+use crate::faults;
 use crate::record::Record;
 use libc::STDOUT_FILENO;
 use numbers::WORD;
@@ -13,7 +14,9 @@ pub struct Out {
 }
 
 fn write(bytes: &[u8]) {
-    io::write_all(STDOUT_FILENO, bytes);
+    if !io::write_all(STDOUT_FILENO, bytes) {
+        faults::tell(b"replay: standard output cannot be written\n");
+    }
 }
 
 fn four(n: u32) -> [u8; 4] {

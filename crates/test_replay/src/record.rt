@@ -1,4 +1,5 @@
 // A record of a script: the fields of its 64 bytes.
+use crate::faults::Fault;
 use crate::little::frame_at;
 use crate::little::u8_at;
 use crate::little::u32_at;
@@ -121,12 +122,23 @@ impl Record {
         Way::Called
     }
 
-    pub(crate) fn is_bad(self) -> bool {
+    pub(crate) fn fault(self) -> Fault {
         let exists = self.exists();
-        (LAST_CALL < self.call)
-            | (SPECTATOR < self.object)
-            | !exists
-            | (PAYLOAD_MAX < self.length)
-            | (BUFFER_MAX < self.buffer)
+        if LAST_CALL < self.call {
+            return Fault::Call;
+        }
+        if SPECTATOR < self.object {
+            return Fault::Object;
+        }
+        if !exists {
+            return Fault::Absent;
+        }
+        if PAYLOAD_MAX < self.length {
+            return Fault::Length;
+        }
+        if BUFFER_MAX < self.buffer {
+            return Fault::Buffer;
+        }
+        Fault::None
     }
 }

@@ -1,11 +1,13 @@
 // Reading a script: its header, and one record after the other with its payload part.
+use crate::faults;
+use crate::faults::Fault;
+use crate::little::u8_at;
 use crate::little::u32_at;
 use crate::record::CARRY;
 use crate::record::Record;
 use crate::value::is_checksum;
 use crate::value::is_message;
 use crate::value::is_setup;
-use libc::STDERR_FILENO;
 use libc::STDIN_FILENO;
 
 // How the answers are written.
@@ -27,50 +29,67 @@ struct Carried {
     length: usize,
 }
 
-pub(crate) fn complain(line: &[u8]) {
-    io::write_all(STDERR_FILENO, line);
-}
-
 pub(crate) fn read_mode() -> Mode {
     let mut header = [0u8; 8];
     let n = io::read_full(STDIN_FILENO, &mut header);
-    if n < 8 {
-        return Mode::None;
+    if n == 8 {
+        return mode_of(&header);
     }
-    mode_of(&header)
+    if !faults::is_read_failed() {
+        faults::tell(b"replay: the script ends inside its header\n");
+    }
+    Mode::None
 }
 
-// `GGSC`, version 1, the mode, and two zeros.
+// `GGSC`, version 1, the mode, and two zeros. A header that is none is told.
 fn mode_of(header: &[u8]) -> Mode {
     if u32_at(header, 0) != 0x4353_4747 {
+        faults::tell(b"replay: header: the script does not begin with GGSC\n");
+        return Mode::None;
+    }
+    if u8_at(header, 4) != 1 {
+        faults::tell(b"replay: header: version is not 1\n");
         return Mode::None;
     }
     match u32_at(header, 4) {
         0x0001 => Mode::Whole,
         0x0101 => Mode::Digest,
-        _ => Mode::None,
+        _ => {
+            faults::tell(b"replay: header: mode is neither 0 nor 1, or what follows it is not 0\n");
+            Mode::None
+        }
     }
 }
 
 // The next record; its payload part, or the datagram that it carries, stands at the start of `payload`.
-pub(crate) fn next_record(payload: &mut [u8], a: &[u8], b: &[u8], c: &[u8]) -> Next {
+pub(crate) fn next_record(at: usize, payload: &mut [u8], a: &[u8], b: &[u8], c: &[u8]) -> Next {
     let mut head = [0u8; 64];
     let n = io::read_full(STDIN_FILENO, &mut head);
     let record = Record::read(&head);
-    if n == 0 {
+    if n < 64 {
+        tell_cut(at, 0 < n, b"the script ends inside its 64 bytes");
         return last(record);
     }
-    if n < 64 || record.is_bad() {
-        complain(b"replay: no record of a script\n");
+    let fault = record.fault();
+    let Fault::None = fault else {
+        faults::tell_field(at, fault);
         return last(record);
-    }
+    };
     if !read_part(payload, record.length) {
-        complain(b"replay: the script ends inside a payload part\n");
+        tell_cut(at, true, b"the script ends inside its payload part");
         return last(record);
     }
     Next {
         more: true,
         record: looked_at(record, payload, a, b, c),
+    }
+}
+
+// Where a script ends between two records nothing is cut off.
+fn tell_cut(at: usize, cut: bool, words: &[u8]) {
+    let failed = faults::is_read_failed();
+    if cut && !failed {
+        faults::tell_record(at, words);
     }
 }
 

@@ -1,10 +1,8 @@
 // The state of an endpoint in canonical form: docs/REPLAY.md has the order.
+ghost use Prim.Native.Nat.{_≤_};
+ghost use lib.ListN.{length};
 use crate::out::Out;
-use ceilings::MOST_CHECKSUMS;
-use ceilings::MOST_EVENTS;
 use ceilings::MOST_INPUT_SIZE;
-use ceilings::MOST_PENDING;
-use ceilings::MOST_RECEIVED;
 use checksums::Checksum;
 use checksums::Checksums;
 use endpoint::Endpoint;
@@ -65,12 +63,13 @@ fn phase_number(phase: Phase) -> u8 {
     }
 }
 
-// The first n numbers of a list, or all, their count before them.
-fn put_list(out: Out, list: &[u32], n: usize) -> Out {
-    let most = numbers::least(n, list.len());
-    let mut to = out.count(most);
+// The first n numbers of a list, their count before them.
+fn put_list(out: Out, list: &[u32], n: usize) -> Out
+    requires { ⌜ n ≤ length (now list) ⌝ }
+{
+    let mut to = out.count(n);
     let mut i = 0;
-    while i < most {
+    while i < n {
         to = to.u32(list[i]);
         i += 1;
     }
@@ -79,7 +78,7 @@ fn put_list(out: Out, list: &[u32], n: usize) -> Out {
 
 pub(crate) fn put_handles(out: Out, handles: Handles) -> Out {
     let list = handles.list;
-    put_list(out, &list, handles.count)
+    put_list(out, &list, handles.count())
 }
 
 fn put_desync(out: Out, desync: DesyncDetection) -> Out {
@@ -158,7 +157,7 @@ fn put_input(out: Out, input: InputBytes, width: usize) -> Out {
 }
 
 fn put_pending(out: Out, pending: Pending, width: usize) -> Out {
-    let n = numbers::least(pending.count(), MOST_PENDING);
+    let n = pending.count();
     let mut to = out.count(n);
     let mut i = 0;
     while i < n {
@@ -171,7 +170,7 @@ fn put_pending(out: Out, pending: Pending, width: usize) -> Out {
 
 // Ascending as it stands: only frames above its newest are taken in, and they go to its end.
 fn put_history(out: Out, history: History, width: usize) -> Out {
-    let n = numbers::least(history.used, MOST_RECEIVED);
+    let n = history.count();
     let mut to = out.count(n);
     let mut i = 0;
     while i < n {
@@ -184,12 +183,12 @@ fn put_history(out: Out, history: History, width: usize) -> Out {
 
 // The checksum of the least frame from a number on; where there is none, the first.
 fn least_from(checksums: Checksums, from: u64) -> Checksum {
-    let n = numbers::least(checksums.count(), MOST_CHECKSUMS);
+    let n = checksums.count();
     let mut least = checksums.entry(0);
     let mut least_frame = WORD;
     let mut i = 0;
     while i < n {
-        let x = checksums.entries[i];
+        let x = checksums.entry(i);
         let frame = x.frame as u64;
         if from <= frame && frame < least_frame {
             least = x;
@@ -208,7 +207,7 @@ fn put_checksum(out: Out, checksum: Checksum) -> Out {
 
 // Ascending by frame, while they are held in the order of their arrival.
 fn put_checksums(out: Out, checksums: Checksums) -> Out {
-    let n = numbers::least(checksums.count(), MOST_CHECKSUMS);
+    let n = checksums.count();
     let mut to = out.count(n);
     let mut from = 0;
     let mut i = 0;
@@ -221,7 +220,7 @@ fn put_checksums(out: Out, checksums: Checksums) -> Out {
     to
 }
 
-pub(crate) fn put_event(out: Out, event: Event, input: [u8; MOST_INPUT_SIZE], size: u32) -> Out {
+fn put_event(out: Out, event: Event, input: [u8; MOST_INPUT_SIZE], size: u32) -> Out {
     match event {
         Event::Synchronizing { total, count } => out.u8(0).u32(total).u32(count),
         Event::Synchronized => out.u8(1),
@@ -242,11 +241,11 @@ fn put_bytes(out: Out, input: &[u8], size: u32) -> Out {
 }
 
 pub(crate) fn put_events(out: Out, events: Events, size: u32) -> Out {
-    let n = numbers::least(events.count(), MOST_EVENTS);
+    let n = events.count();
     let mut to = out.count(n);
     let mut i = 0;
     while i < n {
-        let entry = events.entries[i];
+        let entry = events.entry(i);
         let event = entry.event;
         let input = entry.input;
         to = put_event(to, event, input, size);

@@ -5,26 +5,24 @@ use crate::given::put_stats;
 use crate::out::Out;
 use crate::record::Record;
 use crate::snapshot::put_endpoint;
-use crate::snapshot::put_event;
 use crate::snapshot::put_statuses;
 use crate::watch::Watcher;
-use ceilings::MOST_PLACES;
 use ceilings::MOST_PLAYERS;
-use events::Event;
-use events::NO_INPUT;
 use spectator::FramesBehind;
 use spectator::Inputs;
 use spectator::Request;
 use spectator::Requests;
 use spectator::SessionEvents;
 use spectator::SpectatorSession;
+use spectator::TakenEvents;
 use spectator_rules::InputStatus;
 use spectator_rules::PlayerInput;
+use spectator_rules::SessionEntry;
 use spectator_rules::SessionEvent;
 use spectator_rules::SessionState;
 use spectator_rules::SyncedInput;
 
-// By the session before the call, where the call is done; `array` is the object's, and `filled` what a poll left in it.
+// By the session before the call, as in `given`, where the call is done; `array` is the object's, and `filled` what a poll left in it.
 pub(crate) fn put_given(
     out: Out,
     session: SpectatorSession,
@@ -36,7 +34,7 @@ pub(crate) fn put_given(
     match call {
         5 => out.part(array, filled),
         10 => put_stats(out, session.network_stats(record.epoch)),
-        12 => put_events(out, session.events),
+        12 => put_taken(out, session.take_events()),
         13 => put_all(out, session.messages(text::filled(array, record.buffer))),
         14 => put_getters(out, session),
         15 => out.u32(crc32(array)),
@@ -51,6 +49,10 @@ pub(crate) fn put_side(out: Out, side: Watcher, array: &[u8]) -> Out {
         return out.u8(0);
     }
     put_session(out, side.session, array)
+}
+
+fn put_taken(out: Out, taken: TakenEvents) -> Out {
+    put_events(out, taken.events)
 }
 
 fn put_getters(out: Out, session: SpectatorSession) -> Out {
@@ -149,7 +151,7 @@ fn put_state(out: Out, state: SessionState) -> Out {
 
 // Four places a slot; those above the players are none.
 fn put_inputs(out: Out, inputs: Inputs, players: u32, size: u32) -> Out {
-    let n = numbers::least(inputs.used, MOST_PLACES);
+    let n = inputs.count();
     let mut to = out;
     let mut i = 0;
     while i < n {
@@ -174,23 +176,23 @@ fn put_events(out: Out, events: SessionEvents) -> Out {
     let mut to = out.count(n);
     let mut i = 0;
     while i < n {
-        let entry = events.entry(i);
-        let event = entry.event;
-        to = put_event(to, event_of(event), NO_INPUT, 0);
+        to = put_event(to, events.entry(i));
         i += 1;
     }
     to
 }
 
-// The endpoint's event with the same tag.
-fn event_of(event: SessionEvent) -> Event {
+// An endpoint's event with its address behind the tag.
+fn put_event(out: Out, entry: SessionEntry) -> Out {
+    let addr = entry.addr;
+    let event = entry.event;
     match event {
-        SessionEvent::Synchronizing { total, count } => Event::Synchronizing { total, count },
-        SessionEvent::Synchronized => Event::Synchronized,
-        SessionEvent::Disconnected => Event::Disconnected,
-        SessionEvent::NetworkInterrupted { disconnect_timeout } => Event::NetworkInterrupted {
-            disconnect_timeout,
-        },
-        SessionEvent::NetworkResumed => Event::NetworkResumed,
+        SessionEvent::Synchronizing { total, count } => out.u8(0).u32(addr).u32(total).u32(count),
+        SessionEvent::Synchronized => out.u8(1).u32(addr),
+        SessionEvent::Disconnected => out.u8(3).u32(addr),
+        SessionEvent::NetworkInterrupted { disconnect_timeout } => out.u8(4)
+            .u32(addr)
+            .u64(disconnect_timeout),
+        SessionEvent::NetworkResumed => out.u8(5).u32(addr),
     }
 }

@@ -3,6 +3,7 @@
 // gives the datagram back.
 use answer::Answer;
 use codec::Message;
+use libc::STDERR_FILENO;
 use libc::STDIN_FILENO;
 use libc::STDOUT_FILENO;
 ghost use Prim.Native.Nat.{_<_};
@@ -20,7 +21,7 @@ fn main() {
 // False where the input ends before a datagram does.
 fn one() -> bool {
     let mut prefix = [0u8; 2];
-    if io::read_full(STDIN_FILENO, &mut prefix) < 2 {
+    if !is_read(&mut prefix) {
         return false;
     }
     let length = length_of(&prefix);
@@ -41,7 +42,7 @@ fn wide(byte: u8) -> usize
 }
 
 fn filled(datagram: &mut [u8]) -> bool {
-    if io::read_full(STDIN_FILENO, datagram) < datagram.len() {
+    if !is_read(datagram) {
         return false;
     }
     print(datagram);
@@ -53,21 +54,21 @@ fn print(datagram: &[u8]) {
     let mut out = [0u8; 16896];
     let line = message_line::line(&mut out, 0, datagram);
     let end = line.end;
-    io::write_all(STDOUT_FILENO, &out[..end]);
+    put(&out[..end]);
     let received = codec::read(datagram);
     let answer = received.answer;
     if let Answer::Done = answer {
         let message = received.message;
         print_comparison(datagram, message);
     }
-    io::write_all(STDOUT_FILENO, b"\n");
+    put(b"\n");
 }
 
 fn print_comparison(datagram: &[u8], message: Message) {
     if same_again(datagram, message) {
-        io::write_all(STDOUT_FILENO, b" same");
+        put(b" same");
     } else {
-        io::write_all(STDOUT_FILENO, b" differs");
+        put(b" differs");
     }
 }
 
@@ -81,4 +82,27 @@ fn same_again(datagram: &[u8], message: Message) -> bool {
         return false;
     }
     check::same(&again[..end], datagram)
+}
+
+// Whether all of the slice was read. Where it was not, the input ended, or a read failed, which is told: at the end of the input another read gives
+// nothing, and does not fail.
+fn is_read(buf: &mut [u8]) -> bool {
+    let whole = io::read_full(STDIN_FILENO, buf) == buf.len();
+    let mut more = [0u8; 1];
+    if !whole && libc::read(STDIN_FILENO, &mut more) != 0 {
+        tell(b"test_vectors: standard input cannot be read\n");
+    }
+    whole
+}
+
+fn put(bytes: &[u8]) {
+    if !io::write_all(STDOUT_FILENO, bytes) {
+        tell(b"test_vectors: standard output cannot be written\n");
+    }
+}
+
+// One line on standard error, which is closed behind it: of several faults the first is told.
+fn tell(line: &[u8]) {
+    io::write_all(STDERR_FILENO, line);
+    libc::close(STDERR_FILENO);
 }

@@ -1,10 +1,13 @@
 -- The clocks: when one is refused, when a wait is over, and what setting one changes.
 use mathlib.Core.Bool.{Bool, true, false, _||_}
+use mathlib.Core.List.{List, [], _∷_}
 use mathlib.Core.Path.{_≡_, refl}
 use Prim.Native.Nat.{ℕ, _+_, _-_, _^_}
 use lib.Dec.{ltb, leb}
 use Rattle.base.specs.Pick.{pick}
 use Rattle.timers.specs.declared.Clocks.{Clocks}
+use Rattle.timers.specs.declared.Firing.{Firing}
+use Rattle.timers.specs.declared.Firing.the-variants.{Requested, Sent, Heard, InputReceived, Acted, ShuttingDown}
 
 -- a reading above its ceiling (C-11)
 abbrev pub badClock : ℕ → Bool
@@ -110,6 +113,16 @@ timed now resend report sends c =
       «shutdown_timeout» = c .«shutdown_timeout»;
     }
 
+-- ---- which clocks a step that fires sets to a time; every other stays as it was
+
+abbrev pub firedBy : Firing → (at : ℕ) → Clocks → Clocks
+firedBy Requested at c = requestAt at c
+firedBy Sent at c = sentAt at c
+firedBy Heard at c = heardAt at c
+firedBy InputReceived at c = inputAt at c
+firedBy (Acted resend report sends) at c = timed at resend report sends c
+firedBy ShuttingDown at c = shutdownAt at c
+
 -- worked: the last clock that is taken, and the first that is refused
 last-clock : badClock (2 ^ 62 - 1) ≡ false
 last-clock = refl
@@ -127,19 +140,33 @@ not-yet = refl
 due : passed 1000 200 1201 ≡ true
 due = refl
 
--- worked: an act with a resend and a report sets both clocks and the send time; a resend of nothing sets its own clock alone
-fires : timed 1600 true true true (madeAt 1000) ≡ record {
-  «running_last_quality_report» = 1600;
-  «running_last_input_recv» = 1600;
-  «last_send_time» = 1600;
-  «last_sync_request_time» = 1000;
-  «last_recv_time» = 1000;
-  «shutdown_timeout» = 1000;
-}
+-- the six clocks, in the order of the record
+abbrev times : Clocks → List ℕ
+times c =
+    c .«running_last_quality_report» ∷ c .«running_last_input_recv» ∷ c .«last_send_time» ∷ c .«last_sync_request_time» ∷ c .«last_recv_time» ∷ c .«shutdown_timeout» ∷ []
+
+-- worked: each step at 1600, on clocks that all stand at 1000
+requests : times (firedBy Requested 1600 (madeAt 1000)) ≡ 1000 ∷ 1000 ∷ 1000 ∷ 1600 ∷ 1000 ∷ 1000 ∷ []
+requests = refl
+
+sends : times (firedBy Sent 1600 (madeAt 1000)) ≡ 1000 ∷ 1000 ∷ 1600 ∷ 1000 ∷ 1000 ∷ 1000 ∷ []
+sends = refl
+
+hears : times (firedBy Heard 1600 (madeAt 1000)) ≡ 1000 ∷ 1000 ∷ 1000 ∷ 1000 ∷ 1600 ∷ 1000 ∷ []
+hears = refl
+
+receives : times (firedBy InputReceived 1600 (madeAt 1000)) ≡ 1000 ∷ 1600 ∷ 1000 ∷ 1000 ∷ 1000 ∷ 1000 ∷ []
+receives = refl
+
+shuts-down : times (firedBy ShuttingDown 1600 (madeAt 1000)) ≡ 1000 ∷ 1000 ∷ 1000 ∷ 1000 ∷ 1000 ∷ 1600 ∷ []
+shuts-down = refl
+
+-- an act with a resend and a report sets both clocks and the send time; a resend of nothing sets its own clock alone; a report leaves the input's clock
+fires : times (firedBy (Acted true true true) 1600 (madeAt 1000)) ≡ 1600 ∷ 1600 ∷ 1600 ∷ 1000 ∷ 1000 ∷ 1000 ∷ []
 fires = refl
 
-resends-nothing : timed 1600 true false false (madeAt 1000) ≡ inputAt 1600 (madeAt 1000)
+resends-nothing : times (firedBy (Acted true false false) 1600 (madeAt 1000)) ≡ 1000 ∷ 1600 ∷ 1000 ∷ 1000 ∷ 1000 ∷ 1000 ∷ []
 resends-nothing = refl
 
-reports : timed 1600 false true true (madeAt 1000) ≡ qualityAt 1600 (sentAt 1600 (madeAt 1000))
+reports : times (firedBy (Acted false true true) 1600 (madeAt 1000)) ≡ 1600 ∷ 1000 ∷ 1600 ∷ 1000 ∷ 1000 ∷ 1000 ∷ []
 reports = refl

@@ -1,7 +1,7 @@
 // The timer clocks of an endpoint (ggrs, protocol.rs), when a clock is refused, and when a wait is over.
 ghost use mathlib.Core.Path.{_≡_};
 ghost use Rattle.base.specs.Pick.{pick};
-ghost use Rattle.timers.specs.Timers.{badClock, passed, madeAt, inputAt, sentAt, requestAt, heardAt, shutdownAt, timed};
+ghost use Rattle.timers.specs.Timers.{badClock, passed, madeAt, inputAt, sentAt, requestAt, heardAt, shutdownAt, timed, firedBy};
 
 // The first clock that is refused.
 pub const CLOCK_END: u64 = 0x4000_0000_0000_0000;
@@ -39,19 +39,39 @@ pub fn time_if(due: bool, now: u64, last: u64) -> u64
     last
 }
 
-// The thin setter that F-7 asks for: the clocks are lent to it by `&mut` and set in place. A function over `&mut` of a struct is proved by
-// hand, so there is one for all clocks, which writes the record whole; the steps below say by value which clock changes.
-fn set(clocks: &mut Clocks, next: Clocks)
-    ensures { λ _. ⌜ now (clocks .exit) ≡ next ⌝ }
-{
-    *clocks = next;
+// A step that fires. Each sets some of the clocks, all to one time, and leaves the others.
+pub enum Firing {
+    // A request of the handshake goes out.
+    Requested,
+    // A message goes out.
+    Sent,
+    // A message was heard.
+    Heard,
+    // An Input came whose reference is held.
+    InputReceived,
+    // An act: the input's clock restarts with a resend, the report's with a report, and the send time is set where anything goes out.
+    Acted {
+        resend: bool,
+        report: bool,
+        sends: bool,
+    },
+    // A disconnect: the time is that of the shutdown.
+    ShuttingDown,
 }
 
-// Lends a copy of the clocks to `set`. Lending a struct is proved by hand too, so nothing else here does it; the steps take and give values.
-fn set_to(mut clocks: Clocks, next: Clocks) -> Clocks
-    ensures { λ r. ⌜ r ≡ next ⌝ }
+// The thin setter that F-7 asks for: the clocks are lent to it by `&mut`, and it sets in place those that the step fires. A function over `&mut` of a
+// struct is proved by hand, so there is one for all steps; what a step sets, by value, is `after`.
+fn fire(clocks: &mut Clocks, step: Firing, at: u64)
+    ensures { λ _. ⌜ now (clocks .exit) ≡ firedBy step at (now (clocks .entry)) ⌝ }
 {
-    set(&mut clocks, next);
+    *clocks = clocks.after(step, at);
+}
+
+// Lends the clocks to `fire`. Lending a struct is proved by hand too, so nothing else here does it; the steps take and give values.
+fn lend(mut clocks: Clocks, step: Firing, at: u64) -> Clocks
+    ensures { λ r. ⌜ r ≡ firedBy step at clocks ⌝ }
+{
+    fire(&mut clocks, step, at);
     clocks
 }
 
@@ -69,66 +89,85 @@ impl Clocks {
         }
     }
 
+    fn after(self, step: Firing, at: u64) -> Clocks
+        ensures { λ r. ⌜ r ≡ firedBy step at self ⌝ }
+    {
+        match step {
+            Firing::Requested => Clocks {
+                last_sync_request_time: at,
+                ..self
+            },
+            Firing::Sent => Clocks {
+                last_send_time: at,
+                ..self
+            },
+            Firing::Heard => Clocks {
+                last_recv_time: at,
+                ..self
+            },
+            Firing::InputReceived => Clocks {
+                running_last_input_recv: at,
+                ..self
+            },
+            Firing::Acted {
+                resend,
+                report,
+                sends,
+            } => Clocks {
+                running_last_quality_report: time_if(report, at, self.running_last_quality_report),
+                running_last_input_recv: time_if(resend, at, self.running_last_input_recv),
+                last_send_time: time_if(sends, at, self.last_send_time),
+                ..self
+            },
+            Firing::ShuttingDown => Clocks {
+                shutdown_timeout: at,
+                ..self
+            },
+        }
+    }
+
     pub fn input_received(self, now: u64) -> Clocks
         ensures { λ r. ⌜ r ≡ inputAt now self ⌝ }
     {
-        let next = Clocks {
-            running_last_input_recv: now,
-            ..self
-        };
-        set_to(self, next)
+        lend(self, Firing::InputReceived, now)
     }
 
     pub fn sent(self, now: u64) -> Clocks
         ensures { λ r. ⌜ r ≡ sentAt now self ⌝ }
     {
-        let next = Clocks {
-            last_send_time: now,
-            ..self
-        };
-        set_to(self, next)
+        lend(self, Firing::Sent, now)
     }
 
     pub fn requested(self, now: u64) -> Clocks
         ensures { λ r. ⌜ r ≡ requestAt now self ⌝ }
     {
-        let next = Clocks {
-            last_sync_request_time: now,
-            ..self
-        };
-        set_to(self, next)
+        lend(self, Firing::Requested, now)
     }
 
     pub fn heard(self, now: u64) -> Clocks
         ensures { λ r. ⌜ r ≡ heardAt now self ⌝ }
     {
-        let next = Clocks {
-            last_recv_time: now,
-            ..self
-        };
-        set_to(self, next)
+        lend(self, Firing::Heard, now)
     }
 
     // What an act restarts: the input's clock with a resend, the report's with a report, and the send time where anything goes out.
     pub fn fired(self, resend: bool, report: bool, sends: bool, now: u64) -> Clocks
         ensures { λ r. ⌜ r ≡ timed now resend report sends self ⌝ }
     {
-        let next = Clocks {
-            running_last_quality_report: time_if(report, now, self.running_last_quality_report),
-            running_last_input_recv: time_if(resend, now, self.running_last_input_recv),
-            last_send_time: time_if(sends, now, self.last_send_time),
-            ..self
-        };
-        set_to(self, next)
+        lend(
+            self,
+            Firing::Acted {
+                resend,
+                report,
+                sends,
+            },
+            now,
+        )
     }
 
     pub fn shutting_down(self, at: u64) -> Clocks
         ensures { λ r. ⌜ r ≡ shutdownAt at self ⌝ }
     {
-        let next = Clocks {
-            shutdown_timeout: at,
-            ..self
-        };
-        set_to(self, next)
+        lend(self, Firing::ShuttingDown, at)
     }
 }

@@ -36,7 +36,7 @@ worked-bouts more = (
                   (
                     pair (bouts .17) (bouts .18),
                     (
-                      triple (bouts .19) (bouts .20) (bouts .21),
+                      pair (bouts .19) (pair (bouts .20) (bouts .21)),
                       (
                         triple (bouts .22) (bouts .23) (bouts .24),
                         (

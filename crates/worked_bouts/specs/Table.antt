@@ -21,7 +21,7 @@ use Rattle.endpoint_rules.specs.Seen.{Seen, withClocks}
 use Rattle.endpoint_rules.specs.Did.{Did}
 use Rattle.endpoint_rules.specs.Call.{Call}
 use Rattle.endpoint_rules.specs.Step.{step}
-use Rattle.endpoint_rules.proofs.Bouts.{new, fr, none, packet, actAt, starting, after, announcedInput as input, bodies, P3, P5, P6, P8, P9, P10, heardClocks, advanced, reportAfter, pong}
+use Rattle.endpoint_rules.proofs.Bouts.{new, fr, none, packet, actAt, after, announcedInput as input, bodies, P3, P5, P6, P8, P9, P10, heardClocks, requested, advanced, reportAfter, pong}
 
 pub record Row : Type 1 where
   pub name : String
@@ -110,11 +110,10 @@ table more =
       must = (2000, []);
     }
     ∷ record {
-      name = "P11: last request at 1000, act at 1200, its answer and messages; at 1201, its messages";
-      Shown = ℕ × List MessageBody × List MessageBody;
-      given =
-          (step (actAt 1200) (after (starting ∷ []) new) .answer, bodies (step (actAt 1200) (after (starting ∷ []) new)), bodies (step (actAt 1201) (after (starting ∷ []) new)));
-      must = (0, [], SyncRequest 99 ∷ []);
+      name = "P11: last request at 1000, act at 1200: all that it does; at 1201: its events and messages";
+      Shown = Did × (List Entry × List MessageBody);
+      given = (step (actAt 1200) requested, saidBy (actAt 1201) requested);
+      must = (record { answer = 0; after = requested; out = []; events = [] }, ([], SyncRequest 99 ∷ []));
     }
     ∷ record {
       name = "P12: disconnect at 1000, act at 6000, its answer and the phase; at 6001, the phase";

@@ -37,7 +37,10 @@ fn statuses(out: &mut Vec<u8>, list: &[ConnectionStatus]) {
 
 fn event(out: &mut Vec<u8>, event: &Event<Cfg>) {
     match event {
-        Event::Synchronizing { total, count } => synchronizing(out, *total, *count),
+        Event::Synchronizing { total, count } => {
+            out.push(0);
+            progress(out, *total, *count);
+        }
         Event::Synchronized => out.push(1),
         Event::Input { input, player } => {
             out.push(2);
@@ -47,19 +50,20 @@ fn event(out: &mut Vec<u8>, event: &Event<Cfg>) {
             out.extend(input.input.as_slice());
         }
         Event::Disconnected => out.push(3),
-        Event::NetworkInterrupted { disconnect_timeout } => interrupted(out, *disconnect_timeout),
+        Event::NetworkInterrupted { disconnect_timeout } => {
+            out.push(4);
+            remaining(out, *disconnect_timeout);
+        }
         Event::NetworkResumed => out.push(5),
     }
 }
 
-fn synchronizing(out: &mut Vec<u8>, total: u32, count: u32) {
-    out.push(0);
+fn progress(out: &mut Vec<u8>, total: u32, count: u32) {
     out.extend(total.to_le_bytes());
     out.extend(count.to_le_bytes());
 }
 
-fn interrupted(out: &mut Vec<u8>, disconnect_timeout: u128) {
-    out.push(4);
+fn remaining(out: &mut Vec<u8>, disconnect_timeout: u128) {
     out.extend(u64::try_from(disconnect_timeout).expect("at most 2^31").to_le_bytes());
 }
 
@@ -70,20 +74,29 @@ pub(crate) fn events(out: &mut Vec<u8>, list: &[Event<Cfg>]) {
     }
 }
 
-/// The session's events, without the address: it is the host's peer number in each.
+/// A session's event begins with the tag of the endpoint's and the event's address.
 fn session_event(out: &mut Vec<u8>, event: &GgrsEvent<Cfg>) {
     match event {
-        GgrsEvent::Synchronizing { total, count, .. } => synchronizing(out, *total, *count),
-        GgrsEvent::Synchronized { .. } => out.push(1),
-        GgrsEvent::Disconnected { .. } => out.push(3),
-        GgrsEvent::NetworkInterrupted { disconnect_timeout, .. } => {
-            interrupted(out, *disconnect_timeout);
+        GgrsEvent::Synchronizing { addr, total, count } => {
+            addressed(out, 0, *addr);
+            progress(out, *total, *count);
         }
-        GgrsEvent::NetworkResumed { .. } => out.push(5),
+        GgrsEvent::Synchronized { addr } => addressed(out, 1, *addr),
+        GgrsEvent::Disconnected { addr } => addressed(out, 3, *addr),
+        GgrsEvent::NetworkInterrupted { addr, disconnect_timeout } => {
+            addressed(out, 4, *addr);
+            remaining(out, *disconnect_timeout);
+        }
+        GgrsEvent::NetworkResumed { addr } => addressed(out, 5, *addr),
         GgrsEvent::WaitRecommendation { .. } | GgrsEvent::DesyncDetected { .. } => {
             panic!("a spectator announces no such event")
         }
     }
+}
+
+fn addressed(out: &mut Vec<u8>, tag: u8, addr: u32) {
+    out.push(tag);
+    out.extend(addr.to_le_bytes());
 }
 
 pub(crate) fn session_events(out: &mut Vec<u8>, list: &[GgrsEvent<Cfg>]) {

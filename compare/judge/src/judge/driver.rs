@@ -7,7 +7,7 @@ use super::canon;
 use super::end::{inputs, list, message_of, End, Readings};
 use super::reader;
 use super::record::{Call, Fields, Record, Setup, BUFFER, SPECTATOR};
-use super::refusals::{self, Acting, Handed, Sending, Verdict};
+use super::refusals::{self, Acting, Handed, Sending, Tested, Verdict};
 use super::snapshot::{Snapshot, SpectatorSnapshot};
 use super::value;
 use super::watcher::Watcher;
@@ -23,6 +23,8 @@ pub const ABSENT: u8 = 255;
 pub(crate) struct Done {
     pub answer: u8,
     pub verdict: Verdict,
+    /// Every test of the call that holds, the one that gave the verdict first.
+    pub tested: Tested,
     /// What the call hands back.
     pub given: Vec<u8>,
     /// The message that was handed over, where there was one.
@@ -33,8 +35,7 @@ pub(crate) struct Done {
 
 impl Done {
     fn refused(answer: u8) -> Self {
-        let verdict = Verdict::Refused(answer);
-        Self { answer, verdict, given: Vec::new(), message: None, changed: false }
+        Self { answer, ..done(Tested(vec![Verdict::Refused(answer)]), Vec::new()) }
     }
 }
 
@@ -90,7 +91,7 @@ impl World {
         }
         if r.call == Call::Buffer {
             let crc = canon::crc32(&self.buffers[object]);
-            return done(Verdict::Go, crc.to_le_bytes().to_vec());
+            return done(Tested::default(), crc.to_le_bytes().to_vec());
         }
         let absent = if r.object == SPECTATOR { self.watcher.is_none() } else { self.ends[object].is_none() };
         if absent {
@@ -107,26 +108,29 @@ impl World {
 
     fn new_object(&mut self, r: &Record) -> Done {
         let setup = Setup::read(&r.payload).expect("a setup");
-        let verdict = if r.object == SPECTATOR {
+        let tested = if r.object == SPECTATOR {
             refusals::spectator_new(&setup, r.now)
         } else {
             refusals::new(&setup, r.now)
         };
-        if verdict == Verdict::Go {
+        if tested.verdict() == Verdict::Go {
             if r.object == SPECTATOR {
                 self.watcher = Some(Watcher::new(&setup, r.now));
             } else {
                 self.ends[usize::from(r.object)] = Some(End::new(&setup, r.now));
             }
         }
-        done(verdict, Vec::new())
+        done(tested, Vec::new())
     }
 
     /// The datagram's own faults come before all.
     fn datagram(&mut self, r: &Record, bytes: &[u8]) -> Done {
         match reader::fault(bytes) {
             0 => self.message(r, message_of(bytes)),
-            fault => Done::refused(fault),
+            fault => {
+                let host = self.host_seen(r.object);
+                done(refusals::unread(host, fault, r.number, r.now, r.epoch), Vec::new())
+            }
         }
     }
 
@@ -152,9 +156,9 @@ impl World {
             buffer: r.buffer as usize,
         };
         let host = self.host_seen(r.object);
-        let verdict = refusals::message(host, &handed);
+        let tested = refusals::message(host, &handed);
         let ours = r.number == host.peer;
-        if !matches!(verdict, Verdict::Refused(_)) && ours {
+        if !matches!(tested.verdict(), Verdict::Refused(_)) && ours {
             let readings = full_readings(r);
             if r.object == SPECTATOR {
                 let watcher = self.watcher.as_mut().expect("present");
@@ -163,7 +167,7 @@ impl World {
                 self.end(r).run(readings, |p| p.handle_message(&message));
             }
         }
-        Done { message: Some(message), ..done(verdict, Vec::new()) }
+        Done { message: Some(message), ..done(tested, Vec::new()) }
     }
 
     /// The endpoint's state, or that of the spectator's host.
@@ -188,63 +192,63 @@ impl World {
         let now = Readings { now: Some(r.now), ..Readings::default() };
         match r.call {
             Call::Synchronize => {
-                let verdict = refusals::synchronize(s, r.now, r.epoch, buffer);
-                self.change(r, verdict, full_readings(r), |p| p.synchronize())
+                let tested = refusals::synchronize(s, r.now, r.epoch, buffer);
+                self.change(r, tested, full_readings(r), |p| p.synchronize())
             }
             Call::Act => {
-                let verdict = refusals::act(s, &acting(r));
+                let tested = refusals::act(s, &acting(r));
                 let statuses = r.statuses;
                 let count = usize::from(r.status_count);
-                self.change(r, verdict, full_readings(r), |p| p.act(list(&statuses, count)))
+                self.change(r, tested, full_readings(r), |p| p.act(list(&statuses, count)))
             }
             Call::SendInput => self.send_input(r),
             Call::Disconnect => {
-                let verdict = refusals::disconnect(s, r.now);
-                self.change(r, verdict, now, |p| p.disconnect())
+                let tested = refusals::disconnect(s, r.now);
+                self.change(r, tested, now, |p| p.disconnect())
             }
             Call::SendChecksumReport => {
-                let verdict = refusals::send_checksum_report(s, r.now, buffer);
+                let tested = refusals::send_checksum_report(s, r.now, buffer);
                 let mut f = Fields(&r.payload);
                 let checksum = u128::from(f.u64()) | (u128::from(f.u64()) << 64);
-                self.change(r, verdict, now, |p| p.send_checksum_report(r.frame, checksum))
+                self.change(r, tested, now, |p| p.send_checksum_report(r.frame, checksum))
             }
             Call::UpdateLocalFrameAdvantage => {
-                let verdict = refusals::update_local_frame_advantage(s, r.frame);
-                self.change(r, verdict, Readings::default(), |p| p.update_local_frame_advantage(r.frame))
+                let tested = refusals::update_local_frame_advantage(s, r.frame);
+                self.change(r, tested, Readings::default(), |p| p.update_local_frame_advantage(r.frame))
             }
             Call::NetworkStats => {
-                let verdict = refusals::network_stats(s, r.epoch);
+                let tested = refusals::network_stats(s, r.epoch);
                 let early = r.epoch < s.stats_start;
                 let end = self.end(r);
-                stats(verdict, early, || end.run(epoch_reading(r), |p| p.network_stats()))
+                stats(tested, early, || end.run(epoch_reading(r), |p| p.network_stats()))
             }
             Call::PeerConnectStatus => {
-                let verdict = refusals::peer_connect_status(s, r.number);
+                let tested = refusals::peer_connect_status(s, r.number);
                 let mut given = Vec::new();
-                if verdict == Verdict::Go {
+                if tested.verdict() == Verdict::Go {
                     let status = self.end(r).protocol.peer_connect_status(r.number as usize);
                     canon::status(&mut given, &status);
                 }
-                done(verdict, given)
+                done(tested, given)
             }
             Call::TakeEvents => {
                 let mut given = Vec::new();
                 let events = self.end(r).run(Readings::default(), |p| p.take_events());
                 canon::events(&mut given, &events);
-                done(Verdict::Go, given)
+                done(Tested::default(), given)
             }
             Call::TakeMessages => {
-                let verdict = refusals::take_messages(s, buffer);
+                let tested = refusals::take_messages(s, buffer);
                 let mut given = Vec::new();
-                if verdict == Verdict::Go {
+                if tested.verdict() == Verdict::Go {
                     part(&mut given, &self.end(r).take_messages());
                 }
-                done(verdict, given)
+                done(tested, given)
             }
             Call::Getters => {
                 let end = self.end(r);
                 let given = end.run(Readings::default(), |p| end_getters(p, r.number));
-                done(Verdict::Go, given)
+                done(Tested::default(), given)
             }
             _ => unreachable!("no such call of an endpoint"),
         }
@@ -258,29 +262,29 @@ impl World {
             now: r.now,
             buffer: r.buffer as usize,
         };
-        let verdict = refusals::send_input(self.seen(r.object), &sending);
-        if let Verdict::Refused(_) = verdict {
-            return done(verdict, Vec::new());
+        let tested = refusals::send_input(self.seen(r.object), &sending);
+        if let Verdict::Refused(_) = tested.verdict() {
+            return done(tested, Vec::new());
         }
         let readings = Readings { now: Some(r.now), ..Readings::default() };
         let end = self.end(r);
         let inputs = inputs(r.frame, &r.payload, end.input_size);
         end.run(readings, |p| p.send_input(&inputs, list(&r.statuses, sending.statuses)));
-        done(verdict, Vec::new())
+        done(tested, Vec::new())
     }
 
     /// Hands the call to the crate unless it is refused.
     fn change(
         &mut self,
         r: &Record,
-        verdict: Verdict,
+        tested: Tested,
         readings: Readings,
         call: impl FnOnce(&mut crate::network::protocol::UdpProtocol<super::config::Cfg>),
     ) -> Done {
-        if !matches!(verdict, Verdict::Refused(_)) {
+        if !matches!(tested.verdict(), Verdict::Refused(_)) {
             self.end(r).run(readings, call);
         }
-        done(verdict, Vec::new())
+        done(tested, Vec::new())
     }
 
     fn watcher_call(&mut self, r: &Record) -> Done {
@@ -289,62 +293,60 @@ impl World {
         let watcher = self.watcher.as_mut().expect("present");
         match r.call {
             Call::Synchronize => {
-                let verdict = refusals::synchronize(&s.host, r.now, r.epoch, buffer);
-                if verdict == Verdict::Go {
+                let tested = refusals::synchronize(&s.host, r.now, r.epoch, buffer);
+                if tested.verdict() == Verdict::Go {
                     watcher.run(full_readings(r), |s| s.host_mut().synchronize());
                 }
-                done(verdict, Vec::new())
+                done(tested, Vec::new())
             }
             Call::Act => {
-                let verdict = refusals::poll(s, &acting(r));
+                let tested = refusals::poll(s, &acting(r));
                 let mut given = Vec::new();
-                if verdict == Verdict::Go {
+                if tested.verdict() == Verdict::Go {
                     watcher.run(full_readings(r), |s| s.poll_remote_clients());
                     let sent = watcher.sent();
                     self.buffers[2][..sent.len()].copy_from_slice(&sent);
                     part(&mut given, &sent);
                 }
-                done(verdict, given)
+                done(tested, given)
             }
             Call::NetworkStats => {
-                let verdict = refusals::network_stats(&s.host, r.epoch);
+                let tested = refusals::network_stats(&s.host, r.epoch);
                 let early = r.epoch < s.host.stats_start;
-                stats(verdict, early, || watcher.run(epoch_reading(r), |s| s.network_stats()))
+                stats(tested, early, || watcher.run(epoch_reading(r), |s| s.network_stats()))
             }
             Call::TakeEvents => {
                 let mut given = Vec::new();
-                let peer = s.host.peer;
                 let events: Vec<_> = watcher.run(Readings::default(), |s| s.events().collect());
-                assert!(events.iter().all(|e| address(e) == Some(peer)));
                 canon::session_events(&mut given, &events);
-                done(Verdict::Go, given)
+                done(Tested::default(), given)
             }
             Call::TakeMessages => {
-                let verdict = refusals::take_messages(&s.host, buffer);
+                let tested = refusals::take_messages(&s.host, buffer);
                 let mut given = Vec::new();
-                if verdict == Verdict::Go {
+                if tested.verdict() == Verdict::Go {
                     watcher.run(Readings::default(), |s| s.take_messages());
                     part(&mut given, &watcher.sent());
                 }
-                done(verdict, given)
+                done(tested, given)
             }
             Call::Getters => {
                 let given = watcher.run(Readings::default(), |s| session_getters(s));
-                done(Verdict::Go, given)
+                done(Tested::default(), given)
             }
             Call::Advance => {
-                let verdict = refusals::advance(s);
+                let tested = refusals::advance(s);
                 let input_size = watcher.input_size;
-                advance(verdict, input_size, || watcher.run(Readings::default(), |s| s.advance_frame()))
+                advance(tested, input_size, || watcher.run(Readings::default(), |s| s.advance_frame()))
             }
             Call::FramesBehind => {
-                let verdict = refusals::frames_behind(s);
+                let tested = refusals::frames_behind(s);
                 let mut given = Vec::new();
-                if verdict == Verdict::Go {
+                if tested.verdict() == Verdict::Go {
                     let behind = watcher.run(Readings::default(), |s| s.frames_behind_host());
                     given.extend((behind as u32).to_le_bytes());
                 }
-                done(verdict, given)
+                done(tested, given)
             }
             _ => unreachable!("no such call of a spectator"),
         }
@@ -394,12 +396,13 @@ impl World {
     }
 }
 
-fn done(verdict: Verdict, given: Vec<u8>) -> Done {
+fn done(tested: Tested, given: Vec<u8>) -> Done {
+    let verdict = tested.verdict();
     let answer = match verdict {
         Verdict::Refused(number) => number,
         Verdict::Ignored | Verdict::Go => 0,
     };
-    Done { answer, verdict, given, message: None, changed: false }
+    Done { answer, verdict, tested, given, message: None, changed: false }
 }
 
 fn full_readings(r: &Record) -> Readings {
@@ -426,12 +429,13 @@ fn part(given: &mut Vec<u8>, bytes: &[u8]) {
 }
 
 /// 14 and 15 are the crate's own; it is asked too, but where it would subtract below 0.
-fn stats(verdict: Verdict, early: bool, ask: impl FnOnce() -> Result<NetworkStats, GgrsError>) -> Done {
+fn stats(tested: Tested, early: bool, ask: impl FnOnce() -> Result<NetworkStats, GgrsError>) -> Done {
+    let verdict = tested.verdict();
     if verdict == Verdict::Refused(refusals::BAD_CLOCK) {
-        return done(verdict, Vec::new());
+        return done(tested, Vec::new());
     }
     if verdict == Verdict::Refused(refusals::NOT_ENOUGH_DATA) && early {
-        return done(verdict, Vec::new());
+        return done(tested, Vec::new());
     }
     let mut given = Vec::new();
     let answer = match ask() {
@@ -445,17 +449,18 @@ fn stats(verdict: Verdict, early: bool, ask: impl FnOnce() -> Result<NetworkStat
         }
     };
     assert_eq!(answer, verdict, "the crate and the rules differ in network_stats");
-    done(answer, given)
+    done(tested, given)
 }
 
 /// 14, 16 and 17 are the crate's own; it is asked too.
 fn advance(
-    verdict: Verdict,
+    tested: Tested,
     input_size: usize,
     ask: impl FnOnce() -> Result<Vec<GgrsRequest<super::config::Cfg>>, GgrsError>,
 ) -> Done {
+    let verdict = tested.verdict();
     if verdict == Verdict::Refused(refusals::OVERFLOW) {
-        return done(verdict, Vec::new());
+        return done(tested, Vec::new());
     }
     let mut given = Vec::new();
     let answer = match ask() {
@@ -466,7 +471,7 @@ fn advance(
         }
     };
     assert_eq!(answer, verdict, "the crate and the rules differ in advance");
-    done(answer, given)
+    done(tested, given)
 }
 
 fn number(error: &GgrsError) -> u8 {
@@ -516,16 +521,4 @@ fn session_getters(s: &crate::SpectatorSession<super::config::Cfg>) -> Vec<u8> {
     given.extend(s.current_frame().to_le_bytes());
     given.extend((s.num_players() as u32).to_le_bytes());
     given
-}
-
-fn address(event: &crate::GgrsEvent<super::config::Cfg>) -> Option<u32> {
-    use crate::GgrsEvent as E;
-    match event {
-        E::Synchronizing { addr, .. }
-        | E::Synchronized { addr }
-        | E::Disconnected { addr }
-        | E::NetworkInterrupted { addr, .. }
-        | E::NetworkResumed { addr } => Some(*addr),
-        _ => None,
-    }
 }

@@ -121,9 +121,13 @@ fn check(first: u64, count: u64, dir: Option<&str>) -> Result<(), String> {
     if !missing.is_empty() {
         return Err(format!("\nnever met:\n  {}", missing.join("\n  ")));
     }
+    let rare = tally.rare_pairs();
+    if !rare.is_empty() {
+        return Err(format!("\nmet less often than 100 times in 1000 scripts:\n  {}", rare.join("\n  ")));
+    }
     if !tally.half_changes() {
         return Err("fewer than half of the calls are unrefused and change state".to_owned());
     }
-    println!("\nevery row was met; at least half of the calls are unrefused and change state");
+    println!("\nevery row was met, each pair at least 100 times in 1000 scripts; at least half of the calls are unrefused and change state");
     Ok(())
 }

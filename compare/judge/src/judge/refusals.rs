@@ -1,5 +1,6 @@
 //! A second reading of the refusals (docs/RULES.md): one function per call, the tests named as in
-//! their table, in their order (8, 1, 3, 7, ignored, 2, 4, 12, 6, 5; 14 before 15). It was written
+//! their table, in their order (8, 1, 3, 7, ignored, 2, 4, 12, 6, 5; 14 before 15). All tests of a call are made,
+//! so that a call that meets two of them is seen to. It was written
 //! from the rules and the points decided about them, apart from the definitions that are proved, but
 //! with the crate at hand: a slip that those points or the crate suggest may stand here too.
 //! Nothing here asks the crate; `audit` then holds 5 and 6 against the crate's own doing.
@@ -36,7 +37,7 @@ pub const TIMEOUT_MAX: u64 = 1 << 31;
 const CHECKSUM_CLEAN_UP: usize = 32;
 
 /// What the rules say before anything is done.
-#[derive(Copy, Clone, Debug, PartialEq, Eq)]
+#[derive(Copy, Clone, Debug, PartialEq, Eq, PartialOrd, Ord)]
 pub enum Verdict {
     /// The call is refused with this number.
     Refused(u8),
@@ -48,12 +49,19 @@ pub enum Verdict {
 
 use Verdict::{Go, Ignored, Refused};
 
-/// The first test that holds gives the number.
-fn first_of(tests: &[(bool, u8)]) -> Verdict {
-    match tests.iter().find(|(holds, _)| *holds) {
-        Some((_, number)) => Refused(*number),
-        None => Go,
+/// The verdicts of the tests of a call that hold, in the tests' order. The first is the call's; where there are
+/// more, the call shows that the first comes before them.
+#[derive(Clone, Debug, Default, PartialEq, Eq)]
+pub struct Tested(pub Vec<Verdict>);
+
+impl Tested {
+    pub fn verdict(&self) -> Verdict {
+        self.0.first().copied().unwrap_or(Go)
     }
+}
+
+fn tested(tests: &[(bool, Verdict)]) -> Tested {
+    Tested(tests.iter().filter(|(holds, _)| *holds).map(|(_, verdict)| *verdict).collect())
 }
 
 fn bad_clock(clock: u64) -> bool {
@@ -143,12 +151,12 @@ fn bad_spectator_setup(s: &Setup) -> bool {
         || s.catchup_speed > 65_535
 }
 
-pub fn new(s: &Setup, now: u64) -> Verdict {
-    first_of(&[(bad_clock(now), BAD_CLOCK), (bad_setup(s), BAD_SETUP)])
+pub fn new(s: &Setup, now: u64) -> Tested {
+    tested(&[(bad_clock(now), Refused(BAD_CLOCK)), (bad_setup(s), Refused(BAD_SETUP))])
 }
 
-pub fn spectator_new(s: &Setup, now: u64) -> Verdict {
-    first_of(&[(bad_clock(now), BAD_CLOCK), (bad_spectator_setup(s), BAD_SETUP)])
+pub fn spectator_new(s: &Setup, now: u64) -> Tested {
+    tested(&[(bad_clock(now), Refused(BAD_CLOCK)), (bad_spectator_setup(s), Refused(BAD_SETUP))])
 }
 
 // ---- handshake ----
@@ -157,12 +165,12 @@ fn wrong_state(s: &Snapshot) -> bool {
     s.phase != Phase::Initializing
 }
 
-pub(crate) fn synchronize(s: &Snapshot, now: u64, epoch: u64, buffer: usize) -> Verdict {
+pub(crate) fn synchronize(s: &Snapshot, now: u64, epoch: u64, buffer: usize) -> Tested {
     let adds = Adds { bytes: SYNC_SIZE, ..Adds::default() };
-    first_of(&[
-        (bad_clock(now) || bad_clock(epoch), BAD_CLOCK),
-        (wrong_state(s), WRONG_STATE),
-        (adds.full(s, buffer), FULL),
+    tested(&[
+        (bad_clock(now) || bad_clock(epoch), Refused(BAD_CLOCK)),
+        (wrong_state(s), Refused(WRONG_STATE)),
+        (adds.full(s, buffer), Refused(FULL)),
     ])
 }
 
@@ -176,21 +184,37 @@ pub(crate) struct Handed<'a> {
     pub buffer: usize,
 }
 
-pub(crate) fn message(s: &Snapshot, h: &Handed) -> Verdict {
-    if bad_clock(h.now) || bad_clock(h.epoch) {
-        return Refused(BAD_CLOCK);
-    }
-    if is_ignored(s, h) {
-        return Ignored;
-    }
-    match &h.message.body {
+pub(crate) fn message(s: &Snapshot, h: &Handed) -> Tested {
+    let weighed = match &h.message.body {
         MessageBody::Input(body) if !discarded(s, body) => input(s, body, h.buffer),
         MessageBody::ChecksumReport(body) => checksum_report(s, body, h.buffer),
-        body => {
-            let adds = plain_adds(s, body);
-            first_of(&[(adds.full(s, h.buffer), FULL)])
-        }
-    }
+        body => Weighed { full: plain_adds(s, body).full(s, h.buffer), ..Weighed::default() },
+    };
+    tested(&[
+        (bad_clock(h.now) || bad_clock(h.epoch), Refused(BAD_CLOCK)),
+        (is_ignored(s, h), Ignored),
+        (weighed.too_long, Refused(TOO_LONG)),
+        (weighed.overflows, Refused(OVERFLOW)),
+        (weighed.full, Refused(FULL)),
+    ])
+}
+
+/// A datagram that does not read: its fault comes before a clock above its ceiling, and before what ignores it
+/// whatever message it had (N-23).
+pub(crate) fn unread(s: &Snapshot, fault: u8, from: u32, now: u64, epoch: u64) -> Tested {
+    tested(&[
+        (true, Refused(fault)),
+        (bad_clock(now) || bad_clock(epoch), Refused(BAD_CLOCK)),
+        (s.phase == Phase::Shutdown || from != s.peer, Ignored),
+    ])
+}
+
+/// What is tested of a message that is not ignored.
+#[derive(Default)]
+struct Weighed {
+    too_long: bool,
+    overflows: bool,
+    full: bool,
 }
 
 /// The message is ignored (E-11).
@@ -237,10 +261,9 @@ pub(crate) fn decodable(s: &Snapshot, body: &Input) -> bool {
     body.bytes.len() % s.receiving_width() == 0
 }
 
-/// An Input that is neither ignored nor discarded.
-fn input(s: &Snapshot, body: &Input, buffer: usize) -> Verdict {
+/// An Input that is not discarded.
+fn input(s: &Snapshot, body: &Input, buffer: usize) -> Weighed {
     let width = s.receiving_width();
-    let too_long = body.bytes.len() > 129 * width;
     let taken = reference_held(s, body) && decodable(s, body);
     let last = i64::from(body.start_frame) + (body.bytes.len() / width) as i64 - 1;
     let announces = body.disconnect_requested && s.phase != Phase::Disconnected && !s.event_sent;
@@ -252,24 +275,25 @@ fn input(s: &Snapshot, body: &Input, buffer: usize) -> Verdict {
         adds.events += s.handles.len() * frames;
         adds.bytes = ACK_SIZE;
     }
-    first_of(&[
-        (too_long, TOO_LONG),
-        (taken && last > i64::from(i32::MAX), OVERFLOW),
-        (adds.full(s, buffer), FULL),
-    ])
+    Weighed {
+        too_long: body.bytes.len() > 129 * width,
+        overflows: taken && last > i64::from(i32::MAX),
+        full: adds.full(s, buffer),
+    }
 }
 
 /// With 32 or more stored, those below frame - 31 x interval go first; a stored frame is replaced.
-fn checksum_report(s: &Snapshot, body: &ChecksumReport, buffer: usize) -> Verdict {
+fn checksum_report(s: &Snapshot, body: &ChecksumReport, buffer: usize) -> Weighed {
     let cleans = s.checksums.len() >= CHECKSUM_CLEAN_UP;
     let keep_line = i64::from(body.frame) - (CHECKSUM_CLEAN_UP as i64 - 1) * i64::from(s.checksum_interval());
     let stays = |frame: i32| !cleans || i64::from(frame) >= keep_line;
     let others = s.checksums.iter().filter(|(f, _)| stays(*f) && *f != body.frame).count();
     let adds = Adds { events: usize::from(s.resumes()), ..Adds::default() };
-    first_of(&[
-        (cleans && keep_line < i64::from(i32::MIN), OVERFLOW),
-        (adds.full(s, buffer) || others + 1 > CHECKSUMS_MAX, FULL),
-    ])
+    Weighed {
+        too_long: false,
+        overflows: cleans && keep_line < i64::from(i32::MIN),
+        full: adds.full(s, buffer) || others + 1 > CHECKSUMS_MAX,
+    }
 }
 
 // ---- act ----
@@ -288,11 +312,11 @@ fn bad_status_count(s: &Snapshot, statuses: usize) -> bool {
     statuses != s.num_players
 }
 
-pub(crate) fn act(s: &Snapshot, a: &Acting) -> Verdict {
-    first_of(&[
-        (bad_clock(a.now) || bad_clock(a.epoch), BAD_CLOCK),
-        (bad_status_count(s, a.statuses), BAD_LENGTH),
-        (act_adds(s, a).full(s, a.buffer), FULL),
+pub(crate) fn act(s: &Snapshot, a: &Acting) -> Tested {
+    tested(&[
+        (bad_clock(a.now) || bad_clock(a.epoch), Refused(BAD_CLOCK)),
+        (bad_status_count(s, a.statuses), Refused(BAD_LENGTH)),
+        (act_adds(s, a).full(s, a.buffer), Refused(FULL)),
     ])
 }
 
@@ -341,16 +365,7 @@ fn bad_length(s: &Snapshot, a: &Sending) -> bool {
     bad_status_count(s, a.statuses) || a.bytes != s.sending_width()
 }
 
-pub(crate) fn send_input(s: &Snapshot, a: &Sending) -> Verdict {
-    if bad_clock(a.now) {
-        return Refused(BAD_CLOCK);
-    }
-    if bad_length(s, a) {
-        return Refused(BAD_LENGTH);
-    }
-    if s.phase != Phase::Running {
-        return Ignored;
-    }
+pub(crate) fn send_input(s: &Snapshot, a: &Sending) -> Tested {
     let pending = s.pending.len() + 1;
     let adds = Adds {
         events: usize::from(pending == PENDING_MAX),
@@ -358,7 +373,13 @@ pub(crate) fn send_input(s: &Snapshot, a: &Sending) -> Verdict {
         pending: 1,
         nonces: 0,
     };
-    first_of(&[(bad_frame(s, a.frame), BAD_FRAME), (adds.full(s, a.buffer), FULL)])
+    tested(&[
+        (bad_clock(a.now), Refused(BAD_CLOCK)),
+        (bad_length(s, a), Refused(BAD_LENGTH)),
+        (s.phase != Phase::Running, Ignored),
+        (bad_frame(s, a.frame), Refused(BAD_FRAME)),
+        (adds.full(s, a.buffer), Refused(FULL)),
+    ])
 }
 
 /// Rule N-4.
@@ -370,17 +391,13 @@ fn bad_frame(s: &Snapshot, frame: i32) -> bool {
 }
 
 /// Queues in every phase, in Shutdown too.
-pub(crate) fn send_checksum_report(s: &Snapshot, now: u64, buffer: usize) -> Verdict {
+pub(crate) fn send_checksum_report(s: &Snapshot, now: u64, buffer: usize) -> Tested {
     let adds = Adds { bytes: CHECKSUM_SIZE, ..Adds::default() };
-    first_of(&[(bad_clock(now), BAD_CLOCK), (adds.full(s, buffer), FULL)])
+    tested(&[(bad_clock(now), Refused(BAD_CLOCK)), (adds.full(s, buffer), Refused(FULL))])
 }
 
-pub(crate) fn disconnect(s: &Snapshot, now: u64) -> Verdict {
-    match (bad_clock(now), s.phase) {
-        (true, _) => Refused(BAD_CLOCK),
-        (false, Phase::Shutdown) => Ignored,
-        (false, _) => Go,
-    }
+pub(crate) fn disconnect(s: &Snapshot, now: u64) -> Tested {
+    tested(&[(bad_clock(now), Refused(BAD_CLOCK)), (s.phase == Phase::Shutdown, Ignored)])
 }
 
 // ---- advantage, statistics, status ----
@@ -398,18 +415,18 @@ pub fn advantage_overflow(newest: i32, rtt: u64, fps: usize, local_frame: i32) -
     !(fits(product) && fits(remote) && fits(advantage))
 }
 
-pub(crate) fn update_local_frame_advantage(s: &Snapshot, local_frame: i32) -> Verdict {
+pub(crate) fn update_local_frame_advantage(s: &Snapshot, local_frame: i32) -> Tested {
     let overflow = advantage_overflow(s.newest(), s.round_trip_time, s.fps, local_frame);
-    first_of(&[(overflow, OVERFLOW)])
+    tested(&[(overflow, Refused(OVERFLOW))])
 }
 
 /// Rules N-14 and N-15.
-pub(crate) fn network_stats(s: &Snapshot, epoch: u64) -> Verdict {
+pub(crate) fn network_stats(s: &Snapshot, epoch: u64) -> Tested {
     let known = matches!(s.phase, Phase::Synchronizing | Phase::Running);
-    first_of(&[
-        (bad_clock(epoch), BAD_CLOCK),
-        (!known, NOT_SYNCHRONIZED),
-        (epoch < s.stats_start || epoch - s.stats_start < 1000, NOT_ENOUGH_DATA),
+    tested(&[
+        (bad_clock(epoch), Refused(BAD_CLOCK)),
+        (!known, Refused(NOT_SYNCHRONIZED)),
+        (epoch < s.stats_start || epoch - s.stats_start < 1000, Refused(NOT_ENOUGH_DATA)),
     ])
 }
 
@@ -417,47 +434,47 @@ fn bad_handle(s: &Snapshot, handle: u32) -> bool {
     handle as usize >= s.num_players
 }
 
-pub(crate) fn peer_connect_status(s: &Snapshot, handle: u32) -> Verdict {
-    first_of(&[(bad_handle(s, handle), BAD_HANDLE)])
+pub(crate) fn peer_connect_status(s: &Snapshot, handle: u32) -> Tested {
+    tested(&[(bad_handle(s, handle), Refused(BAD_HANDLE))])
 }
 
 /// In Shutdown with any buffer; else the queued bytes must lie in it.
-pub(crate) fn take_messages(s: &Snapshot, buffer: usize) -> Verdict {
+pub(crate) fn take_messages(s: &Snapshot, buffer: usize) -> Tested {
     let short = s.phase != Phase::Shutdown && buffer < s.queued.len();
-    first_of(&[(short, FULL)])
+    tested(&[(short, Refused(FULL))])
 }
 
 // ---- spectator ----
 
 /// As the host's act, but events never count and what is queued is taken from the same buffer.
-pub(crate) fn poll(s: &SpectatorSnapshot, a: &Acting) -> Verdict {
+pub(crate) fn poll(s: &SpectatorSnapshot, a: &Acting) -> Tested {
     let adds = act_adds(&s.host, a);
     let bytes = s.host.queued.len() + adds.bytes;
-    first_of(&[
-        (bad_clock(a.now) || bad_clock(a.epoch), BAD_CLOCK),
-        (bytes > a.buffer || adds.stores_full(&s.host), FULL),
+    tested(&[
+        (bad_clock(a.now) || bad_clock(a.epoch), Refused(BAD_CLOCK)),
+        (bytes > a.buffer || adds.stores_full(&s.host), Refused(FULL)),
     ])
 }
 
+fn behind(s: &SpectatorSnapshot) -> i64 {
+    i64::from(s.last_recv_frame) - i64::from(s.current_frame)
+}
+
 /// newest - current.
-pub(crate) fn frames_behind(s: &SpectatorSnapshot) -> Verdict {
-    let behind = i64::from(s.last_recv_frame) - i64::from(s.current_frame);
-    first_of(&[(i32::try_from(behind).is_err(), OVERFLOW)])
+pub(crate) fn frames_behind(s: &SpectatorSnapshot) -> Tested {
+    tested(&[(i32::try_from(behind(s)).is_err(), Refused(OVERFLOW))])
 }
 
 /// Catch-up 0 looks at no slot, so it is neither 16 nor 17.
-pub(crate) fn advance(s: &SpectatorSnapshot) -> Verdict {
-    if !s.running {
-        return Refused(NOT_SYNCHRONIZED);
-    }
-    if frames_behind(s) != Go || s.current_frame == i32::MAX {
-        return Refused(OVERFLOW);
-    }
-    let behind = (s.last_recv_frame - s.current_frame) as usize;
-    if behind > s.max_frames_behind && s.catchup_speed == 0 {
-        return Go;
-    }
-    let wanted = s.current_frame + 1;
-    let held = s.slots[wanted as usize % s.slots.len()][0].frame;
-    first_of(&[(held < wanted, PREDICTION_THRESHOLD), (held > wanted, SPECTATOR_TOO_FAR_BEHIND)])
+pub(crate) fn advance(s: &SpectatorSnapshot) -> Tested {
+    let wanted = i64::from(s.current_frame) + 1;
+    let held = i64::from(s.slots[wanted as usize % s.slots.len()][0].frame);
+    let looks = behind(s) <= s.max_frames_behind as i64 || s.catchup_speed > 0;
+    let overflows = i32::try_from(behind(s)).is_err() || i32::try_from(wanted).is_err();
+    tested(&[
+        (!s.running, Refused(NOT_SYNCHRONIZED)),
+        (overflows, Refused(OVERFLOW)),
+        (looks && held < wanted, Refused(PREDICTION_THRESHOLD)),
+        (looks && held > wanted, Refused(SPECTATOR_TOO_FAR_BEHIND)),
+    ])
 }

@@ -27,7 +27,7 @@ fn candidate(seed: u64) -> Candidate {
 }
 
 /// Scenarios of which the sample has one script each, the shortest.
-const DIRECTED: [&str; 14] = [
+const DIRECTED: [&str; 15] = [
     "phases",
     "inputs",
     "chaos-late",
@@ -42,6 +42,7 @@ const DIRECTED: [&str; 14] = [
     "watch-limits",
     "setups",
     "damage",
+    "pairs",
 ];
 
 /// Scenarios that no row asks for, but that a reader expects in a sample: of a handy length.

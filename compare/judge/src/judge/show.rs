@@ -110,7 +110,7 @@ fn given(f: &mut Fields, mode: Mode, r: &Record) -> Result<String, String> {
 
 fn handed_back(f: &mut Fields, r: &Record) -> String {
     match r.call {
-        Call::TakeEvents => format!(" events {}", events(f)),
+        Call::TakeEvents => format!(" events {}", events(f, r.object == SPECTATOR)),
         Call::TakeMessages => format!(" messages {}", part(f)),
         Call::Act if r.object == SPECTATOR => format!(" messages {}", part(f)),
         Call::NetworkStats => {
@@ -160,14 +160,18 @@ fn part(f: &mut Fields) -> String {
     hex(&bytes)
 }
 
-fn events(f: &mut Fields) -> String {
-    let list: Vec<String> = (0..f.u32()).map(|_| event(f)).collect();
+/// An endpoint's events, or the session's, of which each has an address.
+fn events(f: &mut Fields, addressed: bool) -> String {
+    let list: Vec<String> = (0..f.u32()).map(|_| event(f, addressed)).collect();
     format!("{list:?}")
 }
 
-fn event(f: &mut Fields) -> String {
+fn event(f: &mut Fields, addressed: bool) -> String {
     let tag = f.u8();
-    let name = EVENTS[usize::from(tag)];
+    let mut name = EVENTS[usize::from(tag)].to_owned();
+    if addressed {
+        name += &format!(" of {}", f.u32());
+    }
     match tag {
         0 => format!("{name} {} {}", f.u32(), f.u32()),
         2 => {
@@ -176,7 +180,7 @@ fn event(f: &mut Fields) -> String {
             format!("{name} {frame} handle {handle} {}", hex(&input))
         }
         4 => format!("{name} {}", f.u64()),
-        _ => name.to_owned(),
+        _ => name,
     }
 }
 
@@ -226,7 +230,7 @@ fn endpoint(f: &mut Fields) -> String {
     let checksums: Vec<String> =
         (0..f.u32()).map(|_| format!("{}: {} {}", f.u32() as i32, f.u64(), f.u64())).collect();
     text += &format!(" checksums {checksums:?}");
-    text += &format!(" events {}", events(f));
+    text += &format!(" events {}", events(f, false));
     text + &format!(" queued {}", part(f))
 }
 
@@ -248,7 +252,7 @@ fn spectator(f: &mut Fields) -> String {
         let inputs: Vec<String> = (0..players).map(|_| stored(f, size)).collect();
         text += &format!("{slot}:{inputs:?} ");
     }
-    text += &format!("statuses {} events {}\n          host ", statuses(f), events(f));
+    text += &format!("statuses {} events {}\n          host ", statuses(f), events(f, true));
     text + &endpoint(f)
 }
 

@@ -1,10 +1,11 @@
-//! Counts what a run of scripts met: per call, phase and kind, refusal, event and mark.
+//! Counts what a run of scripts met: per call, phase and kind, refusal, pair of faults, event and mark.
 
 use std::collections::{BTreeMap, BTreeSet};
 
 use super::driver::{Done, PANICKED};
 use super::marks;
 use super::record::{Call, Record, CALLS, SPECTATOR};
+use super::refusals::Verdict;
 use super::snapshot::{Phase, Snapshot};
 use super::value::{kind, KINDS};
 use crate::network::protocol::Event;
@@ -16,11 +17,16 @@ pub const EVENTS: [&str; 6] =
 const PHASES: [Phase; 5] =
     [Phase::Initializing, Phase::Synchronizing, Phase::Running, Phase::Disconnected, Phase::Shutdown];
 
+/// A call that meets two tests at once: whether it is a session's, the call, the test that gives the answer, and one
+/// that comes behind it.
+type Pair = (bool, Call, Verdict, Verdict);
+
 #[derive(Default)]
 pub struct Tally {
     pub scripts: u64,
     calls: BTreeMap<(bool, Call), u64>,
     answers: BTreeMap<(bool, Call, u8), u64>,
+    pairs: BTreeMap<Pair, u64>,
     kinds: BTreeMap<(bool, Phase, u32), u64>,
     events: BTreeMap<(bool, usize), u64>,
     session_events: BTreeMap<usize, u64>,
@@ -35,6 +41,9 @@ impl Tally {
         let watching = r.object == SPECTATOR;
         *self.calls.entry((watching, r.call)).or_default() += 1;
         *self.answers.entry((watching, r.call, done.answer)).or_default() += 1;
+        for other in done.tested.0.iter().skip(1) {
+            *self.pairs.entry((watching, r.call, done.verdict, *other)).or_default() += 1;
+        }
         self.unrefused_and_changed += u64::from(done.answer == 0 && done.changed);
         self.panics += u64::from(done.answer == PANICKED);
     }
@@ -74,6 +83,7 @@ impl Tally {
         for (watching, call, answer) in self.answers.keys() {
             met.insert(answer_row(*watching, *call, *answer));
         }
+        met.extend(self.pairs.keys().map(|pair| pair_row(*pair)));
         for (watching, phase, kind) in self.kinds.keys() {
             met.insert(kind_row(*watching, *phase, *kind as usize));
         }
@@ -96,6 +106,14 @@ impl Tally {
         required().into_iter().filter(|row| !met.contains(row)).collect()
     }
 
+    /// Every pair of tests that is met less often than a hundred times in a thousand scripts, with its count.
+    pub fn rare_pairs(&self) -> Vec<String> {
+        let counted =
+            required_pairs().into_iter().map(|pair| (pair, self.pairs.get(&pair).copied().unwrap_or(0)));
+        let rare = counted.filter(|(_, count)| 10 * count < self.scripts);
+        rare.map(|(pair, count)| format!("{count:>8}  {}", pair_row(pair))).collect()
+    }
+
     pub fn half_changes(&self) -> bool {
         2 * self.unrefused_and_changed >= self.total()
     }
@@ -116,6 +134,10 @@ impl Tally {
             println!();
         }
         self.print_refusals();
+        println!("\ncalls that meet two tests at once, by the one that gives the answer and the other");
+        for (pair, count) in &self.pairs {
+            println!("  {count:>8}  {}", pair_row(*pair));
+        }
         self.print_kinds();
         println!("\nevents");
         for ((watching, number), count) in &self.events {
@@ -158,6 +180,18 @@ fn answer_row(watching: bool, call: Call, answer: u8) -> String {
     format!("{} {} answered {answer}", who(watching), call.name(object(watching)))
 }
 
+fn pair_row((watching, call, first, other): Pair) -> String {
+    format!("{} {}: {} before {}", who(watching), call.name(object(watching)), word(first), word(other))
+}
+
+fn word(verdict: Verdict) -> String {
+    match verdict {
+        Verdict::Refused(number) => number.to_string(),
+        Verdict::Ignored => "ignored".to_owned(),
+        Verdict::Go => "done".to_owned(),
+    }
+}
+
 fn kind_row(watching: bool, phase: Phase, kind: usize) -> String {
     format!("{} {phase:?} met {}", who(watching), KINDS[kind])
 }
@@ -176,6 +210,7 @@ pub fn required() -> Vec<String> {
     for (watching, call, answer) in reachable() {
         rows.push(answer_row(watching, call, answer));
     }
+    rows.extend(required_pairs().into_iter().map(pair_row));
     for watching in [false, true] {
         for phase in reachable_phases(watching) {
             rows.extend((0..KINDS.len()).map(|kind| kind_row(watching, *phase, kind)));
@@ -273,4 +308,54 @@ fn answers_of(call: Call, watching: bool) -> &'static [u8] {
         Call::Advance => &[0, 6, 14, 16, 17],
         Call::FramesBehind => &[0, 6],
     }
+}
+
+/// Every pair of tests that a call can meet at once, the one that gives the answer first.
+fn required_pairs() -> Vec<Pair> {
+    let mut all = Vec::new();
+    for watching in [false, true] {
+        for call in CALLS.into_iter().filter(|call| call.exists_on(object(watching))) {
+            all.extend(
+                pairs_of(call, watching).into_iter().map(|(a, b)| (watching, call, verdict(a), verdict(b))),
+            );
+        }
+    }
+    all
+}
+
+/// Stands for a call that is ignored among the numbers of the refusals.
+const IGNORED: u8 = 0;
+
+fn verdict(number: u8) -> Verdict {
+    match number {
+        IGNORED => Verdict::Ignored,
+        number => Verdict::Refused(number),
+    }
+}
+
+/// Each number of a call's order with each that stands behind it, where a call can meet both: none is Short and
+/// BadKind at once.
+fn pairs_of(call: Call, watching: bool) -> Vec<(u8, u8)> {
+    let mut pairs = match call {
+        Call::New => ordered(&[8, 1]),
+        Call::Synchronize => ordered(&[8, 2, 5]),
+        Call::Datagram | Call::Message => ordered(&[8, IGNORED, 12, 6, 5]),
+        Call::Act if watching => ordered(&[8, 5]),
+        Call::Act => ordered(&[8, 3, 5]),
+        Call::SendInput => ordered(&[8, 3, IGNORED, 4, 5]),
+        Call::Disconnect => ordered(&[8, IGNORED]),
+        Call::SendChecksumReport => ordered(&[8, 5]),
+        Call::NetworkStats => ordered(&[8, 14, 15]),
+        Call::Advance => [ordered(&[14, 6, 16]), ordered(&[14, 17]), ordered(&[6, 17])].concat(),
+        _ => Vec::new(),
+    };
+    if call == Call::Datagram {
+        pairs.extend((9..=13).flat_map(|fault| [(fault, 8), (fault, IGNORED)]));
+    }
+    pairs
+}
+
+fn ordered(numbers: &[u8]) -> Vec<(u8, u8)> {
+    let behind = |at: usize| numbers[at + 1..].iter().map(move |other| (numbers[at], *other));
+    (0..numbers.len()).flat_map(behind).collect()
 }

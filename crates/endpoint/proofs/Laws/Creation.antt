@@ -2,8 +2,9 @@
 use mathlib.Core.Bool.{true, false}
 use mathlib.Core.List.{[], _∷_}
 use mathlib.Core.Path.{_≡_, sym, _∙_}
-use Prim.Native.Nat.{ℕ}
+use Prim.Native.Nat.{ℕ, min}
 use lib.ListN.{replicate}
+use Rattle.ceilings.specs.Ceilings.{mostPlayers}
 use Rattle.frame.specs.Bias.{nullFrame}
 use Rattle.answer.specs.Number.{numberOf, number-determines}
 use Rattle.answer.specs.declared.Answer.{Answer}
@@ -79,9 +80,13 @@ module _ (g : Setup) (now : ℕ) where
   unfolding seen made blankFrame zeros
   makes s p h n c q st cs ev es ep eh en ec eq est ecs eev = rw (es, ep, eh, en, ec, eq, est, ecs, eev)
 
-  pub made-as : (a : Answer) (e : Endpoint) → numberOf a ≡ fresh g now .0 → seen e ≡ made g now → MadeAs g now (record { answer = a; endpoint = e })
+  pub made-as : (a : Answer) (e : Endpoint) → numberOf a ≡ fresh g now .0 → seen e ≡ made g now → e .setup .handles .count ≡ g .handles .count → e .statuses .count ≡ min (g .«num_players») mostPlayers
+      → MadeAs g now (record { answer = a; endpoint = e })
   unfolding fresh
-  made-as a e ea ee = record { answer = ea; made = ee }
+  made-as a e ea ee handles count = record { answer = ea; made = ee; handles = handles; count = count }
 
-  pub new-settled : (r s : Ended) → MadeAs g now r → MadeAs g now s → (r .answer ≡ s .answer) × (seen (r .endpoint) ≡ seen (s .endpoint))
-  new-settled r s a b = (number-determines (r .answer) (s .answer) (a .answer ∙ sym (b .answer)), a .made ∙ sym (b .made))
+  -- of the setup, whose handles are sorted, all but what their array holds past the count
+  pub new-settled : (r s : Ended) → MadeAs g now r → MadeAs g now s
+      → (r .answer ≡ s .answer) × (seen (r .endpoint) ≡ seen (s .endpoint)) × (r .endpoint .setup .handles .count ≡ s .endpoint .setup .handles .count) × (r .endpoint .statuses .count ≡ s .endpoint .statuses .count)
+  new-settled r s a b =
+      (number-determines (r .answer) (s .answer) (a .answer ∙ sym (b .answer)), a .made ∙ sym (b .made), a .handles ∙ sym (b .handles), a .count ∙ sym (b .count))

@@ -14,7 +14,7 @@ use Rattle.endpoint_rules.specs.Call.{Call}
 use Rattle.endpoint_rules.specs.Step.{step, disconnectStep}
 use Rattle.endpoint.specs.declared.Endpoint.{Endpoint}
 use Rattle.endpoint.specs.declared.Ended.{Ended}
-use Rattle.endpoint.specs.Endpoint.{seen, DoneAs}
+use Rattle.endpoint.specs.Endpoint.{seen, SameTerms, DoneAs}
 use Rattle.endpoint.proofs.Laws.Settled.{done-settled}
 use Rattle.endpoint.proofs.Laws.Ends.{inPhase, remade, refused-done}
 
@@ -35,8 +35,8 @@ module _ (e : Endpoint) (now : ℕ) where
     pub disconnect-done : (c : Clocks) → isShutdown (e .sync .phase) ≡ false → c ≡ shutdownAt (now + 5000) (e .clocks)
         → DoneAs e (step (Call.disconnect now) (seen e)) (record { answer = Done; endpoint = remade e (e .pending) (e .acked) (e .history) (inPhase Disconnected (e .sync)) (e .nonces) c (e .flags) (e .quality) (e .statuses) (e .checksums) (e .events) (e .queued) })
     unfolding step disconnectStep tested seen
-    disconnect-done c h ec = rw (good, h, ec) (record { answer = refl; after = refl; same = λ n. absurd (n refl) })
+    disconnect-done c h ec = rw (good, h, ec) (record { answer = refl; after = refl; terms = record { setup = refl; count = refl }; same = λ n. absurd (n refl) })
 
 pub disconnect-settled : (e : Endpoint) (now : ℕ) (r s : Ended) → DoneAs e (step (Call.disconnect now) (seen e)) r → DoneAs e (step (Call.disconnect now) (seen e)) s
-    → (r .answer ≡ s .answer) × (seen (r .endpoint) ≡ seen (s .endpoint))
+    → (r .answer ≡ s .answer) × (seen (r .endpoint) ≡ seen (s .endpoint)) × SameTerms (r .endpoint) (s .endpoint)
 disconnect-settled e now = done-settled e (step (Call.disconnect now) (seen e))

@@ -26,7 +26,7 @@ use Rattle.outbox.specs.Outbox.{queueSize, QueuedAs}
 use Rattle.endpoint_rules.specs.Seen.{withEvents, withQueued}
 use Rattle.endpoint_rules.specs.Did.{Did, Effect, refused, done}
 use Rattle.endpoint.specs.declared.Endpoint.{Endpoint}
-use Rattle.endpoint.specs.Endpoint.{seen, DidAs, DoneAs}
+use Rattle.endpoint.specs.Endpoint.{seen, SameTerms, DidAs, DoneAs}
 use Rattle.endpoint.specs.Inside.Batch.{BatchWrittenAs}
 
 -- the same in another phase
@@ -60,19 +60,19 @@ grown e events queued =
 module _ (e : Endpoint) (a : Answer) (d : Did) (h : d ≡ refused (numberOf a) (seen e)) where
   pub refused-done : DoneAs e d (record { answer = a; endpoint = e })
   unfolding refused
-  refused-done = rw h (record { answer = refl; after = refl; same = λ _. refl })
+  refused-done = rw h (record { answer = refl; after = refl; terms = record { setup = refl; count = refl }; same = λ _. refl })
 
   pub refused-did : (buffer : List ℕ) → DidAs e d buffer (record { answer = a; endpoint = e }) buffer
   unfolding refused flatten
-  refused-did buffer = rw h (record { answer = refl; after = refl; lent = sym (laid-none buffer (e .queued)); same = λ _. refl })
+  refused-did buffer = rw h (record { answer = refl; after = refl; terms = record { setup = refl; count = refl }; lent = sym (laid-none buffer (e .queued)); same = λ _. refl })
 
 -- done: what is left to show of the state after it
-module _ (e : Endpoint) (n : Endpoint) (f : Effect) (d : Did) (h : d ≡ done f) where
+module _ (e : Endpoint) (n : Endpoint) (terms : SameTerms e n) (f : Effect) (d : Did) (h : d ≡ done f) where
   -- nothing is queued
   module _ (o : f .out ≡ []) (after : seen n ≡ withEvents (f .state .events ++ f .events) (f .state)) where
     pub done-done : DoneAs e d (record { answer = Done; endpoint = n })
     unfolding done queueSize
-    done-done = rw h (record { answer = refl; after = after ∙ rw (o, add-zero); same = λ x. absurd (x refl) })
+    done-done = rw h (record { answer = refl; after = after ∙ rw (o, add-zero); terms = terms; same = λ x. absurd (x refl) })
 
   -- one message is
   module _ (w : Wire) (o : f .out ≡ w ∷ []) (buffer buffer′ : List ℕ) (q : Queued) (eq : QueuedAs buffer (e .queued) w q buffer′) (ok : q .ok ≡ true) where
@@ -83,14 +83,15 @@ module _ (e : Endpoint) (n : Endpoint) (f : Effect) (d : Did) (h : d ≡ done f)
         rw h (record {
           answer = refl;
           after = after ∙ rw (rw ok at (eq .end), o, k, add-zero);
+          terms = terms;
           lent = rw o ((rw ok at (eq .lent)) ∙ rw append-nil);
           same = λ x. absurd (x refl);
         })
 
 -- done, with several messages queued or none
-pub batch-did : (e n : Endpoint) (f : Effect) (d : Did) (buffer buffer′ : List ℕ) (stop : ℕ) → d ≡ done f → f .state .queued ≡ e .queued
+pub batch-did : (e n : Endpoint) → SameTerms e n → (f : Effect) (d : Did) (buffer buffer′ : List ℕ) (stop : ℕ) → d ≡ done f → f .state .queued ≡ e .queued
     → BatchWrittenAs buffer (e .queued) (f .out) stop buffer′ → seen n ≡ withEvents (f .state .events ++ f .events) (withQueued stop (f .state))
     → DidAs e d buffer (record { answer = Done; endpoint = n }) buffer′
 unfolding done
-batch-did e n f d buffer buffer′ stop h k w after =
-    rw h (record { answer = refl; after = after ∙ rw (w .end, k); lent = w .lent; same = λ x. absurd (x refl) })
+batch-did e n terms f d buffer buffer′ stop h k w after =
+    rw h (record { answer = refl; after = after ∙ rw (w .end, k); terms = terms; lent = w .lent; same = λ x. absurd (x refl) })

@@ -31,7 +31,7 @@ use Rattle.endpoint.specs.declared.getters.StatusResult.the-variants.{St
 use Rattle.endpoint.specs.declared.getters.StatsResult.{StatsResult}
 use Rattle.endpoint.specs.declared.getters.StatsResult.the-variants.{Stats, Refused}
 use Rattle.endpoint.specs.Endpoint.{seen}
-use Rattle.endpoint.specs.Shown.{shown, HandlesAs, shownStatus, shownStats}
+use Rattle.endpoint.specs.Shown.{shown, HandlesAs, ChecksumsAs, shownStatus, shownStats}
 
 module _ (e : Endpoint) where
   pub shows-handles : (n : ℕ) → n ≡ length (handleList (e .setup .handles)) → HandlesAs (seen e) (record { list = e .setup .handles .list; count = n })
@@ -60,9 +60,11 @@ module _ (e : Endpoint) where
   unfolding valueOf seen
   shows-phase = refl
 
-  pub shows-checksums : Value.checksums (stored (e .checksums)) ≡ valueOf (Call.ask Question.checksums) (seen e)
-  unfolding valueOf seen
-  shows-checksums = refl
+  pub shows-checksums : (n : ℕ) → n ≡ length (stored (e .checksums)) → ChecksumsAs (seen e) (record { entries = e .checksums .entries; used = n })
+  unfolding valueOf seen stored
+  shows-checksums n h =
+      let same : take n (e .checksums .entries) ≡ stored (e .checksums) = rw h (sym (take-count (e .checksums .used) (e .checksums .entries))) in
+      (ap Value.checksums same, h ∙ ap length (sym same))
 
   module _ (handle : ℕ) where
     pub status-refused : e .setup .«num_players» ≤ handle → shownStatus BadHandle ≡ shown (Call.peerConnectStatus handle) (seen e)
@@ -133,8 +135,10 @@ module _ (e : Endpoint) where
   pub state-settled : (r s : Phase) → Value.phase r ≡ valueOf (Call.ask Question.state) (seen e) → Value.phase s ≡ valueOf (Call.ask Question.state) (seen e) → r ≡ s
   state-settled r s a b = cc
 
-  pub checksums-settled : (r s : Checksums) → Value.checksums (stored r) ≡ valueOf (Call.ask Question.checksums) (seen e) → Value.checksums (stored s) ≡ valueOf (Call.ask Question.checksums) (seen e) → stored r ≡ stored s
-  checksums-settled r s a b = cc
+  pub checksums-settled : (r s : Checksums) → ChecksumsAs (seen e) r → ChecksumsAs (seen e) s → (stored r ≡ stored s) × (r .used ≡ s .used)
+  checksums-settled r s a b =
+      let same : stored r ≡ stored s = let n : Value.checksums (stored r) ≡ Value.checksums (stored s) = a .0 ∙ sym (b .0) in cc in
+      (same, a .1 ∙ ap length same ∙ sym (b .1))
 
   pub peer-connect-status-settled : (handle : ℕ) (r s : StatusResult) → shownStatus r ≡ shown (Call.peerConnectStatus handle) (seen e) → shownStatus s ≡ shown (Call.peerConnectStatus handle) (seen e) → r ≡ s
   peer-connect-status-settled handle r s a b = same-status r s (a ∙ sym b)

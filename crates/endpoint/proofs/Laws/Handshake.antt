@@ -32,7 +32,7 @@ use Rattle.endpoint_rules.specs.Step.{step, synchronizeStep}
 use Rattle.endpoint.specs.declared.Endpoint.{Endpoint}
 use Rattle.endpoint.specs.declared.Ended.{Ended}
 use Rattle.endpoint.specs.declared.handshake.Requested.{Requested}
-use Rattle.endpoint.specs.Endpoint.{seen, DidAs}
+use Rattle.endpoint.specs.Endpoint.{seen, SameTerms, DidAs}
 use Rattle.endpoint.specs.Inside.Handshake.{requestWire, RequestedAs}
 use Rattle.endpoint.proofs.Laws.Ends.{remade, refused-did, queued-did}
 use Rattle.endpoint.proofs.Laws.Settled.{did-settled}
@@ -113,11 +113,11 @@ module _ (e : Endpoint) (buffer : List ℕ) (now epoch nonce : ℕ) where
           → Starts (remade e (e .pending) (e .acked) (e .history) (record { phase = Synchronizing; remaining = 5; «remote_magic» = e .sync .«remote_magic» }) (i .nonces) (r .clocks) (e .flags) q (e .statuses) (e .checksums) (e .events) (r .end)) Done buffer′
       unfolding step synchronizeStep synchronized started request nonceIssued queueWire tested seen termsWith
       synchronize-done k room q eq =
-          queued-did e _ Starting _
+          queued-did e _ (record { setup = refl; count = refl }) Starting _
           (rw (good, first, request-fits buffer (e .setup .magic) nonce (outstanding (e .nonces)) Starting refl (r .ok) (rw (ei .ok) at (er .ok)) k room))
           _ refl buffer buffer′ _ (er .queued k) refl refl (rw (nonces-after i ei er k, er .clocks k, eq, append-nil))
 
   pub synchronize-settled : (r s : Ended) (b c : List ℕ) → DidAs e (step (Call.synchronize now epoch nonce (length buffer)) (seen e)) buffer r b
       → DidAs e (step (Call.synchronize now epoch nonce (length buffer)) (seen e)) buffer s c
-      → (r .answer ≡ s .answer) × (seen (r .endpoint) ≡ seen (s .endpoint)) × (b ≡ c)
+      → (r .answer ≡ s .answer) × (seen (r .endpoint) ≡ seen (s .endpoint)) × SameTerms (r .endpoint) (s .endpoint) × (b ≡ c)
   synchronize-settled = did-settled e (step (Call.synchronize now epoch nonce (length buffer)) (seen e)) buffer

@@ -22,7 +22,7 @@ use Rattle.endpoint_rules.specs.Call.{Call}
 use Rattle.endpoint_rules.specs.Step.{step, advantageStep, checksumStep}
 use Rattle.endpoint.specs.declared.Endpoint.{Endpoint}
 use Rattle.endpoint.specs.declared.Ended.{Ended}
-use Rattle.endpoint.specs.Endpoint.{seen, DoneAs, DidAs}
+use Rattle.endpoint.specs.Endpoint.{seen, SameTerms, DoneAs, DidAs}
 use Rattle.endpoint.proofs.Laws.Ends.{remade, refused-done, refused-did, queued-did}
 use Rattle.endpoint.proofs.Laws.Settled.{done-settled, did-settled}
 use Rattle.codec.specs.Read.{bodyOnly}
@@ -63,12 +63,12 @@ module _ (e : Endpoint) (buffer : List ℕ) (frame : ℕ) (checksum : Wide) (now
         → Sends (remade e (e .pending) (e .acked) (e .history) (e .sync) (e .nonces) c (e .flags) (e .quality) (e .statuses) (e .checksums) (e .events) (q .end)) Answer.Done b′
     unfolding step checksumStep tested checksumSent queueWire seen termsWith
     send-checksum-done c room ok ec =
-        queued-did e _ Sending (checksumStep frame checksum now (length buffer) (seen e))
+        queued-did e _ (record { setup = refl; count = refl }) Sending (checksumStep frame checksum now (length buffer) (seen e))
         (rw (good, room-one buffer Sending _ (omega arith) refl room (not-true _ (sym (eq .ok) ∙ ok))))
         _ refl buffer b′ q eq ok refl (rw (ec, append-nil))
 
   pub send-checksum-report-settled : (r s : Ended) (b c : List ℕ) → DidAs e Sent buffer r b → DidAs e Sent buffer s c
-      → (r .answer ≡ s .answer) × (seen (r .endpoint) ≡ seen (s .endpoint)) × (b ≡ c)
+      → (r .answer ≡ s .answer) × (seen (r .endpoint) ≡ seen (s .endpoint)) × SameTerms (r .endpoint) (s .endpoint) × (b ≡ c)
   send-checksum-report-settled = did-settled e Sent buffer
 
 -- ---- update_local_frame_advantage
@@ -93,7 +93,7 @@ module _ (e : Endpoint) (frame : ℕ) where
   Advances n a = DoneAs e Advanced (record { answer = a; endpoint = n })
 
   pub update-local-frame-advantage-settled : (r s : Ended) → DoneAs e Advanced r → DoneAs e Advanced s
-      → (r .answer ≡ s .answer) × (seen (r .endpoint) ≡ seen (s .endpoint))
+      → (r .answer ≡ s .answer) × (seen (r .endpoint) ≡ seen (s .endpoint)) × SameTerms (r .endpoint) (s .endpoint)
   update-local-frame-advantage-settled = done-settled e Advanced
 
   unknown : bothKnown frame (seen e) ≡ false → Advances e Answer.Done
@@ -125,4 +125,4 @@ module _ (e : Endpoint) (frame : ℕ) where
       unfolding step advantageStep advantageUpdated localAdvantage tested seen termsWith
       advantage-shown m y h ey =
           rw (← en, ne-eqb frame nullFrame known, ne-eqb newest nullFrame some, shown-frames Overflows Behind m h .0, ey, shown-frames Overflows Behind m h .1)
-          (record { answer = refl; after = refl; same = λ n. absurd (n refl) })
+          (record { answer = refl; after = refl; terms = record { setup = refl; count = refl }; same = λ n. absurd (n refl) })

@@ -29,6 +29,7 @@ use Rattle.events.specs.declared.Event.the-variants.{Disconnected}
 use Rattle.events.specs.declared.Pushed.{Pushed as PushedEvents}
 use Rattle.events.proofs.Laws.{pushed-if}
 use Rattle.setup.specs.Setup.{termsOf, termsWith, sendingWidth}
+use Rattle.timers.specs.declared.Clocks.{Clocks}
 use Rattle.timers.specs.Timers as Timers
 use Rattle.timers.specs.Timers.{badClock}
 use Rattle.outbox.specs.declared.Queued.{Queued}
@@ -41,7 +42,7 @@ use Rattle.endpoint_rules.specs.Call.{Call}
 use Rattle.endpoint_rules.specs.Step.{step, sendStep}
 use Rattle.endpoint.specs.declared.Endpoint.{Endpoint}
 use Rattle.endpoint.specs.declared.Ended.{Ended}
-use Rattle.endpoint.specs.Endpoint.{seen, DidAs}
+use Rattle.endpoint.specs.Endpoint.{seen, SameTerms, DidAs}
 use Rattle.endpoint.proofs.Laws.Room.{crowded, roomy, full-events, full-bytes, room-bytes}
 use Rattle.endpoint.proofs.Laws.Ends.{remade, refused-did, batch-did}
 use Rattle.endpoint.proofs.Laws.Act.Batch.{written-one}
@@ -187,17 +188,18 @@ module _ (e : Endpoint) (frame : ℕ) (bytes : List ℕ) (st : Statuses) (now : 
                 -- s: e after what is announced
                 pub send-done : f ≡ false → (s : Endpoint) → Announcing e n s → (a : ℕ) → a ≡ newestOf (received (s .history)) → (q : Queued) (b′ : List ℕ)
                     → QueuedAs buffer (s .queued) (pendingInput (s .setup .magic) a (heldStatuses st) (waiting (p .pending)) w (e .acked)) q b′
-                    → Sends (remade s (p .pending) (s .acked) (s .history) (s .sync) (s .nonces) (Timers.sentAt now (s .clocks)) (s .flags) (s .quality) (s .statuses) (s .checksums) (s .events) (q .end)) Done b′
+                    → (c : Clocks) → c ≡ Timers.sentAt now (s .clocks)
+                    → Sends (remade s (p .pending) (s .acked) (s .history) (s .sync) (s .nonces) c (s .flags) (s .quality) (s .statuses) (s .checksums) (s .events) (q .end)) Done b′
                 unfolding seen accepted termsWith
                 send-done k s es =
                     let fit : bufferFull (length buffer) (e .queued) (queueSize (Sending .out)) ≡ false = rw (whole, ← ef, k) in
-                    rw (es .rest) (λ a ea q b′ eq.
-                    batch-did e _ Sending Does buffer b′ (q .end)
+                    rw (es .rest) (λ a ea q b′ eq c ec.
+                    batch-did e _ (record { setup = refl; count = refl }) Sending Does buffer b′ (q .end)
                     (send-fits (sym (ep .ok) ∙ ok) (room-bytes buffer Sending (rw (← announcing) (es .room)) fit))
-                    refl (written-one buffer (e .queued) _ q b′ (rw (ea, ew, pends) at eq) fit) (rw (pends, es .view, announcing)))
+                    refl (written-one buffer (e .queued) _ q b′ (rw (ea, ew, pends) at eq) fit) (rw (pends, ec, es .view, announcing)))
 
   pub send-input-settled : (r s : Ended) (b c : List ℕ) → DidAs e Does buffer r b → DidAs e Does buffer s c
-      → (r .answer ≡ s .answer) × (seen (r .endpoint) ≡ seen (s .endpoint)) × (b ≡ c)
+      → (r .answer ≡ s .answer) × (seen (r .endpoint) ≡ seen (s .endpoint)) × SameTerms (r .endpoint) (s .endpoint) × (b ≡ c)
   send-input-settled = did-settled e Does buffer
 
 -- The test of a sent frame, by a difference, since the sum may leave u32.

@@ -11,6 +11,7 @@ use lib.Seq.{length-take-le}
 use Rattle.base.specs.Pick.{pick}
 use Rattle.base.specs.Lay.{laidAt}
 use Rattle.base.proofs.Lay.{laid-none, laid-first}
+use Rattle.base.proofs.Arrays.{take-count}
 use Rattle.base.proofs.Settled.{settled}
 use Rattle.answer.specs.declared.Answer.the-variants.{Done, Full}
 use Rattle.events.specs.Events.{heldEvents}
@@ -24,9 +25,9 @@ use Rattle.endpoint.specs.declared.Endpoint.{Endpoint}
 use Rattle.endpoint.specs.declared.Ended.{Ended}
 use Rattle.endpoint.specs.declared.taking.TakenEvents.{TakenEvents}
 use Rattle.endpoint.specs.declared.taking.TakenMessages.{TakenMessages}
-use Rattle.endpoint.specs.Endpoint.{seen, DoneAs}
+use Rattle.endpoint.specs.Endpoint.{seen, SameTerms, DoneAs}
 use Rattle.endpoint.specs.Taken.{TakenAs, shorter, TakenIntoAs}
-use Rattle.endpoint.proofs.Laws.Settled.{done-settled}
+use Rattle.endpoint.proofs.Laws.Settled.{same-terms, done-settled}
 use Rattle.endpoint.proofs.Laws.Handshake.{false-true}
 use Rattle.endpoint.proofs.Laws.Ends.{remade, refused-done}
 
@@ -47,9 +48,12 @@ filled-part b queued n buffer h =
     sym (length-take-le n buffer fits)
 
 module _ (e : Endpoint) where
-  pub takes-events : TakenAs e (record { events = e .events; endpoint = remade e (e .pending) (e .acked) (e .history) (e .sync) (e .nonces) (e .clocks) (e .flags) (e .quality) (e .statuses) (e .checksums) (record { entries = e .events .entries; used = 0 }) (e .queued) })
-  unfolding valueOf step seen
-  takes-events = record { events = refl; after = rw (held-none (e .events)) }
+  -- n: how many there are
+  pub takes-events : (n : ℕ) → n ≡ length (heldEvents (e .events)) → TakenAs e (record { events = record { entries = e .events .entries; used = n }; endpoint = remade e (e .pending) (e .acked) (e .history) (e .sync) (e .nonces) (e .clocks) (e .flags) (e .quality) (e .statuses) (e .checksums) (record { entries = e .events .entries; used = 0 }) (e .queued) })
+  unfolding valueOf step seen heldEvents
+  takes-events n h =
+      let same : take n (e .events .entries) ≡ heldEvents (e .events) = rw h (sym (take-count (e .events .used) (e .events .entries))) in
+      record { events = ap Value.events same; count = h ∙ ap length (sym same); after = rw (held-none (e .events)); terms = record { setup = refl; count = refl } }
 
   module _ (room : ℕ) where
     pub take-short : not (isShutdown (e .sync .phase)) && ltb room (e .queued) ≡ true → DoneAs e (step (Call.takeMessages room) (seen e)) (record { answer = Full; endpoint = e })
@@ -59,7 +63,7 @@ module _ (e : Endpoint) where
     pub take-done : not (isShutdown (e .sync .phase)) && ltb room (e .queued) ≡ false
         → DoneAs e (step (Call.takeMessages room) (seen e)) (record { answer = Done; endpoint = remade e (e .pending) (e .acked) (e .history) (e .sync) (e .nonces) (e .clocks) (e .flags) (e .quality) (e .statuses) (e .checksums) (e .events) 0 })
     unfolding step takeStep tested seen
-    take-done h = rw h (record { answer = refl; after = refl; same = λ n. absurd (n refl) })
+    take-done h = rw h (record { answer = refl; after = refl; terms = record { setup = refl; count = refl }; same = λ n. absurd (n refl) })
 
     pub handed-is : pick (isShutdown (e .sync .phase)) 0 (pick (ltb room (e .queued)) 0 (e .queued)) ≡ handedBack room (seen e)
     unfolding handedBack step takeStep tested refused filledPart seen
@@ -104,8 +108,11 @@ module _ (e : Endpoint) (queue into : List ℕ) where
 -- ---- two answers that a contract allows are equal: stores up to what their array holds past the count
 
 module _ (e : Endpoint) where
-  pub take-events-settled : (r s : TakenEvents) → TakenAs e r → TakenAs e s → (heldEvents (r .events) ≡ heldEvents (s .events)) × (seen (r .endpoint) ≡ seen (s .endpoint))
-  take-events-settled r s a b = (same (a .events) (b .events), a .after ∙ sym (b .after))
+  pub take-events-settled : (r s : TakenEvents) → TakenAs e r → TakenAs e s
+      → (heldEvents (r .events) ≡ heldEvents (s .events)) × (r .events .used ≡ s .events .used) × (seen (r .endpoint) ≡ seen (s .endpoint)) × SameTerms (r .endpoint) (s .endpoint)
+  take-events-settled r s a b =
+      let held : heldEvents (r .events) ≡ heldEvents (s .events) = same (a .events) (b .events) in
+      (held, a .count ∙ ap length held ∙ sym (b .count), a .after ∙ sym (b .after), same-terms e (a .terms) (b .terms))
     where
       same : Value.events (heldEvents (r .events)) ≡ valueOf Call.takeEvents (seen e) → Value.events (heldEvents (s .events)) ≡ valueOf Call.takeEvents (seen e) → heldEvents (r .events) ≡ heldEvents (s .events)
       same x y = cc
@@ -114,15 +121,15 @@ module _ (e : Endpoint) where
     abbrev Took : Did
     Took = step (Call.takeMessages (length buffer)) (seen e)
 
-    pub take-messages-settled : (r s : Ended) → DoneAs e Took r → DoneAs e Took s → (r .answer ≡ s .answer) × (seen (r .endpoint) ≡ seen (s .endpoint))
+    pub take-messages-settled : (r s : Ended) → DoneAs e Took r → DoneAs e Took s → (r .answer ≡ s .answer) × (seen (r .endpoint) ≡ seen (s .endpoint)) × SameTerms (r .endpoint) (s .endpoint)
     take-messages-settled = done-settled e Took
 
     pub take-messages-into-settled : (into : List ℕ) (r s : TakenMessages) (b c : List ℕ) → TakenIntoAs e buffer into r b → TakenIntoAs e buffer into s c
-        → (r .answer ≡ s .answer) × (seen (r .endpoint) ≡ seen (s .endpoint)) × (r .count ≡ s .count) × (b ≡ c)
+        → (r .answer ≡ s .answer) × (seen (r .endpoint) ≡ seen (s .endpoint)) × SameTerms (r .endpoint) (s .endpoint) × (r .count ≡ s .count) × (b ≡ c)
     take-messages-into-settled into r s b c x y =
         let same : r .count ≡ s .count = x .count ∙ sym (y .count) in
         let t = done-settled e (step (Call.takeMessages (shorter buffer into)) (seen e)) _ _ (x .taken) (y .taken) in
-        (t .0, t .1, same, x .lent ∙ ap (λ n. laidAt into 0 (take n buffer)) same ∙ sym (y .lent))
+        (t .0, t .1, t .2, same, x .lent ∙ ap (λ n. laidAt into 0 (take n buffer)) same ∙ sym (y .lent))
 
     pub messages-settled : (r s : List ℕ) → r ≡ take (handedBack (length buffer) (seen e)) buffer → s ≡ take (handedBack (length buffer) (seen e)) buffer → r ≡ s
     messages-settled = settled (λ r. r) (take (handedBack (length buffer) (seen e)) buffer)

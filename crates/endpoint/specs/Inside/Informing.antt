@@ -6,7 +6,8 @@ use Prim.Native.Nat.{ℕ}
 use Rattle.base.specs.Pick.{pick}
 use Rattle.status.specs.declared.ConnectionStatus.{ConnectionStatus}
 use Rattle.status.specs.Status.{reported}
-use Rattle.status.specs.Statuses.{mergedAll, heldStatuses}
+use Rattle.status.specs.declared.list.Statuses.{Statuses}
+use Rattle.status.specs.Statuses.{mergedAll, heldStatuses, HeldAs}
 use Rattle.codec.specs.declared.StatusReport.{StatusReport}
 use Rattle.timers.specs.declared.Clocks.{Clocks}
 use Rattle.timers.specs.Timers.{heardAt}
@@ -24,9 +25,9 @@ announcedFlags announces f = pick announces (record { «disconnect_notify_sent»
 abbrev pub statusesOf : List StatusReport → List ConnectionStatus
 statusesOf l = map (λ (x : StatusReport). reported (x .disconnected) (x .«last_frame»)) l
 
-pub record InformedAs (phase : Phase) (c : Clocks) (f : Flags) (l : List ConnectionStatus) (requested : Bool) (reports : List StatusReport) (now : ℕ) (r : Informed) : Type 0 where
+pub record InformedAs (phase : Phase) (c : Clocks) (f : Flags) (s : Statuses) (requested : Bool) (reports : List StatusReport) (now : ℕ) (r : Informed) : Type 0 where
   pub resumes : r .resumes ≡ heardBy phase c f now .resumes
   pub disconnects : r .disconnects ≡ (requested && announcesBy phase (heardBy phase c f now .flags))
   pub clocks : r .clocks ≡ heardAt now c
   pub flags : r .flags ≡ announcedFlags (r .disconnects) (heardBy phase c f now .flags)
-  pub statuses : heldStatuses (r .statuses) ≡ pick requested l (mergedAll l (statusesOf reports))
+  pub statuses : HeldAs (pick requested (heldStatuses s) (mergedAll (heldStatuses s) (statusesOf reports))) (s .count) (r .statuses)

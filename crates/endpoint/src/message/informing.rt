@@ -1,14 +1,11 @@
 // What an Input brings besides inputs and an acknowledgement: either the other end's statuses or its request to disconnect.
 ghost use mathlib.Core.Path.{_≡_};
 ghost use mathlib.Core.Bool.{true, _&&_};
-ghost use mathlib.Core.List.{map};
 ghost use Rattle.base.specs.Pick.{pick};
-ghost use Rattle.status.specs.Status.{reported};
-ghost use Rattle.status.specs.Statuses.{heldStatuses, mergedAll};
+ghost use Rattle.status.specs.Statuses.{heldStatuses, HeldAs, mergedAll};
 ghost use Rattle.codec.specs.Message.{reportList};
-ghost use Rattle.codec.specs.declared.StatusReport.{StatusReport};
 ghost use Rattle.endpoint_rules.specs.Receiving.{announcesBy};
-ghost use Rattle.endpoint.specs.Inside.Informing.{InformedAs};
+ghost use Rattle.endpoint.specs.Inside.Informing.{statusesOf, InformedAs};
 use crate::message::hearing;
 use ceilings::MOST_PLAYERS;
 use codec::StatusReports;
@@ -27,7 +24,7 @@ pub struct Informed {
 }
 
 fn merge_reports(statuses: Statuses, reports: StatusReports) -> Statuses
-    ensures { λ r. ⌜ heldStatuses r ≡ mergedAll (heldStatuses statuses) (map (λ (x : StatusReport). reported (x .disconnected) (x .«last_frame»)) (reportList reports)) ⌝ }
+    ensures { λ r. ⌜ HeldAs (mergedAll (heldStatuses statuses) (statusesOf (reportList reports))) (statuses .count) r ⌝ }
 {
     let mut next = statuses;
     let mut i = 0;
@@ -45,7 +42,7 @@ fn informed_statuses(
     disconnect_requested: bool,
     reports: StatusReports,
 ) -> Statuses
-    ensures { λ r. ⌜ heldStatuses r ≡ pick «disconnect_requested» (heldStatuses statuses) (mergedAll (heldStatuses statuses) (map (λ (x : StatusReport). reported (x .disconnected) (x .«last_frame»)) (reportList reports))) ⌝ }
+    ensures { λ r. ⌜ HeldAs (pick «disconnect_requested» (heldStatuses statuses) (mergedAll (heldStatuses statuses) (statusesOf (reportList reports)))) (statuses .count) r ⌝ }
 {
     if disconnect_requested {
         return statuses;
@@ -87,7 +84,7 @@ pub(crate) fn inform(
     reports: StatusReports,
     now: u64,
 ) -> Informed
-    ensures { λ r. ⌜ InformedAs phase clocks flags (heldStatuses statuses) «disconnect_requested» (reportList reports) now r ⌝ }
+    ensures { λ r. ⌜ InformedAs phase clocks flags statuses «disconnect_requested» (reportList reports) now r ⌝ }
 {
     let heard = hearing::hear(phase, clocks, flags, now);
     let disconnects = announces_disconnect(disconnect_requested, phase, heard.flags);

@@ -2,11 +2,12 @@
 ghost use Rattle.endpoint.specs.Inside.Reaction.{ReactedAs};
 use codec::MessageBody;
 use quality::Quality;
+use timers::Clocks;
 
 // The plain parts of an endpoint that such a message may change; `ok` says whether all that it brings has room.
 pub struct Reacted {
     pub quality: Quality,
-    pub last_send_time: u64,
+    pub clocks: Clocks,
     pub end: usize,
     pub ok: bool,
 }
@@ -16,18 +17,18 @@ pub(crate) fn react(
     body: MessageBody,
     full: bool,
     quality: Quality,
-    last_send_time: u64,
+    clocks: Clocks,
     now: u64,
     epoch: u64,
     magic: u16,
     out: &mut [u8],
     queued: usize,
 ) -> Reacted
-    ensures { λ r. ⌜ ReactedAs body full quality «last_send_time» now epoch magic (out .entry .now) queued r (out .exit .now) ⌝ }
+    ensures { λ r. ⌜ ReactedAs body full quality clocks now epoch magic (out .entry .now) queued r (out .exit .now) ⌝ }
 {
     let noted = Reacted {
         quality,
-        last_send_time,
+        clocks,
         end: queued,
         ok: !full,
     };
@@ -49,7 +50,7 @@ pub(crate) fn react(
             );
             Reacted {
                 quality,
-                last_send_time: now,
+                clocks: clocks.sent(now),
                 end: replied.end,
                 ok: replied.ok,
             }
@@ -70,7 +71,7 @@ pub(crate) fn react(
             );
             Reacted {
                 quality: quality.remote(frame_advantage),
-                last_send_time: now,
+                clocks: clocks.sent(now),
                 end: replied.end,
                 ok: replied.ok,
             }

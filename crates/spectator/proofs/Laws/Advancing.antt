@@ -24,8 +24,8 @@ use Rattle.spectator_rules.specs.Step.{step, advanceStep, decided, refused, cha
 use Rattle.spectator.specs.declared.SpectatorSession.{SpectatorSession}
 use Rattle.spectator.specs.declared.advancing.Advanced.{Advanced}
 use Rattle.spectator.specs.declared.requests.Requests.{Requests}
-use Rattle.spectator.specs.Stores.{inputsOf, requestFrames}
-use Rattle.spectator.specs.Session.{seen}
+use Rattle.spectator.specs.Stores.{inputsOf, RequestsAs}
+use Rattle.spectator.specs.Session.{seen, advancedTo}
 use Rattle.spectator.specs.Answers.{AdvancedAs}
 
 -- ---- how many frames
@@ -83,7 +83,7 @@ module _ (s : SpectatorSession) where
   step-done h = rw (eq-eqb (advanceRefusal (seen s)) 0 h)
 
   refused-by : (a : Answer) → numberOf a ≡ advanceRefusal (seen s) → (numberOf a ≡ 0 → ⊥)
-      → (r : Advanced) → (r .answer ≡ a) × (requestFrames (r .requests) ≡ []) × (r .session ≡ s) → AdvancedAs s r
+      → (r : Advanced) → (r .answer ≡ a) × RequestsAs [] (r .requests) × (r .session ≡ s) → AdvancedAs s r
   unfolding refused
   refused-by a h n r er =
       let k : advanceRefusal (seen s) ≡ 0 → ⊥ = λ e. n (h ∙ e) in
@@ -91,11 +91,12 @@ module _ (s : SpectatorSession) where
         answer = rw (step-refused k) (ap numberOf (er .0) ∙ h);
         after = rw (step-refused k) (ap seen (er .2));
         requests = rw (step-refused k, ne-eqb (advanceRefusal (seen s)) 0 k) (er .1);
+        own = rw (er .2);
         same = λ _. er .2;
       }
 
   pub refused-early : (a : Answer) → numberOf a ≡ firstOf (advanceTests (seen s)) → (numberOf a ≡ 0 → ⊥)
-      → (r : Advanced) → (r .answer ≡ a) × (requestFrames (r .requests) ≡ []) × (r .session ≡ s) → AdvancedAs s r
+      → (r : Advanced) → (r .answer ≡ a) × RequestsAs [] (r .requests) × (r .session ≡ s) → AdvancedAs s r
   unfolding advanceRefusal
   refused-early a h n = refused-by a (h ∙ rw (ne-eqb (firstOf (advanceTests (seen s))) 0 (λ e. n (h ∙ e)))) n
 
@@ -105,15 +106,15 @@ module _ (s : SpectatorSession) where
     past = rw (eq-eqb (firstOf (advanceTests (seen s))) 0 free)
 
     pub refused-late : (a : Answer) → numberOf a ≡ framesRefusal (framesToAdvance (seen s)) (suc (seen s .current)) (seen s) → (numberOf a ≡ 0 → ⊥)
-        → (r : Advanced) → (r .answer ≡ a) × (requestFrames (r .requests) ≡ []) × (r .session ≡ s) → AdvancedAs s r
+        → (r : Advanced) → (r .answer ≡ a) × RequestsAs [] (r .requests) × (r .session ≡ s) → AdvancedAs s r
     refused-late a h n = refused-by a (h ∙ sym past) n
 
     pub advances : (a : Answer) → a ≡ Done → numberOf a ≡ framesRefusal (framesToAdvance (seen s)) (suc (seen s .current)) (seen s)
-        → (n : ℕ) → n ≡ framesToAdvance (seen s) → (q : Requests) → requestFrames q ≡ requestsOf (seen s)
+        → (n : ℕ) → n ≡ framesToAdvance (seen s) → (q : Requests) → RequestsAs (requestsOf (seen s)) q
         → AdvancedAs s (record {
           answer = a;
           requests = q;
-          session = record { host = s .host; limits = s .limits; state = s .state; inputs = s .inputs; statuses = s .statuses; events = s .events; «current_frame» = s .«current_frame» + n; «last_recv_frame» = s .«last_recv_frame» };
+          session = advancedTo s (s .«current_frame» + n);
         })
     unfolding seen
     advances a d h n en q eq =
@@ -122,6 +123,7 @@ module _ (s : SpectatorSession) where
           answer = rw (step-done z, d);
           after = rw (step-done z, en);
           requests = rw (step-done z) eq;
+          own = refl;
           same = λ k. absurd (k (rw (step-done z)));
         }
 

@@ -3,6 +3,7 @@ use mathlib.Core.Bool.{Bool, true, false}
 use mathlib.Core.Path.{_≡_, refl, ap, _∙_}
 use Prim.Native.Nat.{ℕ, _-_}
 use lib.Dec.{eqb}
+use lib.ListN.{length}
 use Rattle.base.specs.Pick.{pick}
 use Rattle.quality.specs.Advantage.{differenceOverflows}
 use Rattle.setup.specs.Setup.{termsWith}
@@ -21,8 +22,9 @@ use Rattle.spectator_rules.specs.Value.{Value, valueOf}
 use Rattle.spectator.specs.declared.SpectatorSession.{SpectatorSession}
 use Rattle.spectator.specs.declared.getters.FramesBehind.the-variants.{Frames, Overflow}
 use Rattle.spectator.specs.Stores.{eventsOf}
-use Rattle.spectator.specs.Session.{seen}
+use Rattle.spectator.specs.Session.{seen, keeping}
 use Rattle.spectator.specs.Answers.{shown, shownStats, shownBehind, TakenAs}
+use Rattle.spectator.proofs.Laws.Counts.{events-counted, own-count}
 
 -- the host's values that its statistics are shown as, as the session's
 abbrev carriedOver : HostValue → Value
@@ -61,12 +63,14 @@ module _ (s : SpectatorSession) where
   unfolding valueOf seen seenHost termsWith
   shows-players = refl
 
-  pub takes-events : TakenAs s (record {
-    session = record { host = s .host; limits = s .limits; state = s .state; inputs = s .inputs; statuses = s .statuses; events = record { entries = s .events .entries; used = 0 }; «current_frame» = s .«current_frame»; «last_recv_frame» = s .«last_recv_frame» };
-    events = s .events;
+  pub takes-events : (n : ℕ) → n ≡ length (eventsOf (s .events)) → TakenAs s (record {
+    session = keeping s (record { entries = s .events .entries; used = 0 });
+    events = record { entries = s .events .entries; used = n };
   })
   unfolding valueOf step seen eventsOf
-  takes-events = record { events = refl; after = refl }
+  takes-events n e =
+      let held = events-counted n (s .events) e in
+      record { events = ap Value.events (held .0); count = own-count held; after = refl; own = refl; left = refl }
 
   -- how far behind
   pub behind-overflow : differenceOverflows (s .«last_recv_frame») (s .«current_frame») ≡ true → shownBehind Overflow ≡ shown Call.framesBehindHost (seen s)

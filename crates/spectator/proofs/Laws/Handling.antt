@@ -19,7 +19,7 @@ use Rattle.quality.specs.declared.Advantage.the-variants.{Frames, Overflow}
 use Rattle.quality.specs.Quality.{localSet}
 use Rattle.quality.specs.Advantage.{advantageOf, advantageOverflows, shownAdvantage}
 use Rattle.status.specs.declared.list.Statuses.{Statuses}
-use Rattle.status.specs.Statuses.{heldStatuses}
+use Rattle.status.specs.Statuses.{heldStatuses, HeldAs}
 use Rattle.endpoint_rules.specs.Seen.{Seen, withQuality}
 use Rattle.endpoint_rules.specs.Did.{refused, tested}
 use Rattle.endpoint_rules.specs.Did.Verdict.{refuse}
@@ -35,8 +35,9 @@ use Rattle.spectator.specs.declared.handling.Terms.{Terms}
 use Rattle.spectator.specs.declared.handling.Parts.{Parts}
 use Rattle.spectator.specs.declared.inputs.Inputs.{Inputs}
 use Rattle.spectator.specs.declared.session_events.SessionEvents.{SessionEvents}
-use Rattle.spectator.specs.Stores.{inputsOf, eventsOf}
+use Rattle.spectator.specs.Stores.{inputsOf, eventsOf, InputsAs, EventsAs}
 use Rattle.spectator.specs.Inside.Handling.{qualityAfter, runningParts, ChangedAs}
+use Rattle.spectator.proofs.Laws.Counts.{own-count}
 
 -- ---- the advantage
 
@@ -89,27 +90,34 @@ advantage-after frame s =
 -- ---- one event
 
 module _ (t : Terms) (p : Parts) where
-  pub announce-changes : (x : SessionEvent) (events : SessionEvents) → eventsOf events ≡ eventAdded (t .limits .«session_events») (record { addr = t .addr; event = x }) (eventsOf (p .events))
+  pub announce-changes : (x : SessionEvent) (events : SessionEvents) → EventsAs (eventAdded (t .limits .«session_events») (record { addr = t .addr; event = x }) (eventsOf (p .events))) events
       → ChangedAs t (announce x) p (record { state = p .state; inputs = p .inputs; statuses = p .statuses; events = events; «last_recv_frame» = p .«last_recv_frame»; quality = p .quality })
   unfolding announce
-  announce-changes x events h = record { each = λ w k. rw (h, k .limits, k .addr) }
+  announce-changes x events h =
+      record {
+        each = λ w k. rw (h .0, k .limits, k .addr);
+        counted = λ k. record { inputs = k .inputs; statuses = k .statuses; events = own-count h };
+      }
 
   pub store-changes : (frame player : ℕ) (input : List ℕ) (inputs : Inputs) (quality : Quality) (statuses : Statuses)
-      → inputsOf inputs ≡ inputStored (t .limits .slots) frame player input (inputsOf (p .inputs)) → quality ≡ qualityAfter (t .newest) (t .fps) frame (p .quality)
-      → heldStatuses statuses ≡ heldStatuses (t .statuses)
+      → InputsAs (inputStored (t .limits .slots) frame player input (inputsOf (p .inputs))) inputs → quality ≡ qualityAfter (t .newest) (t .fps) frame (p .quality)
+      → HeldAs (heldStatuses (t .statuses)) (length (heldStatuses (t .statuses))) statuses
       → ChangedAs t (inputHandled frame player input) p (record { state = p .state; inputs = inputs; statuses = statuses; events = p .events; «last_recv_frame» = frame; quality = quality })
   unfolding inputHandled
   store-changes frame player input inputs quality statuses hi hq hs =
-      record { each = λ w k. rw (advantage-after frame (withQuality (p .quality) (w .host)), hi, hq, hs, k .limits, k .newest, k .fps, k .statuses) }
+      record {
+        each = λ w k. rw (advantage-after frame (withQuality (p .quality) (w .host)), hi .0, hq, hs .0, k .limits, k .newest, k .fps, k .statuses);
+        counted = λ k. record { inputs = own-count hi; statuses = own-count hs; events = k .events };
+      }
 
 module _ (t : Terms) (p r : Parts) where
   -- an event that is handled by its kind
   pub by-kind : (x : Entry) (v : Event) → x .event ≡ v → ChangedAs t (onEvent v (x .input)) p r → ChangedAs t (handled x) p r
   unfolding handled
-  by-kind x v e h = record { each = λ w k. rw e (h .each w k) }
+  by-kind x v e h = record { each = λ w k. rw e (h .each w k); counted = h .counted }
 
   pub by-running : (q : Parts) (input : List ℕ) → q ≡ runningParts p → ChangedAs t (announce SessionEvent.Synchronized) q r → ChangedAs t (onEvent Event.Synchronized input) p r
-  by-running q input e h = record { each = λ w k. h .each w k ∙ rw e }
+  by-running q input e h = record { each = λ w k. h .each w k ∙ rw e; counted = λ k. h .counted (rw e k) }
 
 -- ---- all events
 

@@ -19,9 +19,11 @@ module _ (s : SpectatorSession) (d : HostDid) (e : HostEnded) (r : Ended) (er : 
         answer = ap numberOf (er .0) ∙ h .answer;
         after = rw (er .1, h .after);
         lent = h .lent;
+        own = rw (er .1);
+        terms = rw (er .1) (h .terms);
         same = λ n. er .1 ∙ ap (hosted s) (h .same n);
       }
 
   pub host-done : HostDoneAs (s .host) d e → DoneAs s (byHost d (seen s)) r
   unfolding byHost seen
-  host-done h = record { answer = ap numberOf (er .0) ∙ h .answer; after = rw (er .1, h .after); same = λ n. er .1 ∙ ap (hosted s) (h .same n) }
+  host-done h = record { answer = ap numberOf (er .0) ∙ h .answer; after = rw (er .1, h .after); own = rw (er .1); terms = rw (er .1) (h .terms); same = λ n. er .1 ∙ ap (hosted s) (h .same n) }

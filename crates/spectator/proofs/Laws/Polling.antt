@@ -34,7 +34,7 @@ use Rattle.endpoint_rules.specs.Value.{Value as HostValue, valueOf as hostValue
 use Rattle.endpoint.specs.declared.Endpoint.{Endpoint}
 use Rattle.endpoint.specs.declared.Ended.{Ended as HostEnded}
 use Rattle.endpoint.specs.declared.taking.TakenEvents.{TakenEvents}
-use Rattle.endpoint.specs.Endpoint.{seen as seenHost, DidAs as HostDidAs, DoneAs as HostDoneAs}
+use Rattle.endpoint.specs.Endpoint.{seen as seenHost, SameTerms, DidAs as HostDidAs, DoneAs as HostDoneAs}
 use Rattle.endpoint.specs.Taken.{TakenAs}
 use Rattle.spectator_rules.specs.Watch.{Watch}
 use Rattle.spectator_rules.specs.Handling.{handledAll}
@@ -43,15 +43,35 @@ use Rattle.spectator_rules.specs.Step.{step, refused, decided, hostActs, hostTa
 use Rattle.status.specs.declared.list.Statuses.{Statuses}
 use Rattle.status.specs.Statuses.{heldStatuses, HeldAs}
 use Rattle.spectator.specs.declared.SpectatorSession.{SpectatorSession}
+use Rattle.spectator.specs.declared.handling.Parts.{Parts}
 use Rattle.spectator.specs.declared.polling.Polled.{Polled}
-use Rattle.spectator.specs.Session.{seen, hosted}
+use Rattle.spectator.specs.Stores.{inputsOf, eventsOf}
+use Rattle.spectator.specs.Session.{seen, Counted, hosted}
 use Rattle.spectator.specs.Answers.{polledPart, PolledAs, TakenInAs}
+use Rattle.spectator.specs.Inside.Handling.{assembled, PartsCounted}
+use Rattle.spectator.proofs.Laws.Counts.{inputs-counted, events-counted, own-count}
 use Rattle.spectator.proofs.Laws.Handling.{handled-append}
 
 -- the frame that `last_recv_frame` gives
 pub newest-shown : (e : Endpoint) (n : ℕ) → HostValue.frame n ≡ hostValueOf (HostCall.ask HostQuestion.newestFrame) (seenHost e) → n ≡ newest (seenHost e)
 unfolding hostValueOf
 newest-shown e n h = cc
+
+-- the parts of a session, with each count set to the number of what its store holds
+pub parts-counted : (s : SpectatorSession) (n : ℕ) → n ≡ length (inputsOf (s .inputs))
+    → (statuses : Statuses) → HeldAs (heldStatuses (s .statuses)) (length (heldStatuses (s .statuses))) statuses
+    → (m : ℕ) → m ≡ length (eventsOf (s .events))
+    → let p : Parts = record { state = s .state; inputs = record { entries = s .inputs .entries; used = n }; statuses = statuses; events = record { entries = s .events .entries; used = m }; «last_recv_frame» = s .«last_recv_frame»; quality = s .host .quality } in
+    (assembled (seen s) p ≡ seen s) × PartsCounted p
+unfolding seen seenHost
+parts-counted s n en statuses es m em =
+    let i = inputs-counted n (s .inputs) en in
+    let e = events-counted m (s .events) em in
+    (rw (i .0, es .0, e .0), record { inputs = own-count i; statuses = own-count es; events = own-count e })
+
+-- what stays over one call and over the next stays over both
+terms-kept : (e r s : Endpoint) → SameTerms e r → SameTerms r s → SameTerms e s
+terms-kept e r s a b = record { setup = b .setup ∙ a .setup; count = b .count ∙ a .count }
 
 -- ---- taking messages does not look at events
 
@@ -105,26 +125,31 @@ module _ (s : SpectatorSession) (old : Events) (acted : Endpoint) (buffer : List
     number = et .answer ∙ rw apart (take-answer (length buffer) (seenHost acted))
 
     pub take-in-refused : (r : Polled) → (r .answer ≡ taken .answer) × (r .session ≡ s) × (r .filled ≡ 0) → (numberOf (taken .answer) ≡ 0 → ⊥)
-        → TakenInAs s (heldEvents old) (seenHost acted) (length buffer) r
+        → TakenInAs s (heldEvents old) acted (length buffer) r
     take-in-refused r er n =
         let k : takeStep (length buffer) (seenHost acted) .answer ≡ 0 → ⊥ = λ z. n (number ∙ z) in
         record {
           answer = ap numberOf (er .0) ∙ number;
           done = λ z. absurd (k z);
+          counted = λ z. absurd (k z);
+          terms = λ z. absurd (k z);
           filled = er .2 ∙ rw (ne-eqb (takeStep (length buffer) (seenHost acted) .answer) 0 k);
           same = λ _. er .1;
         }
 
     pub take-in-done : (part : List ℕ) → part ≡ take (handedBack (length buffer) (seenHost (new .endpoint))) buffer → taken .answer ≡ Done
         → (mid last : SpectatorSession) → seen mid ≡ handledAll (heldEvents old) (seen (hosted s (taken .endpoint))) → seen last ≡ handledAll (heldEvents (new .events)) (seen mid)
-        → TakenInAs s (heldEvents old) (seenHost acted) (length buffer) (record { answer = taken .answer; session = last; filled = length part })
+        → SameTerms (taken .endpoint) (mid .host) → SameTerms (mid .host) (last .host) → Counted last
+        → TakenInAs s (heldEvents old) acted (length buffer) (record { answer = taken .answer; session = last; filled = length part })
     unfolding seen hostStep handedBack filledPart
-    take-in-done part ep d mid last em el =
+    take-in-done part ep d mid last em el tm tl counts =
         let z : takeStep (length buffer) (seenHost acted) .answer ≡ 0 = sym number ∙ ap numberOf d in
         let f : handedBack (length buffer) (seenHost (new .endpoint)) ≤ length buffer = handed-fits (length buffer) (seenHost (new .endpoint)) in
         record {
           answer = number;
           done = λ _. el ∙ rw (em, news, et .after, apart, take-after (length buffer) (seenHost acted)) (sym (handled-append (heldEvents old) (seenHost acted .events) _));
+          counted = λ _. counts;
+          terms = λ _. terms-kept acted (new .endpoint) (last .host) (en .terms) (terms-kept (new .endpoint) (taken .endpoint) (last .host) (et .terms) (terms-kept (taken .endpoint) (mid .host) (last .host) tm tl));
           filled = ap length ep ∙ length-take-le _ buffer f ∙ rw (apart, take-answer (length buffer) (seenHost acted), z);
           same = λ n. absurd (n z);
         }
@@ -253,6 +278,8 @@ module _ (s : SpectatorSession) (now epoch nonce : ℕ) (buffer buffer′ : List
         after = ap seen es;
         lent = eb ∙ sym (laid-none buffer (s .host .queued));
         filled = rw (ne-eqb Refusal 0 n) ef;
+        counted = λ z. absurd (n z);
+        terms = rw es (record { setup = refl; count = refl });
         same = λ _. es;
       })
 
@@ -293,7 +320,7 @@ module _ (s : SpectatorSession) (now epoch nonce : ℕ) (buffer buffer′ : List
         let f : Refusal ≡ Acted .answer = rw (ne-eqb (Acted .answer) 0 k) in
         refused-poll r (ap numberOf (er .0) ∙ number-is ∙ sym f) (λ z. k (sym f ∙ z)) (er .1) (er .2) (kept (act-refused now epoch nonce (length buffer) (seen s) k))
 
-    module _ (d : acts .answer ≡ Done) (el : length buffer′ ≡ length buffer) (r : Polled) (et : TakenInAs s (heldEvents (old .events)) (seenHost (acts .endpoint)) (length buffer′) r) where
+    module _ (d : acts .answer ≡ Done) (el : length buffer′ ≡ length buffer) (r : Polled) (et : TakenInAs s (heldEvents (old .events)) (acts .endpoint) (length buffer′) r) where
       acted-is : Acted .answer ≡ 0
       acted-is = sym number-is ∙ ap numberOf d
 
@@ -317,6 +344,8 @@ module _ (s : SpectatorSession) (now epoch nonce : ℕ) (buffer buffer′ : List
             after = et .done t′ ∙ rw (take-is, olds, after-is);
             lent = lent-is;
             filled = et .filled ∙ rw (t′, after-is);
+            counted = λ _. et .counted t′;
+            terms = terms-kept (s .host) (old .endpoint) (r .session .host) (eo .terms) (terms-kept (old .endpoint) (acts .endpoint) (r .session .host) (ea .terms) (et .terms t′));
             same = λ n. absurd (n refl);
           })
 

@@ -7,7 +7,7 @@ use native.Mathlib.Omega.{arith}
 use Prim.Native.Nat.{ℕ, zero, suc, _+_, _≤_, _<_}
 use native.Mathlib.Nat.{add-suc, suc-add, add-zero}
 use native.Mathlib.Numerals.{add-one}
-use lib.ListN.{length, take, set, getD, length-map, List·getD-map}
+use lib.ListN.{length, take, set, getD, length-map, length-take, List·getD-map}
 use lib.Seq.{take-suc-set}
 use Rattle.base.proofs.Arrays.{view-at, view-le}
 use Rattle.base.proofs.Orders.{getD-within}
@@ -19,7 +19,8 @@ use Rattle.spectator_rules.specs.Inputs.{playerInputAt}
 use Rattle.spectator_rules.specs.Advance.{heldBy, syncedOf, frameInputsBy, requestsBy, frameRefusalBy, framesRefusalBy}
 use Rattle.spectator.specs.declared.requests.Request.{Request}
 use Rattle.spectator.specs.declared.requests.Requests.{Requests}
-use Rattle.spectator.specs.Stores.{requestOf, requestFrames}
+use Rattle.spectator.specs.Stores.{requestOf, requestFrames, RequestAs}
+use Rattle.spectator.proofs.Laws.Counts.{request-counted}
 
 -- ---- one player
 
@@ -65,6 +66,16 @@ module _ (slots : ℕ) (l : List PlayerInput) where
 -- ---- requests, one more at the end
 
 module _ (slots players : ℕ) (l : List PlayerInput) (s : List ConnectionStatus) where
+  -- a frame has an input for each player, and n frames are n
+  pub players-counted : (frame : ℕ) → players ≤ 4 → players ≡ length (frameInputsBy slots frame players l s)
+  unfolding frameInputsBy
+  players-counted frame h = simp length-take (omega arith)
+
+  pub frames-counted : (n frame : ℕ) → n ≡ length (requestsBy slots n frame players l s)
+  unfolding requestsBy
+  frames-counted zero frame = refl
+  frames-counted (suc n) frame = ap suc (frames-counted n (suc frame))
+
   requests-more : (n frame : ℕ) → requestsBy slots (suc n) frame players l s ≡ requestsBy slots n frame players l s ++ frameInputsBy slots (frame + n) players l s ∷ []
   unfolding requestsBy
   requests-more zero frame = rw add-zero
@@ -75,6 +86,14 @@ module _ (slots players frame k : ℕ) (l : List PlayerInput) (s : List Connecti
       → map requestOf (take (k + 1) (set frames k x)) ≡ requestsBy slots (k + 1) frame players l s
   request-turn h e q = rw (add-one, take-suc-set, map-append requestOf (take k frames) (x ∷ []), e, q, requests-more slots players l s k frame)
 
+  abbrev countOf : Request → ℕ
+  countOf r = r .used
+
+  pub count-turn : k < length frames → map countOf (take k frames) ≡ map length (requestsBy slots k frame players l s) → x .used ≡ length (frameInputsBy slots (frame + k) players l s)
+      → map countOf (take (k + 1) (set frames k x)) ≡ map length (requestsBy slots (k + 1) frame players l s)
+  count-turn h e q =
+      rw (add-one, take-suc-set, map-append countOf (take k frames) (x ∷ []), e, q, requests-more slots players l s k frame, map-append length (requestsBy slots k frame players l s) (frameInputsBy slots (frame + k) players l s ∷ []))
+
 -- ---- a frame, read from those advanced
 
 module _ (q : Requests) where
@@ -82,9 +101,13 @@ module _ (q : Requests) where
   unfolding requestFrames
   frames-fit = rw length-map (view-le (q .used) (q .frames))
 
-  pub frame-at : (i : ℕ) (d : Request) → i < length (requestFrames q) → requestOf (getD (q .frames) i d) ≡ getD (requestFrames q) i []
+  held-at : (i : ℕ) (d : Request) → i < length (requestFrames q) → requestOf (getD (q .frames) i d) ≡ getD (requestFrames q) i []
   unfolding requestFrames
-  frame-at i d h =
+  held-at i d h =
       let held : List Request = take (q .used) (q .frames) in
       let k : i < length held = rw length-map at h in
       ap requestOf (sym (view-at (q .used) (q .frames) i d k)) ∙ sym (List·getD-map requestOf held i d) ∙ getD-within (map requestOf held) i (requestOf d) [] h
+
+  pub frame-at : (i : ℕ) (d : Request) (n : ℕ) → i < length (requestFrames q) → n ≡ length (requestOf (getD (q .frames) i d))
+      → RequestAs (getD (requestFrames q) i []) (record { inputs = getD (q .frames) i d .inputs; used = n })
+  frame-at i d n h e = rw (← held-at i d h) (request-counted n (getD (q .frames) i d) e)

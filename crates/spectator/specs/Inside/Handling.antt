@@ -15,7 +15,7 @@ use Rattle.spectator_rules.specs.declared.SessionState.the-variants.{Running}
 use Rattle.spectator_rules.specs.Watch.{Watch}
 use Rattle.spectator.specs.declared.handling.Terms.{Terms}
 use Rattle.spectator.specs.declared.handling.Parts.{Parts}
-use Rattle.spectator.specs.Stores.{inputsOf, eventsOf}
+use Rattle.spectator.specs.Stores.{inputsOf, eventsOf, StoresCounted}
 
 abbrev pub assembled : Watch → Parts → Watch
 assembled w p =
@@ -56,6 +56,11 @@ pub record TermsOf (t : Terms) (w : Watch) : Type 0 where
   pub fps : t .fps ≡ w .host .setup .fps
   pub statuses : heldStatuses (t .statuses) ≡ w .host .statuses
 
--- a change of the parts is a change of every session that the terms are of
+-- the count of each store of the parts is the number of what it holds
+abbrev pub PartsCounted : Parts → Type 0
+PartsCounted p = StoresCounted (p .inputs) (p .statuses) (p .events)
+
+-- a change of the parts is a change of every session that the terms are of, and leaves right counts right
 pub record ChangedAs (t : Terms) (f : Watch → Watch) (p r : Parts) : Type 0 where
   pub each : (w : Watch) → TermsOf t w → assembled w r ≡ f (assembled w p)
+  pub counted : PartsCounted p → PartsCounted r

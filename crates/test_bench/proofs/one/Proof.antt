@@ -5,11 +5,11 @@ use lib.Seq.{length-take-le}
 use Rattle.test_bench.proofs.one.Statement.{statement}
 use Rattle.test_bench.proofs.one.Tie as tie
 
-slice-aggregate-read-full : tie.Need-slice-aggregate-read-full
-slice-aggregate-read-full c = search needs
+slice-aggregate-is-read : tie.Need-slice-aggregate-is-read
+slice-aggregate-is-read c = search needs
 
-read-full-requires : tie.Need-read-full-requires
-read-full-requires c κs = search needs
+is-read-requires : tie.Need-is-read-requires
+is-read-requires c κs = search needs
 
 returns : tie.Need-returns
 returns c = search needs
@@ -45,8 +45,8 @@ pub one-spec : {M : Type 1} → statement M
 one-spec =
     tie.close
     (tie.spec
-    slice-aggregate-read-full
-    read-full-requires
+    slice-aggregate-is-read
+    is-read-requires
     returns
     array-read-item
     count-of-requires

@@ -2,15 +2,16 @@
 use borrow.Author.Needs.{needs}
 use native.Mathlib.Omega.{arith}
 use mathlib.Core.Path.{_≡_}
+use Prim.Native.Nat.{_-_}
 use lib.ListN.{length}
 use Rattle.test_replay.proofs.run.Statement.{statement}
 use Rattle.test_replay.proofs.run.Tie as tie
 
 abbrev Inv-loop : tie.InvT-loop
-Inv-loop digest a₀ b₀ c₀ payload₀ first₀ second₀ third₀ left₀ a b c payload first second third left = (length a ≡ length a₀) × (length b ≡ length b₀) × (length c ≡ length c₀) × (length payload ≡ length payload₀)
+Inv-loop digest a₀ b₀ c₀ payload₀ first₀ second₀ third₀ at₀ a b c payload first second third at = (length a ≡ length a₀) × (length b ≡ length b₀) × (length c ≡ length c₀) × (length payload ≡ length payload₀)
 
 abbrev μ-loop : tie.MeasureT-loop
-μ-loop digest a₀ b₀ c₀ payload₀ first₀ second₀ third₀ left₀ a b c payload first second third left = left
+μ-loop digest a₀ b₀ c₀ payload₀ first₀ second₀ third₀ at₀ a b c payload first second third at = 100000000 - at
 
 -- where each buffer is back from its last call in a turn, and the turn's beginning, each from the one after it
 abbrev b-of : tie.After-c Inv-loop μ-loop → tie.After-b Inv-loop μ-loop
@@ -61,8 +62,8 @@ answered-requires-2 c κs = search needs
 answered-by-watcher-requires : tie.Need-answered-by-watcher-requires Inv-loop μ-loop
 answered-by-watcher-requires c κs = search needs
 
-sub-left : tie.Need-sub-left Inv-loop μ-loop
-sub-left c = omega (arith, turn-of (c .before) .loop-test .taken)
+add-at : tie.Need-add-at Inv-loop μ-loop
+add-at c = omega (arith, turn-of (c .before) .loop-test .taken)
 
 loop-less : tie.Need-loop-less Inv-loop μ-loop
 loop-less c = omega (arith, turn-of (c .before) .loop-test .taken)
@@ -109,7 +110,7 @@ run-spec =
     answered-requires
     answered-requires-2
     answered-by-watcher-requires
-    sub-left
+    add-at
     loop-less
     loop-again
     same-length-5

@@ -16,11 +16,11 @@ line-requires c κs = search needs
 array-share-prefix-out : tie.Need-array-share-prefix-out
 array-share-prefix-out c = line-inside (c .before .line .ensures) (omega arith)
 
-slice-aggregate-write-all : tie.Need-slice-aggregate-write-all
-slice-aggregate-write-all c = sym (length-take-le _ _ (line-inside (c .before .before .line .ensures) (omega arith)))
+slice-aggregate-put : tie.Need-slice-aggregate-put
+slice-aggregate-put c = sym (length-take-le _ _ (line-inside (c .before .before .line .ensures) (omega arith)))
 
-write-all-requires : tie.Need-write-all-requires
-write-all-requires c κs = search needs
+put-requires : tie.Need-put-requires
+put-requires c κs = search needs
 
 read-requires : tie.Need-read-requires
 read-requires c κs = search needs
@@ -31,11 +31,11 @@ enum-told c = search needs
 print-comparison-requires : tie.Need-print-comparison-requires
 print-comparison-requires c κs = search needs
 
-slice-aggregate-write-all-2 : tie.Need-slice-aggregate-write-all-2
-slice-aggregate-write-all-2 c = search needs
+slice-aggregate-put-2 : tie.Need-slice-aggregate-put-2
+slice-aggregate-put-2 c = search needs
 
-write-all-requires-2 : tie.Need-write-all-requires-2
-write-all-requires-2 c κs = search needs
+put-requires-2 : tie.Need-put-requires-2
+put-requires-2 c κs = search needs
 
 returns : tie.Need-returns
 returns c = search needs
@@ -47,11 +47,11 @@ print-spec =
     slice-aggregate-line
     line-requires
     array-share-prefix-out
-    slice-aggregate-write-all
-    write-all-requires
+    slice-aggregate-put
+    put-requires
     read-requires
     enum-told
     print-comparison-requires
-    slice-aggregate-write-all-2
-    write-all-requires-2
+    slice-aggregate-put-2
+    put-requires-2
     returns)

@@ -7,6 +7,9 @@ use super::message::{bodies, with_magic};
 use super::script::{Gen, A};
 use crate::judge::record::{Call, SPECTATOR};
 
+/// Per mille of the clock readings that are above their ceiling: what a datagram's reader refuses comes before that.
+const WILD: u64 = 50;
+
 pub(crate) fn datagrams(g: &mut Gen) {
     damaged(g, A);
     damaged(g, SPECTATOR);
@@ -14,6 +17,7 @@ pub(crate) fn datagrams(g: &mut Gen) {
 
 fn damaged(g: &mut Gen, object: u8) {
     g.make(object, &plain());
+    g.wild_clocks = WILD;
     for body in bodies() {
         let whole = bincode::serialize(&with_magic(0x1234, body)).expect("messages serialize");
         for length in 0..=whole.len() {
@@ -27,8 +31,11 @@ fn damaged(g: &mut Gen, object: u8) {
     kinds(g, object);
     counts(g, object);
     flags(g, object);
+    g.wild_clocks = 0;
     g.connect(object, 0);
+    g.wild_clocks = WILD;
     mutations(g, object);
+    g.wild_clocks = 0;
 }
 
 /// Hands bytes over, mostly from the object's own peer.

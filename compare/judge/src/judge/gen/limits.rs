@@ -3,7 +3,7 @@
 
 use super::good_setups::{any, plain};
 use super::message::with_magic;
-use super::moves::{fill_nonces, look, plain_input};
+use super::moves::{fill_events, fill_nonces, look, plain_input};
 use super::script::{Gen, A, B};
 use crate::judge::record::{Call, Record, Setup, BUFFER};
 use crate::judge::refusals::{CLOCK_MAX, EVENTS_MAX, PENDING_MAX};
@@ -99,21 +99,6 @@ pub(crate) fn events(g: &mut Gen) {
     }
     interrupted_when_full(g);
     full_when_sending(g);
-}
-
-/// Inputs until just `count` events are held; single frames and spare events make the number even.
-fn fill_events(g: &mut Gen, own: u8, count: usize) {
-    loop {
-        let missing = count - g.host(own).events.len();
-        let handles = g.host(own).handles.len();
-        let frames = (missing / handles).min(60);
-        if frames == 0 {
-            return;
-        }
-        let start = g.host(own).newest() + 1;
-        let message = plain_input(g, own, start, frames);
-        g.hand(own, &message);
-    }
 }
 
 /// An interruption as the 640th event; then whatever would end it, or announce a disconnect, is 5.

@@ -15,6 +15,7 @@ pub mod damage;
 pub mod honest;
 pub mod inputs;
 pub mod limits;
+pub mod pairs;
 pub mod phases;
 pub mod setups;
 pub mod watch;
@@ -36,7 +37,7 @@ pub(crate) const SCENARIOS: [Scenario; 26] = [
     ("chaos-stingy", chaos::stingy),
     ("watch-chaos", watch::chaos),
     ("pending", limits::pending),
-    ("honest", honest::calm),
+    ("pairs", pairs::all),
     ("events", limits::events),
     ("honest-loss", honest::harsh),
     ("checksums", limits::checksums),

@@ -1,4 +1,4 @@
-//! What several scenarios do: let time pass, make a good Input, look at everything, fill up the nonces.
+//! What several scenarios do: let time pass, make a good Input, look at everything, fill up the events or the nonces.
 
 use super::script::Gen;
 use crate::judge::record::{Call, Record, SPECTATOR};
@@ -66,6 +66,21 @@ pub(crate) fn look(g: &mut Gen, own: u8) {
         let mut r = Record::new(Call::PeerConnectStatus, own);
         r.number = g.rng.pick(&[0, 0, 1, 1, 2, 3, 4, u32::MAX]);
         g.issue(r);
+    }
+}
+
+/// Inputs until just `count` events are held; single frames and spare events make the number even.
+pub(crate) fn fill_events(g: &mut Gen, own: u8, count: usize) {
+    loop {
+        let missing = count - g.host(own).events.len();
+        let handles = g.host(own).handles.len();
+        let frames = (missing / handles).min(60);
+        if frames == 0 {
+            return;
+        }
+        let start = g.host(own).newest() + 1;
+        let message = plain_input(g, own, start, frames);
+        g.hand(own, &message);
     }
 }
 

@@ -35,7 +35,7 @@ pub(crate) struct Gen<'a> {
 }
 
 /// The calls that take each argument.
-fn takes_now(call: Call) -> bool {
+pub(crate) fn takes_now(call: Call) -> bool {
     use Call::*;
     matches!(
         call,
@@ -43,7 +43,7 @@ fn takes_now(call: Call) -> bool {
     )
 }
 
-fn takes_epoch(call: Call) -> bool {
+pub(crate) fn takes_epoch(call: Call) -> bool {
     use Call::*;
     matches!(call, Synchronize | Datagram | Carry | Message | Act | NetworkStats)
 }

@@ -382,6 +382,9 @@ returns-13 c =
 push-requires-2 : tie.Need-push-requires-2
 push-requires-2 c κs = search needs
 
+heard-requires : tie.Need-heard-requires
+heard-requires c κs = search needs
+
 same-length-5 : tie.Need-same-length-5
 same-length-5 c =
     ⊎-elim
@@ -439,10 +442,10 @@ returns-14 c =
     arrives h _ _ (⊎-elim
     (λ w. rw (w .4) (ends-announced (a .self) (a .from) (heard h) (lent h) (a .now) (a .epoch) (a .nonce) (a .out .now) (good h) (heeded h)
     (k .before .before .before .is-resuming .result) (k .before .before .before .is-resuming .ensures) (k .before .before .count .result) (k .before .before .count .ensures) (k .before .events-full .result) (k .before .events-full .ensures)
-    (l .match .self) (l .match .out) (left l) (w .0 .taken) _ refl (w .1 .result) (w .1 .ensures)))
+    (l .match .self) (l .match .out) (left l) (c .heard .result) (rw (w .4) at (c .heard .ensures)) (w .0 .taken) _ refl (w .1 .result) (w .1 .ensures)))
     (λ w. rw (w .1) (ends-quiet (a .self) (a .from) (heard h) (lent h) (a .now) (a .epoch) (a .nonce) (a .out .now) (good h) (heeded h)
     (k .before .before .before .is-resuming .result) (k .before .before .before .is-resuming .ensures) (k .before .before .count .result) (k .before .before .count .ensures) (k .before .events-full .result) (k .before .events-full .ensures)
-    (l .match .self) (l .match .out) (left l) (w .0 .left) (entries-long (a .self) _ (h .before .before .before .before .before .before .before .before .before .good .0))))
+    (l .match .self) (l .match .out) (left l) (c .heard .result) (rw (w .1) at (c .heard .ensures)) (w .0 .left) (entries-long (a .self) _ (h .before .before .before .before .before .before .before .before .before .good .0))))
     (c .before .if16 .came))
 
 pub handle-message-spec : {M : Type 1} → statement M
@@ -505,5 +508,6 @@ handle-message-spec =
     same-length-4
     returns-13
     push-requires-2
+    heard-requires
     same-length-5
     returns-14)

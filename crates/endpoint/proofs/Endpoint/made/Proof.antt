@@ -42,10 +42,13 @@ returns c =
     let after-new2 : tie.After-new2 = search in
     let after-sorted : tie.After-sorted = search in
     let after-new : tie.After-new = search in
-    let start : tie.Start = search in
-    makes (start .args .setup) (start .args .now)
-    (after-sorted .sorted .result) (after-new2 .new2 .result) (after-new3 .new3 .result) (after-new4 .new4 .result) (after-new5 .new5 .result) (after-new6 .new6 .result) (after-new .new .result) (c .before .new7 .result) (c .new8 .result)
-    (after-sorted .sorted .ensures .0) (after-new2 .new2 .ensures) (after-new3 .new3 .ensures) (after-new4 .new4 .ensures) (after-new5 .new5 .ensures) (after-new6 .new6 .ensures) (after-new .new .ensures .0) (c .before .new7 .ensures) (c .new8 .ensures)
+    let start : tie.Start = search in (
+      makes (start .args .setup) (start .args .now)
+          (after-sorted .sorted .result) (after-new2 .new2 .result) (after-new3 .new3 .result) (after-new4 .new4 .result) (after-new5 .new5 .result) (after-new6 .new6 .result) (after-new .new .result) (c .before .new7 .result) (c .new8 .result)
+          (after-sorted .sorted .ensures .0) (after-new2 .new2 .ensures) (after-new3 .new3 .ensures) (after-new4 .new4 .ensures) (after-new5 .new5 .ensures) (after-new6 .new6 .ensures) (after-new .new .ensures .0) (c .before .new7 .ensures) (c .new8 .ensures),
+      after-sorted .sorted .ensures .1,
+      after-new .new .ensures .1,
+    )
 
 pub made-spec : {M : Type 1} → statement M
 made-spec =

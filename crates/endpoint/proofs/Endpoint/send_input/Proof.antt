@@ -95,6 +95,9 @@ newest-requires c κs = search needs
 pending-input-requires : tie.Need-pending-input-requires
 pending-input-requires c κs = search needs
 
+sent-requires : tie.Need-sent-requires
+sent-requires c κs = search needs
+
 same-length : tie.Need-same-length
 same-length c = search needs
 
@@ -110,6 +113,7 @@ after-announcing c =
 
 returns-8 : tie.Need-returns-8
 returns-8 c =
+    let after-sent : tie.After-sent = search in
     let k = c .before .before .before .before .before .before .before .before .before .before .before .before .before in
     let a = k .before .before .before .before .before .before .before .before .before .before .before .before .before .before .before .before .before .before .before .before .args in
     let j = c .before .before .before .before .before .before in
@@ -117,7 +121,7 @@ returns-8 c =
     (k .before .before .before .before .before .before .before .before .before .before .before .before .if2 .left) (ap isRunning (k .before .before .before .before .before .before .before .before .before .enum-told .given .1)) (k .before .before .before .before .before .before .before .frame-at .result) (k .before .before .before .before .before .before .before .frame-at .ensures) (k .before .before .before .before .before .before .push .result) (k .before .before .before .before .before .before .push .ensures)
     (sym (k .before .before .before .before .before .is-bad-frame .ensures) ∙ k .before .before .before .before .if3 .left) (not-false _ (k .before .before .if4 .left)) (k .count .result) (k .count .ensures)
     (c .before .before .before .before .before .before .before .before .before .input-size .result) (c .before .before .before .before .before .before .before .before .before .input-size .ensures) (acked-long (a .self) _ (k .before .before .before .before .before .before .before .before .before .before .before .before .before .before .before .before .before .before .before .before .good .0)) (c .before .before .before .before .before .before .before .before .buffer-full .result) (c .before .before .before .before .before .before .before .before .buffer-full .ensures) (c .before .before .before .before .before .before .before .if6 .left)
-    (j .if7 .self) (after-announcing j) (c .before .before .before .before .newest .result) (c .before .before .before .before .newest .ensures) (c .before .before .before .pending-input .result) (c .before .before .before .pending-input .last .0) (c .before .before .before .pending-input .ensures)
+    (j .if7 .self) (after-announcing j) (c .before .before .before .before .newest .result) (c .before .before .before .before .newest .ensures) (c .before .before .before .pending-input .result) (c .before .before .before .pending-input .last .0) (c .before .before .before .pending-input .ensures) (after-sent .sent .result) (after-sent .sent .ensures)
 
 pub send-input-spec : {M : Type 1} → statement M
 send-input-spec =
@@ -145,5 +149,6 @@ send-input-spec =
     push-requires-2
     newest-requires
     pending-input-requires
+    sent-requires
     same-length
     returns-8)

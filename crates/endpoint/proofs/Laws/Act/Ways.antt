@@ -46,7 +46,7 @@ use Rattle.endpoint.specs.declared.Endpoint.{Endpoint}
 use Rattle.endpoint.specs.declared.Ended.{Ended}
 use Rattle.endpoint.specs.declared.act.due.Due.{Due}
 use Rattle.endpoint.specs.declared.handshake.Requested.{Requested}
-use Rattle.endpoint.specs.Endpoint.{seen, DidAs, DoneAs}
+use Rattle.endpoint.specs.Endpoint.{seen, SameTerms, DidAs, DoneAs}
 use Rattle.endpoint.specs.Inside.Handshake.{RequestedAs}
 use Rattle.endpoint.specs.Inside.Due.{dueOf, clocksBy, flagsBy, dueEvents}
 use Rattle.endpoint.specs.Inside.Batch.{dueReports, batch, SizedWith, BatchWrittenAs, WrittenWhere}
@@ -182,7 +182,7 @@ module _ (e : Endpoint) (buffer : List ℕ) (statuses : Statuses) (now epoch : �
           → Ending Done (remade e (e .pending) (e .acked) (e .history) (e .sync) (e .nonces) c f (e .quality) (e .statuses) (e .checksums) (t .events) (s .queued)) buffer′
       unfolding acts seen termsWith
       ends ec ef =
-          batch-did e _ Ran _ buffer buffer′ (s .queued)
+          batch-did e _ (record { setup = refl; count = refl }) Ran _ buffer buffer′ (s .queued)
           (reacted-done (length buffer) (seen e) Run refl refl refl (rw ran-is (room-bytes buffer Ran room (packed .1))) ∙ ap done ran-is)
           refl (packed .2) (rw (ec, ef, announced .1))
 
@@ -195,10 +195,10 @@ module _ (e : Endpoint) (buffer : List ℕ) (statuses : Statuses) (now epoch : �
 
 -- and queue nothing
 module _ (e : Endpoint) (room : hasRoom (heldEvents (e .events)) 0 ≡ true) (r : Reaction) (short : r .tooLong ≡ false) (within : r .overflows ≡ false) (stored : r .storeFull ≡ false) where
-  pub quiet-done : (n : Endpoint) → r .effect .out ≡ [] → r .effect .events ≡ [] → r .effect .state .events ≡ heldEvents (e .events) → seen n ≡ r .effect .state
+  pub quiet-done : (n : Endpoint) → SameTerms e n → r .effect .out ≡ [] → r .effect .events ≡ [] → r .effect .state .events ≡ heldEvents (e .events) → seen n ≡ r .effect .state
       → DoneAs e (reacted 0 (seen e) r) (record { answer = Done; endpoint = n })
-  quiet-done n o t ev after =
-      done-done e n (r .effect) _ (reacted-done 0 (seen e) r short within stored (room-none [] (r .effect) o (rw (t, ev) room))) o (after ∙ rw (t, append-nil))
+  quiet-done n terms o t ev after =
+      done-done e n terms (r .effect) _ (reacted-done 0 (seen e) r short within stored (room-none [] (r .effect) o (rw (t, ev) room))) o (after ∙ rw (t, append-nil))
 
 module _ (e : Endpoint) (buffer : List ℕ) (now nonce : ℕ) where
   abbrev Ask : Reaction
@@ -209,7 +209,7 @@ module _ (e : Endpoint) (buffer : List ℕ) (now nonce : ℕ) where
 
   pub synchronizing-idle : hasRoom (heldEvents (e .events)) 0 ≡ true → passed (e .clocks .«last_sync_request_time») 200 now ≡ false → Asking Done e buffer
   unfolding acts acted seen
-  synchronizing-idle room h = unqueued e Ask (rw h) buffer _ (quiet-done e room Ask refl refl (rw h) e (rw h) (rw h) (rw h) (rw h))
+  synchronizing-idle room h = unqueued e Ask (rw h) buffer _ (quiet-done e room Ask refl refl (rw h) e (record { setup = refl; count = refl }) (rw h) (rw h) (rw h) (rw h))
 
   module _ (due : passed (e .clocks .«last_sync_request_time») 200 now ≡ true) (i : Issued) (ei : IssuedAs (e .nonces) nonce i) (r : Requested) (buffer′ : List ℕ)
       (er : RequestedAs (i .ok) (e .clocks) (e .setup .magic) now nonce buffer (e .queued) r buffer′) where
@@ -226,7 +226,7 @@ module _ (e : Endpoint) (buffer : List ℕ) (now nonce : ℕ) where
         → Asking Done (remade e (e .pending) (e .acked) (e .history) (e .sync) (i .nonces) (r .clocks) (e .flags) (e .quality) (e .statuses) (e .checksums) (e .events) (r .end)) buffer′
     unfolding reacted tested acts acted request nonceIssued queueWire seen termsWith
     synchronizing-done room k =
-        queued-did e _ Asked _
+        queued-did e _ (record { setup = refl; count = refl }) Asked _
         (rw (due, request-fits buffer (e .setup .magic) nonce (outstanding (e .nonces)) Asked refl (r .ok) (rw (ei .ok) at (er .ok)) k room))
         _ refl buffer buffer′ _ (er .queued k) refl refl (rw (nonces-after i ei er k, er .clocks k, append-nil))
 
@@ -241,14 +241,14 @@ module _ (e : Endpoint) (now : ℕ) (room : hasRoom (heldEvents (e .events)) 0 �
   unfolding acts acted seen
   disconnected-idle h =
       let k = le-ltb (e .clocks .«shutdown_timeout») now h in
-      quiet-done e room Wait refl refl refl e (rw k) (rw k) (rw k) (rw k)
+      quiet-done e room Wait refl refl refl e (record { setup = refl; count = refl }) (rw k) (rw k) (rw k) (rw k)
 
   pub disconnected-over : e .clocks .«shutdown_timeout» < now
       → Waiting (remade e (e .pending) (e .acked) (e .history) (inPhase Shutdown (e .sync)) (e .nonces) (e .clocks) (e .flags) (e .quality) (e .statuses) (e .checksums) (e .events) (e .queued))
   unfolding acts acted seen
   disconnected-over h =
       let k = lt-ltb (e .clocks .«shutdown_timeout») now h in
-      quiet-done e room Wait refl refl refl _ (rw k) (rw k) (rw k) (rw k)
+      quiet-done e room Wait refl refl refl _ (record { setup = refl; count = refl }) (rw k) (rw k) (rw k) (rw k)
 
 -- ---- act
 
@@ -303,7 +303,7 @@ module _ (e : Endpoint) (buffer : List ℕ) (statuses : Statuses) (now epoch non
       act-idle room h =
           let r : Reaction = acts (e .sync .phase) now epoch nonce (heldStatuses statuses) (seen e) in
           let x = idle-acts (e .sync .phase) now epoch nonce (heldStatuses statuses) (seen e) h in
-          rw (reacts (e .sync .phase) refl) (unqueued e r (rw (x .1)) buffer _ (quiet-done e room r refl refl (x .0) e (rw (x .1)) (rw (x .1)) (rw (x .1)) (rw (x .1))))
+          rw (reacts (e .sync .phase) refl) (unqueued e r (rw (x .1)) buffer _ (quiet-done e room r refl refl (x .0) e (record { setup = refl; count = refl }) (rw (x .1)) (rw (x .1)) (rw (x .1)) (rw (x .1))))
 
-  pub act-settled : (r s : Ended) (b c : List ℕ) → Acts r b → Acts s c → (r .answer ≡ s .answer) × (seen (r .endpoint) ≡ seen (s .endpoint)) × (b ≡ c)
+  pub act-settled : (r s : Ended) (b c : List ℕ) → Acts r b → Acts s c → (r .answer ≡ s .answer) × (seen (r .endpoint) ≡ seen (s .endpoint)) × SameTerms (r .endpoint) (s .endpoint) × (b ≡ c)
   act-settled = did-settled e (step (Call.act (statuses .count) (heldStatuses statuses) now epoch nonce (length buffer)) (seen e)) buffer

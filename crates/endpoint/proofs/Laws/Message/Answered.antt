@@ -21,7 +21,7 @@ use Rattle.endpoint_rules.specs.Handshake.{plainly}
 use Rattle.endpoint_rules.specs.Step.{heard, reacted}
 use Rattle.endpoint_rules.proofs.Laws.{hearing, by-hearing}
 use Rattle.endpoint.specs.declared.Endpoint.{Endpoint}
-use Rattle.endpoint.specs.Endpoint.{seen, DidAs}
+use Rattle.endpoint.specs.Endpoint.{seen, SameTerms, DidAs}
 use Rattle.endpoint.proofs.Laws.Message.Hearing.{Ears, HeardAs}
 use Rattle.endpoint.proofs.Laws.Ends.{refused-did, queued-did}
 use Rattle.endpoint.proofs.Laws.Room.{full-events, full-buffer, room-one, reacted-full, reacted-done}
@@ -65,13 +65,13 @@ module _ (e : Endpoint) (buffer : List ℕ) (now : ℕ) (body : MessageBody) (g 
     reply-unannounced k = by-hearing now (seen e) (Replies e Full buffer) (λ f t h.
         refused-did e Full _ (reacted-full (length buffer) (seen e) _ refl refl (full-events buffer (Replying f t) (rw (aside .events (Before f)) (sym (h .ok) ∙ k)))) buffer)
 
-    pub reply-done : (q : Queued) (b′ : List ℕ) → QueuedAs buffer (e .queued) Reply q b′ → 0 < tableSize Reply → (n : Endpoint) → x .ok ≡ true → q .ok ≡ true
+    pub reply-done : (q : Queued) (b′ : List ℕ) → QueuedAs buffer (e .queued) Reply q b′ → 0 < tableSize Reply → (n : Endpoint) → SameTerms e n → x .ok ≡ true → q .ok ≡ true
         → ((f : Flags) (t : List Entry) → HeardAs e (hearing now (seen e) f t) x
         → seen n ≡ withEvents (g (Before f) .events ++ t) (withQueued (q .end) (sentAt now (g (Before f)))))
         → Replies n Done b′ (heard now (seen e))
     unfolding queueWire seen
-    reply-done q b′ eq some n k ok after = by-hearing now (seen e) (Replies n Done b′) (λ f t h.
-        queued-did e n (Replying f t) _
+    reply-done q b′ eq some n terms k ok after = by-hearing now (seen e) (Replies n Done b′) (λ f t h.
+        queued-did e n terms (Replying f t) _
         (reacted-done (length buffer) (seen e) _ refl refl refl
         (room-one buffer (Replying f t) Reply some (only f t) (rw (aside .events (Before f)) (sym (h .ok) ∙ k)) (rw (aside .queued (Before f)) (not-true _ (sym (eq .ok) ∙ ok)))))
         Reply (only f t) buffer b′ q eq ok (aside .queued (Before f)) (after f t h))

@@ -18,7 +18,7 @@ use Rattle.endpoint_rules.specs.Call.{Call}
 use Rattle.endpoint_rules.specs.Step.{datagramStep, step}
 use Rattle.endpoint.specs.declared.Endpoint.{Endpoint}
 use Rattle.endpoint.specs.declared.Ended.{Ended}
-use Rattle.endpoint.specs.Endpoint.{seen, DidAs}
+use Rattle.endpoint.specs.Endpoint.{seen, SameTerms, DidAs}
 use Rattle.endpoint.specs.Inside.Arrival.{arrivalCall, ArrivedAs, payloadOf}
 use Rattle.endpoint.proofs.Laws.Settled.{did-settled}
 
@@ -51,5 +51,5 @@ module _ (e : Endpoint) (from : ℕ) (bytes : List ℕ) (now epoch nonce : ℕ) 
   arrived true m r read p payload x b′ d = datagram-read r read p payload x b′ d
 
   pub datagram-settled : (r s : Ended) (b c : List ℕ) → DidAs e Does buffer r b → DidAs e Does buffer s c
-      → (r .answer ≡ s .answer) × (seen (r .endpoint) ≡ seen (s .endpoint)) × (b ≡ c)
+      → (r .answer ≡ s .answer) × (seen (r .endpoint) ≡ seen (s .endpoint)) × SameTerms (r .endpoint) (s .endpoint) × (b ≡ c)
   datagram-settled = did-settled e Does buffer

@@ -23,7 +23,7 @@ use Rattle.endpoint_rules.specs.Step.{ignoredBy, ignored, heard, onBody, reacte
 use Rattle.endpoint_rules.proofs.Laws.{message-clocks, message-ignored as ignored-step, message-reacts, by-hearing}
 use Rattle.endpoint.specs.declared.Endpoint.{Endpoint}
 use Rattle.endpoint.specs.declared.Ended.{Ended}
-use Rattle.endpoint.specs.Endpoint.{seen, DidAs, DoneAs}
+use Rattle.endpoint.specs.Endpoint.{seen, SameTerms, DidAs, DoneAs}
 use Rattle.endpoint.proofs.Laws.Ends.{refused-did}
 use Rattle.endpoint.proofs.Laws.Settled.{did-settled}
 use Rattle.endpoint.proofs.Laws.Message.Unqueued.{unqueued}
@@ -96,5 +96,5 @@ module _ (e : Endpoint) (from : ℕ) (m : Message) (p : List ℕ) (now epoch non
       kept-alive h d = reacts KeepAlive buffer h (unqueued e _ (by-hearing now (seen e) (λ f. f .out ≡ []) (λ f t. refl)) buffer x d)
 
   pub message-settled : (r s : Ended) (b c : List ℕ) → DidAs e Does buffer r b → DidAs e Does buffer s c
-      → (r .answer ≡ s .answer) × (seen (r .endpoint) ≡ seen (s .endpoint)) × (b ≡ c)
+      → (r .answer ≡ s .answer) × (seen (r .endpoint) ≡ seen (s .endpoint)) × SameTerms (r .endpoint) (s .endpoint) × (b ≡ c)
   message-settled = did-settled e Does buffer

@@ -13,7 +13,7 @@ use Rattle.endpoint_rules.specs.Handshake.{plainly}
 use Rattle.endpoint_rules.specs.Step.{heard, reacted}
 use Rattle.endpoint_rules.proofs.Laws.{hearing, by-hearing}
 use Rattle.endpoint.specs.declared.Endpoint.{Endpoint}
-use Rattle.endpoint.specs.Endpoint.{seen, DoneAs}
+use Rattle.endpoint.specs.Endpoint.{seen, SameTerms, DoneAs}
 use Rattle.endpoint.proofs.Laws.Message.Hearing.{Ears, HeardAs}
 use Rattle.endpoint.proofs.Laws.Ends.{refused-done, done-done}
 use Rattle.endpoint.proofs.Laws.Room.{full-events, room-none, reacted-full, reacted-done}
@@ -34,9 +34,9 @@ module _ (e : Endpoint) (now : ℕ) (x : Ears) (g : Seen → Seen) (keeps : (s :
   changes-full k = by-hearing now (seen e) (Changes e Full) (λ f t ex.
       refused-done e Full _ (reacted-full 0 (seen e) _ refl refl (full-events [] (Changing f t) (rw (keeps (Before f)) (sym (ex .ok) ∙ k)))))
 
-  pub changes-done : (n : Endpoint) → x .ok ≡ true
+  pub changes-done : (n : Endpoint) → SameTerms e n → x .ok ≡ true
       → ((f : Flags) (t : List Entry) → HeardAs e (hearing now (seen e) f t) x → seen n ≡ withEvents (g (Before f) .events ++ t) (g (Before f)))
       → Changes n Done (heard now (seen e))
   unfolding seen
-  changes-done n k after = by-hearing now (seen e) (Changes n Done) (λ f t ex.
-      done-done e n (Changing f t) _ (reacted-done 0 (seen e) _ refl refl refl (room-none [] (Changing f t) refl (rw (keeps (Before f)) (sym (ex .ok) ∙ k)))) refl (after f t ex))
+  changes-done n terms k after = by-hearing now (seen e) (Changes n Done) (λ f t ex.
+      done-done e n terms (Changing f t) _ (reacted-done 0 (seen e) _ refl refl refl (room-none [] (Changing f t) refl (rw (keeps (Before f)) (sym (ex .ok) ∙ k)))) refl (after f t ex))

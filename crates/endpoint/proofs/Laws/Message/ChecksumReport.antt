@@ -59,6 +59,6 @@ module _ (e : Endpoint) (checksum : Wide) (frame now i : ℕ) (ei : i ≡ interv
       unfolding onChecksumReport seen termsWith
       checksum-done c k =
           by-hearing now (seen e) (λ h. HeardAs e h x → Summed Stored Done h) (λ f t h.
-          done-done e Stored (Summing f t) _
+          done-done e Stored (record { setup = refl; count = refl }) (Summing f t) _
           (reacted-done 0 (seen e) _ refl (rw (← ei) (sym (er .overflow) ∙ within)) (rw (← ei) (sym (er .full) ∙ c)) (room-none [] (Summing f t) refl (sym (h .ok) ∙ k)))
           refl (rw (h .clocks, h .flags, h .events, k, er .view, ei))) ex

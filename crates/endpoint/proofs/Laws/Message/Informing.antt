@@ -114,12 +114,12 @@ pub record Brought (h : Effect) (x : Informed) : Type 0 where
 
 module _ (e : Endpoint) (now : ℕ) where
   module _ (ack : ℕ) (d : Bool) (reports : List StatusReport) where
-    pub informs : (x : Informed) → InformedAs (e .sync .phase) (e .clocks) (e .flags) (heldStatuses (e .statuses)) d reports now x
+    pub informs : (x : Informed) → InformedAs (e .sync .phase) (e .clocks) (e .flags) (e .statuses) d reports now x
         → Brought (informed d reports (change (acknowledged ack) (heard now (seen e)))) x
     unfolding seen ahead both
     informs x i =
         rw (heard-by e now, informed-is now ack d reports (seen e) _ _, ← i .disconnects)
-        (record { events = rw (i .resumes); clocks = i .clocks; flags = i .flags; statuses = i .statuses })
+        (record { events = rw (i .resumes); clocks = i .clocks; flags = i .flags; statuses = i .statuses .0 })
 
     pub informs-sender : (sd : Seen.Sender) → sd ≡ droppedTo ack (sent (e .pending) (e .acked)) → sd ≡ informed d reports (change (acknowledged ack) (heard now (seen e))) .state .carried .sender
     unfolding seen

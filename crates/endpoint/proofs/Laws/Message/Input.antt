@@ -74,7 +74,7 @@ none-ahead false false h = refl
 module _ (e : Endpoint) (from : ℕ) (m : Message) (p : List ℕ) (now epoch nonce : ℕ) (buffer : List ℕ) (good : badClock now || badClock epoch ≡ false)
     (heeded : ignoredBy (e .sync .phase) (e .setup .«peer_addr») (e .sync .«remote_magic») from (m .magic) ≡ false) (d : Bool) (start ack : ℕ) (body : m .body ≡ Input d start ack) (o : Opened)
     (opened : OpenedAs (e .history) (e .setup) d start (m .reports .count) (length p) o) (kept : o .discarded ≡ false) (x : Informed)
-    (ix : InformedAs (e .sync .phase) (e .clocks) (e .flags) (heldStatuses (e .statuses)) d (reportList (m .reports)) now x) where
+    (ix : InformedAs (e .sync .phase) (e .clocks) (e .flags) (e .statuses) d (reportList (m .reports)) now x) where
   abbrev Width : ℕ
   Width = receivingWidth (termsOf (e .setup))
 
@@ -221,7 +221,7 @@ module _ (e : Endpoint) (from : ℕ) (m : Message) (p : List ℕ) (now epoch non
           pub packet-unread : o .readable ≡ false → Ends (after t (t .pending) (t .acked) (t .history) c (t .queued)) buffer
           packet-unread unable =
               rw (dt .rest) (rw (es .rest)
-              (comes-unreadable short fits unable _ (unreadable-done e now ack d Reports (o .held) x (es .events) (rw (unable, append-nil) at (es .room)) (rw (unable, append-nil) at (es .view)) c (dt .pending) (dt .acked) (rw unable at ec) (informs-sender e now ack d Reports _ left) brought)))
+              (comes-unreadable short fits unable _ (unreadable-done e now ack d Reports (o .held) x (es .events) (rw (unable, append-nil) at (es .room)) (rw (unable, append-nil) at (es .view)) c (dt .pending) (dt .acked) (rw unable at ec) (ix .statuses .1) (informs-sender e now ack d Reports _ left) brought)))
 
           pub packet-read : o .readable ≡ true → (h : History)
               → received h ≡ take 33 (takenAbove (o .newest) (t .setup .«max_prediction») (received (t .history)) (packetOf start w (o .input .bytes) p))
@@ -232,4 +232,4 @@ module _ (e : Endpoint) (from : ℕ) (m : Message) (p : List ℕ) (now epoch non
               rw (dt .rest) (rw (es .rest) (λ h eh newest en z b′ queued.
               let taken : received h ≡ take 33 (takenIn (e .setup .«max_prediction») (received (e .history)) (packetOf start Width (o .input .bytes) p)) =
               rw ew at (taken-known (o .newest) (e .setup .«max_prediction») (received (e .history)) (received h) (packetOf start w (o .input .bytes) p) (opened .newest) eh) in
-              comes-readable short fits able _ _ (readable-done e buffer now ack start d Reports p (o .input) (reads short fits able) x brought (rw able at spare) (es .events) (rw able at (es .room)) (rw able at (es .view)) h taken newest en z b′ queued c (dt .pending) (dt .acked) (rw able at ec) (informs-sender e now ack d Reports _ left))))
+              comes-readable short fits able _ _ (readable-done e buffer now ack start d Reports p (o .input) (reads short fits able) x brought (rw able at spare) (es .events) (rw able at (es .room)) (rw able at (es .view)) h taken newest en z b′ queued c (dt .pending) (dt .acked) (rw able at ec) (ix .statuses .1) (informs-sender e now ack d Reports _ left))))

@@ -55,4 +55,4 @@ module _ (e : Endpoint) (ack now : ℕ) (x : Ears) (ex : HeardAs e (heard now (s
   pub ack-done : (pending : Pending) (acked : InputBytes) → x .ok ≡ true → sent pending acked ≡ droppedTo ack (sent (e .pending) (e .acked))
       → Acked (remade e pending acked (e .history) (e .sync) (e .nonces) (x .clocks) (x .flags) (e .quality) (e .statuses) (e .checksums) (x .events) (e .queued)) Done
   unfolding onInputAck acknowledged seen
-  ack-done pending acked k es = changes-done e now x (acknowledged ack) (λ s. refl) _ k (λ f t h. rw (es, h .clocks, h .flags, h .events, k)) ex
+  ack-done pending acked k es = changes-done e now x (acknowledged ack) (λ s. refl) _ (record { setup = refl; count = refl }) k (λ f t h. rw (es, h .clocks, h .flags, h .events, k)) ex

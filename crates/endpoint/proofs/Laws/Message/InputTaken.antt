@@ -75,14 +75,14 @@ module _ (e : Endpoint) (now ack : ℕ) (d : Bool) (reports : List StatusReport)
         (refused-done e Full _ (reacted-full 0 (seen e) _ refl refl (full-events [] (informing (seen e) sd (pick b (inputAt now c) c) f st t) (rw (i .events) k)))))
 
     pub unreadable-done : (events : Events) → hasRoom (heldEvents (e .events)) (length Ahead) ≡ true → heldEvents events ≡ heldEvents (e .events) ++ Ahead → (c′ : Clocks) (pending : Pending) (acked : InputBytes)
-        → c′ ≡ pick b (inputAt now (x .clocks)) (x .clocks) → sent pending acked ≡ Informs .state .carried .sender
+        → c′ ≡ pick b (inputAt now (x .clocks)) (x .clocks) → x .statuses .count ≡ e .statuses .count → sent pending acked ≡ Informs .state .carried .sender
         → Unreadable (remade e pending acked (e .history) (e .sync) (e .nonces) c′ (x .flags) (e .quality) (x .statuses) (e .checksums) events (e .queued)) Done Informs
     unfolding seen
-    unreadable-done events room view c′ pending acked ec = by-informing now ack d reports (seen e) (λ h. sent pending acked ≡ h .state .carried .sender → Unreadable (remade e pending acked (e .history) (e .sync) (e .nonces) c′ (x .flags) (e .quality) (x .statuses) (e .checksums) events (e .queued)) Done h) (λ sd c f st t es i.
+    unreadable-done events room view c′ pending acked ec count = by-informing now ack d reports (seen e) (λ h. sent pending acked ≡ h .state .carried .sender → Unreadable (remade e pending acked (e .history) (e .sync) (e .nonces) c′ (x .flags) (e .quality) (x .statuses) (e .checksums) events (e .queued)) Done h) (λ sd c f st t es i.
         let y : Effect = informing (seen e) sd (pick b (inputAt now c) c) f st t in
         let announced : heldEvents events ≡ heldEvents (e .events) ++ t = rw (i .events) view in
         rw (inputless now b (seen e) sd c f st t)
-        (done-done e _ y _ (reacted-done 0 (seen e) _ refl refl refl (room-none [] y refl (rw (i .events) room))) refl
+        (done-done e _ (record { setup = refl; count = count }) y _ (reacted-done 0 (seen e) _ refl refl refl (room-none [] y refl (rw (i .events) room))) refl
         (rw (ec, es, i .clocks, i .flags, i .statuses, announced))))
 
 -- inputs that can be read
@@ -149,15 +149,15 @@ module _ (e : Endpoint) (buffer : List ℕ) (now ack start : ℕ) (d : Bool) (re
     acked : Ack (newestOf Stored) ≡ Ack newest
     acked = ap Ack (rw (← eh) (sym en))
 
-    pub readable-done : (c′ : Clocks) (pending : Pending) (last : InputBytes) → c′ ≡ sentAt now (inputAt now (x .clocks))
+    pub readable-done : (c′ : Clocks) (pending : Pending) (last : InputBytes) → c′ ≡ sentAt now (inputAt now (x .clocks)) → x .statuses .count ≡ e .statuses .count
         → sent pending last ≡ informed d reports (change (acknowledged ack) (heard now (seen e))) .state .carried .sender
         → Ending (remade e pending last h′ (e .sync) (e .nonces) c′ (x .flags) (e .quality) (x .statuses) (e .checksums) events (q .end)) Done b′
     unfolding inputsReceived taken queueWire seen termsWith
-    readable-done c′ pending last ec es =
+    readable-done c′ pending last ec count es =
         rw taking (by-informing now ack d reports (seen e) (λ h. sent pending last ≡ h .state .carried .sender → Readably (remade e pending last h′ (e .sync) (e .nonces) c′ (x .flags) (e .quality) (x .statuses) (e .checksums) events (q .end)) Done b′ h) (λ sd c f st t es i.
         let y : Effect = Taking (informing (seen e) sd c f st t) in
         let announced : heldEvents events ≡ heldEvents (e .events) ++ (t ++ News) = rw (i .events) view in
-        queued-did e _ y _
+        queued-did e _ (record { setup = refl; count = count }) y _
         (reacted-done (length buffer) (seen e) _ refl refl refl
         (room-one buffer y (bodyOnly (e .setup .magic) (InputAck newest)) (omega arith) acked (rw (i .events) room) spare))
         (bodyOnly (e .setup .magic) (InputAck newest)) acked buffer b′ q eq (eq .ok ∙ rw spare) refl

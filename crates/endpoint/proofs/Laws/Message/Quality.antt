@@ -52,7 +52,7 @@ module _ (e : Endpoint) (now : ℕ) where
           → q .ok ≡ true → c ≡ sentAt now (x .clocks) → y ≡ remoteSet advantage (e .quality) → Reported buffer advantage ping (Noted c y (q .end)) Done b′
       unfolding onQualityReport remoteAdvantage seen
       report-done q b′ eq c y k ok ec ey =
-          reply-done e buffer now (QualityReply ping) (remoteAdvantage advantage) (aside buffer advantage ping) x q b′ eq (omega arith) _ k ok
+          reply-done e buffer now (QualityReply ping) (remoteAdvantage advantage) (aside buffer advantage ping) x q b′ eq (omega arith) _ (record { setup = refl; count = refl }) k ok
           (λ f t h. rw (ec, ey, h .clocks, h .flags, h .events, k)) ex
 
     module _ (epoch : ℕ) (pong : Wide) where
@@ -66,5 +66,5 @@ module _ (e : Endpoint) (now : ℕ) where
       pub pong-done : (y : Quality) → x .ok ≡ true → y ≡ tripNoted (roundTrip epoch (pong .low) (pong .high)) (e .quality) → Replied (Noted (x .clocks) y (e .queued)) Done
       unfolding onQualityReply roundTripNoted seen
       pong-done y k ey =
-          changes-done e now x (roundTripNoted (roundTrip epoch (pong .low) (pong .high))) (λ s. refl) _ k
+          changes-done e now x (roundTripNoted (roundTrip epoch (pong .low) (pong .high))) (λ s. refl) _ (record { setup = refl; count = refl }) k
           (λ f t h. rw (ey, h .clocks, h .flags, h .events, k)) ex

@@ -22,4 +22,4 @@ module _ (e : Endpoint) (now : ℕ) (x : Ears) where
   pub only-heard : x .ok ≡ true
       → Only (remade e (e .pending) (e .acked) (e .history) (e .sync) (e .nonces) (x .clocks) (x .flags) (e .quality) (e .statuses) (e .checksums) (x .events) (e .queued)) Done
   unfolding seen
-  only-heard k = changes-done e now x (λ s. s) (λ s. refl) _ k (λ f t h. rw (h .clocks, h .flags, h .events, k))
+  only-heard k = changes-done e now x (λ s. s) (λ s. refl) _ (record { setup = refl; count = refl }) k (λ f t h. rw (h .clocks, h .flags, h .events, k))

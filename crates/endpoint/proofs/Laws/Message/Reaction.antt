@@ -48,7 +48,7 @@ module _ (e : Endpoint) (from : ℕ) (m : Message) (p : List ℕ) (now epoch non
     (heeded : ignoredBy (e .sync .phase) (e .setup .«peer_addr») (e .sync .«remote_magic») from (m .magic) ≡ false)
     (r : Bool) (er : r ≡ (isRunning (e .sync .phase) && e .flags .«disconnect_notify_sent»)) (n : ℕ) (en : n ≡ length (heldEvents (e .events)))
     (f : Bool) (ef : f ≡ (r && leb 640 n)) (y : Reacted) (b′ : List ℕ)
-    (ey : ReactedAs (m .body) f (e .quality) (e .clocks .«last_send_time») now epoch (e .setup .magic) buffer (e .queued) y b′) where
+    (ey : ReactedAs (m .body) f (e .quality) (e .clocks) now epoch (e .setup .magic) buffer (e .queued) y b′) where
   abbrev Ends : Endpoint → Answer → Type 0
   Ends n a = DidAs e (Does e from m p now epoch nonce buffer) buffer (record { answer = a; endpoint = n }) b′
 
@@ -100,7 +100,7 @@ module _ (e : Endpoint) (from : ℕ) (m : Message) (p : List ℕ) (now epoch non
   -- events: the events with what is announced
   module _ (events : Events) (ex : HeardAs e (heard now (seen e)) (heardWith e now r er n en f ef true events)) (room : f ≡ false) where
     abbrev Clocked : Clocks
-    Clocked = sentAt (y .«last_send_time») (heardAt now (e .clocks))
+    Clocked = heardAt now (y .clocks)
 
     abbrev Reacts : Endpoint
     Reacts = remade e (e .pending) (e .acked) (e .history) (e .sync) (e .nonces) Clocked (resumedFlags r (e .flags)) (ratedBy y (e .quality)) (e .statuses) (e .checksums) events (y .end)

@@ -73,7 +73,7 @@ module _ (e : Endpoint) (now nonce magic reply : ℕ) where
             → Early (remade e (e .pending) (e .acked) (e .history) (record { phase = e .sync .phase; remaining = left; «remote_magic» = e .sync .«remote_magic» }) (i .nonces) (r .clocks) (e .flags) (e .quality) (e .statuses) (e .checksums) (p .events) (r .end)) Done buffer′
         unfolding reacted tested replied request counted nonceIssued queueWire seen termsWith
         early-done p room ep k =
-            queued-did e _ (Counting true .effect) _
+            queued-did e _ (record { setup = refl; count = refl }) (Counting true .effect) _
             (rw (request-fits buffer (e .setup .magic) nonce (spent reply (outstanding (e .nonces))) (Counting true .effect) refl (r .ok) fit k room))
             _ refl buffer buffer′ _ (er .queued k) refl refl
             (rw (nonces-after i ei er k, ev, er .clocks k, ed, rw room at (ep .view), el))
@@ -86,7 +86,7 @@ module _ (e : Endpoint) (now nonce magic reply : ℕ) where
         → Last (remade e (e .pending) (e .acked) (e .history) (record { phase = Running; remaining = left; «remote_magic» = magic }) v d (e .flags) (e .quality) (e .statuses) (e .checksums) (p .events) (e .queued))
     unfolding replied counted running seen
     last-done d p room ed ep =
-        done-done e _ (Counting false .effect) _ (reacted-done 0 (seen e) (Counting false) refl refl refl (room-none [] (Counting false .effect) refl room)) refl
+        done-done e _ (record { setup = refl; count = refl }) (Counting false .effect) _ (reacted-done 0 (seen e) (Counting false) refl refl refl (room-none [] (Counting false .effect) refl room)) refl
         (rw (ev, el, ed, rw room at (ep .view)))
 
   -- which of them it is

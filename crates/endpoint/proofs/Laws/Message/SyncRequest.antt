@@ -42,4 +42,4 @@ module _ (e : Endpoint) (buffer : List ℕ) (now asked : ℕ) where
         → Asked (remade e (e .pending) (e .acked) (e .history) (e .sync) (e .nonces) c (x .flags) (e .quality) (e .statuses) (e .checksums) (x .events) (q .end)) Done b′
     unfolding onSyncRequest seen
     request-done q b′ eq c k ok ec =
-        reply-done e buffer now (SyncReply asked) (λ s. s) aside x q b′ eq (omega arith) _ k ok (λ f t h. rw (ec, h .clocks, h .flags, h .events, k)) ex
+        reply-done e buffer now (SyncReply asked) (λ s. s) aside x q b′ eq (omega arith) _ (record { setup = refl; count = refl }) k ok (λ f t h. rw (ec, h .clocks, h .flags, h .events, k)) ex

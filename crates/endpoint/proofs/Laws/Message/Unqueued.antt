@@ -26,4 +26,4 @@ module _ (e : Endpoint) (r : Reaction) (o : r .effect .out ≡ []) where
   pub unqueued : (buffer : List ℕ) (x : Ended) → DoneAs e (reacted 0 (seen e) r) x → DidAs e (reacted (length buffer) (seen e) r) buffer x buffer
   unfolding flatten
   unqueued buffer x d =
-      rw (reacted-any (length buffer)) (record { answer = d .answer; after = d .after; lent = rw reacted-out (sym (laid-none buffer (e .queued))); same = d .same })
+      rw (reacted-any (length buffer)) (record { answer = d .answer; after = d .after; terms = d .terms; lent = rw reacted-out (sym (laid-none buffer (e .queued))); same = d .same })

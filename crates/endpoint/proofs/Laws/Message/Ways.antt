@@ -21,6 +21,7 @@ use Rattle.nonces.specs.declared.Spent.{Spent}
 use Rattle.nonces.specs.declared.Nonces.{Nonces}
 use Rattle.nonces.specs.Nonces.{outstanding, isOutstanding, spent, renewed, IssuedAs, SpentAs}
 use Rattle.setup.specs.Setup.{intervalOf}
+use Rattle.timers.specs.declared.Clocks.{Clocks}
 use Rattle.timers.specs.Timers.{badClock, sentAt, heardAt}
 use Rattle.pending.specs.declared.Dropped.{Dropped}
 use Rattle.pending.specs.Pending.{DroppedAs}
@@ -250,7 +251,7 @@ module _ (e : Endpoint) (from : ℕ) (m : Message) (p : List ℕ) (now epoch non
             }
 
     -- one of the other kinds; k: its kind's number
-    module _ (y : Reacted) (b′ : List ℕ) (ey : ReactedAs (m .body) f (e .quality) (e .clocks .«last_send_time») now epoch (e .setup .magic) buffer (e .queued) y b′) (k : ℕ)
+    module _ (y : Reacted) (b′ : List ℕ) (ey : ReactedAs (m .body) f (e .quality) (e .clocks) now epoch (e .setup .magic) buffer (e .queued) y b′) (k : ℕ)
         (ek : k ≡ kindOf (m .body)) (others : (k ≡ 1 → ⊥) × (k ≡ 2 → ⊥) × (k ≡ 3 → ⊥) × (k ≡ 6 → ⊥)) where
       none : (kindOf (m .body) ≡ 1 → ⊥) × (kindOf (m .body) ≡ 2 → ⊥) × (kindOf (m .body) ≡ 3 → ⊥) × (kindOf (m .body) ≡ 6 → ⊥)
       none = (λ z. others .0 (ek ∙ z), λ z. others .1 (ek ∙ z), λ z. others .2 (ek ∙ z), λ z. others .3 (ek ∙ z))
@@ -259,7 +260,7 @@ module _ (e : Endpoint) (from : ℕ) (m : Message) (p : List ℕ) (now epoch non
       react-refuses h = react-refused e from m p now epoch nonce buffer good heeded r er n en f ef y b′ ey h none
 
       pub react-left : y .ok ≡ true
-          → Left (remade e (e .pending) (e .acked) (e .history) (e .sync) (e .nonces) (sentAt (y .«last_send_time») (e .clocks)) (e .flags) (ratedBy y (e .quality)) (e .statuses) (e .checksums) (e .events) (y .end)) b′
+          → Left (remade e (e .pending) (e .acked) (e .history) (e .sync) (e .nonces) (y .clocks) (e .flags) (ratedBy y (e .quality)) (e .statuses) (e .checksums) (e .events) (y .end)) b′
       react-left h =
           let room : f ≡ false = react-roomy e from m p now epoch nonce buffer good heeded r er n en f ef y b′ ey h none in
           record {
@@ -269,11 +270,11 @@ module _ (e : Endpoint) (from : ℕ) (m : Message) (p : List ℕ) (now epoch non
           }
 
     -- the end, by whether an interruption ends
-    module _ (s : Endpoint) (b′ : List ℕ) (l : Left s b′) where
+    module _ (s : Endpoint) (b′ : List ℕ) (l : Left s b′) (c : Clocks) (ec : c ≡ heardAt now (s .clocks)) where
       pub ends-quiet : r ≡ false → length (e .events .entries) ≡ 640
-          → Ends (remade s (s .pending) (s .acked) (s .history) (s .sync) (s .nonces) (heardAt now (s .clocks)) (s .flags) (s .quality) (s .statuses) (s .checksums) (s .events) (s .queued)) Done b′
-      ends-quiet h k = rw h at (l .ends (s .events) (rw (l .events) (ears-quiet e now r er n en f ef h k)))
+          → Ends (remade s (s .pending) (s .acked) (s .history) (s .sync) (s .nonces) c (s .flags) (s .quality) (s .statuses) (s .checksums) (s .events) (s .queued)) Done b′
+      ends-quiet h k = rw ec (rw h at (l .ends (s .events) (rw (l .events) (ears-quiet e now r er n en f ef h k))))
 
       pub ends-announced : r ≡ true → (x : Entry) → x ≡ withoutInput Event.NetworkResumed → (q : Pushed) → PushedAs (s .events) (hasRoom (heldEvents (s .events)) 1) (x ∷ []) q
-          → Ends (remade s (s .pending) (s .acked) (s .history) (s .sync) (s .nonces) (heardAt now (s .clocks)) (resumedFlags true (s .flags)) (s .quality) (s .statuses) (s .checksums) (q .events) (s .queued)) Done b′
-      ends-announced h x ex q eq = rw h at (l .ends (q .events) (ears-announced e now r er n en f ef (l .room) h x ex q (rw (l .events) at eq)))
+          → Ends (remade s (s .pending) (s .acked) (s .history) (s .sync) (s .nonces) c (resumedFlags true (s .flags)) (s .quality) (s .statuses) (s .checksums) (q .events) (s .queued)) Done b′
+      ends-announced h x ex q eq = rw ec (rw h at (l .ends (q .events) (ears-announced e now r er n en f ef (l .room) h x ex q (rw (l .events) at eq))))

@@ -89,7 +89,8 @@ requests-from-requires : tie.Need-requests-from-requires
 requests-from-requires c κs =
     let known : tie.After-struct-known = search in
     let s = start-of known .args .self in
-    (within known, rw (frames known) (frames-most (s .limits) (s .«last_recv_frame» - s .«current_frame»)))
+    let after-least-u32 : tie.After-least-u32 = search in
+    (within known, rw (frames known) (frames-most (s .limits) (s .«last_recv_frame» - s .«current_frame»)), omega (arith, after-least-u32 .least-u32 .ensures))
 
 add-t10 : tie.Need-add-t10
 add-t10 c =
@@ -109,7 +110,7 @@ returns-3 c =
     let r = after-frames-refusal .frames-refusal in
     let players = after-least-u32 .least-u32 in
     advances s (free (told-of known)) (r .result) (after-enum-told2 .enum-told2 .given .1) (r .ensures ∙ refused-as s n (frames known)) n (counted-as s n (frames known)) (q .result)
-    (q .ensures ∙ given-as s n (frames known) (players .result) (players .ensures))
+    (rw (given-as s n (frames known) (players .result) (players .ensures)) at (q .ensures))
 
 pub advance-frame-spec : {M : Type 1} → statement M
 advance-frame-spec =

@@ -20,10 +20,17 @@ with-parts-requires c κs = search needs
 
 returns : tie.Need-returns
 returns c =
-    let a = c .before .before .before .before .args in
-    c .with-parts .ensures
-    ∙ c .before .handle-all .ensures .each (seen (a .self)) (c .before .before .terms .ensures)
-    ∙ ap (handledAll (heldEvents (a .events))) (c .before .before .before .parts .ensures)
+    let after-handle-all : tie.After-handle-all = search in
+    let after-terms : tie.After-terms = search in
+    let after-parts : tie.After-parts = search in
+    let start : tie.Start = search in
+    let a = start .args in
+    let h = after-handle-all .handle-all .ensures in
+    let p = after-parts .parts .ensures in (
+      c .with-parts .ensures .0 ∙ h .each (seen (a .self)) (after-terms .terms .ensures) ∙ ap (handledAll (heldEvents (a .events))) (p .0),
+      c .with-parts .ensures .1 (h .counted (p .1)),
+      c .with-parts .ensures .2,
+    )
 
 pub handle-all-spec : {M : Type 1} → statement M
 handle-all-spec = tie.close (tie.spec parts-requires terms-requires handle-all-requires with-parts-requires returns)

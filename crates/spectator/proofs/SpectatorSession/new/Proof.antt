@@ -34,7 +34,7 @@ returns c =
     let e = after-new .new in
     let h = after-host-setup .host-setup in
     makes (a .setup) (a .now) (e .result) (rw (h .ensures) at (e .ensures)) (after-refusal .refusal .result) (after-refusal .refusal .ensures)
-    (c .before .before .before .new2 .result) (c .before .before .before .new2 .ensures) (c .before .new3 .result) (c .before .new3 .ensures .0) (c .new4 .result) (c .new4 .ensures)
+    (c .before .before .before .new2 .result) (c .before .before .before .new2 .ensures) (c .before .new3 .result) (c .before .new3 .ensures) (c .new4 .result) (c .new4 .ensures)
 
 pub new-spec : {M : Type 1} → statement M
 new-spec = tie.close (tie.spec host-setup-requires new-requires refusal-requires new-requires-2 cast-new new-requires-3 new-requires-4 returns)

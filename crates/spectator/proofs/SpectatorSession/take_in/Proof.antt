@@ -43,7 +43,7 @@ returns-2 c =
     let e = after-take-events .take-events in
     let p = after-messages .messages in
     let t = after-take-messages .take-messages in
-    take-in-done (a .self) (a .old) (a .acted) (a .out .now) (e .result) (e .ensures) (t .result) (t .ensures) _ (p .ensures) (after-enum-told .enum-told .given .1) (c .before .handle-all .result) (c .handle-all2 .result) (c .before .handle-all .ensures) (c .handle-all2 .ensures)
+    take-in-done (a .self) (a .old) (a .acted) (a .out .now) (e .result) (e .ensures) (t .result) (t .ensures) _ (p .ensures) (after-enum-told .enum-told .given .1) (c .before .handle-all .result) (c .handle-all2 .result) (c .before .handle-all .ensures .0) (c .handle-all2 .ensures .0) (c .before .handle-all .ensures .2) (c .handle-all2 .ensures .2) (c .handle-all2 .ensures .1)
 
 pub take-in-spec : {M : Type 1} → statement M
 take-in-spec =

@@ -14,9 +14,6 @@ abbrev μ-loop : tie.MeasureT-loop
 count-requires : tie.Need-count-requires Inv-loop μ-loop
 count-requires c κs = search needs
 
-least-requires : tie.Need-least-requires Inv-loop μ-loop
-least-requires c κs = search needs
-
 count-requires-2 : tie.Need-count-requires-2 Inv-loop μ-loop
 count-requires-2 c κs = search needs
 
@@ -54,7 +51,6 @@ put-checksums-spec =
     Inv-loop
     μ-loop
     count-requires
-    least-requires
     count-requires-2
     loop-holds
     least-from-requires

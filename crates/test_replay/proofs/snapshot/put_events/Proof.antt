@@ -1,12 +1,12 @@
--- `put_events` reads inside its list.
+-- `put_events` goes through the events once.
 use borrow.Author.Needs.{needs}
 use native.Mathlib.Omega.{arith}
-use Prim.Native.Nat.{_-_, _≤_}
+use Prim.Native.Nat.{_-_}
 use Rattle.test_replay.proofs.snapshot.put_events.Statement.{statement}
 use Rattle.test_replay.proofs.snapshot.put_events.Tie as tie
 
 abbrev Inv-loop : tie.InvT-loop
-Inv-loop size events n to₀ i₀ to i = n ≤ 640
+Inv-loop size events n to₀ i₀ to i = Unit {0}
 
 abbrev μ-loop : tie.MeasureT-loop
 μ-loop size events n to₀ i₀ to i = n - i
@@ -14,20 +14,14 @@ abbrev μ-loop : tie.MeasureT-loop
 count-requires : tie.Need-count-requires Inv-loop μ-loop
 count-requires c κs = search needs
 
-least-requires : tie.Need-least-requires Inv-loop μ-loop
-least-requires c κs = search needs
-
 count-requires-2 : tie.Need-count-requires-2 Inv-loop μ-loop
 count-requires-2 c κs = search needs
 
 loop-holds : tie.Need-loop-holds Inv-loop μ-loop
-loop-holds c = omega arith
+loop-holds c = tt
 
-mul-entry : tie.Need-mul-entry Inv-loop μ-loop
-mul-entry c = omega arith
-
-element-copy-out-entry : tie.Need-element-copy-out-entry Inv-loop μ-loop
-element-copy-out-entry c = omega arith
+entry-requires : tie.Need-entry-requires Inv-loop μ-loop
+entry-requires c κs = search needs
 
 put-event-requires : tie.Need-put-event-requires Inv-loop μ-loop
 put-event-requires c κs = search needs
@@ -39,7 +33,7 @@ loop-less : tie.Need-loop-less Inv-loop μ-loop
 loop-less c = omega arith
 
 loop-again : tie.Need-loop-again Inv-loop μ-loop
-loop-again c = omega arith
+loop-again c = tt
 
 returns : tie.Need-returns Inv-loop μ-loop
 returns c = search needs
@@ -51,11 +45,9 @@ put-events-spec =
     Inv-loop
     μ-loop
     count-requires
-    least-requires
     count-requires-2
     loop-holds
-    mul-entry
-    element-copy-out-entry
+    entry-requires
     put-event-requires
     add-i
     loop-less

@@ -7,13 +7,10 @@ use Rattle.test_replay.proofs.snapshot.put_list.Statement.{statement}
 use Rattle.test_replay.proofs.snapshot.put_list.Tie as tie
 
 abbrev Inv-loop : tie.InvT-loop
-Inv-loop list n most to₀ i₀ to i = most ≤ length list
+Inv-loop list n to₀ i₀ to i = n ≤ length list
 
 abbrev μ-loop : tie.MeasureT-loop
-μ-loop list n most to₀ i₀ to i = most - i
-
-least-requires : tie.Need-least-requires Inv-loop μ-loop
-least-requires c κs = search needs
+μ-loop list n to₀ i₀ to i = n - i
 
 count-requires : tie.Need-count-requires Inv-loop μ-loop
 count-requires c κs = search needs
@@ -48,7 +45,6 @@ put-list-spec =
     (tie.spec
     Inv-loop
     μ-loop
-    least-requires
     count-requires
     loop-holds
     mul-u32

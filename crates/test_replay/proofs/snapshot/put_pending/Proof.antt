@@ -1,7 +1,11 @@
 -- `put_pending` reads inside its list.
 use borrow.Author.Needs.{needs}
 use native.Mathlib.Omega.{arith}
+use mathlib.Core.Path.{_≡_}
 use Prim.Native.Nat.{_-_, _≤_}
+use lib.ListN.{length}
+use Rattle.base.proofs.Arrays.{unmap, view-le}
+use Rattle.pending.specs.Pending.{waiting}
 use Rattle.test_replay.proofs.snapshot.put_pending.Statement.{statement}
 use Rattle.test_replay.proofs.snapshot.put_pending.Tie as tie
 
@@ -14,14 +18,19 @@ abbrev μ-loop : tie.MeasureT-loop
 count-requires : tie.Need-count-requires Inv-loop μ-loop
 count-requires c κs = search needs
 
-least-requires : tie.Need-least-requires Inv-loop μ-loop
-least-requires c κs = search needs
-
 count-requires-2 : tie.Need-count-requires-2 Inv-loop μ-loop
 count-requires-2 c κs = search needs
 
+long : (c : tie.Start Inv-loop μ-loop) → length (c .args .t2 .slots) ≡ 129
+long c = search (unmap, needs)
+
+-- as many as the store holds, which lie in its array
 loop-holds : tie.Need-loop-holds Inv-loop μ-loop
-loop-holds c = omega arith
+unfolding waiting
+loop-holds c =
+    let p : tie.Start Inv-loop μ-loop = search in
+    let s = p .args .t2 in
+    omega (arith, long p, view-le (s .used) (s .slots), c .before .count .ensures)
 
 mul-input : tie.Need-mul-input Inv-loop μ-loop
 mul-input c = omega arith
@@ -51,7 +60,6 @@ put-pending-spec =
     Inv-loop
     μ-loop
     count-requires
-    least-requires
     count-requires-2
     loop-holds
     mul-input

@@ -23,9 +23,6 @@ loop-holds c = tt
 entry-requires : tie.Need-entry-requires Inv-loop μ-loop
 entry-requires c κs = search needs
 
-event-of-requires : tie.Need-event-of-requires Inv-loop μ-loop
-event-of-requires c κs = search needs
-
 put-event-requires : tie.Need-put-event-requires Inv-loop μ-loop
 put-event-requires c κs = search needs
 
@@ -51,7 +48,6 @@ put-events-spec =
     count-requires-2
     loop-holds
     entry-requires
-    event-of-requires
     put-event-requires
     add-i
     loop-less

@@ -1,7 +1,11 @@
 -- `put_inputs` reads inside its list.
 use borrow.Author.Needs.{needs}
 use native.Mathlib.Omega.{arith}
+use mathlib.Core.Path.{_≡_}
 use Prim.Native.Nat.{_-_, _≤_}
+use lib.ListN.{length}
+use Rattle.base.proofs.Arrays.{unmap, view-le}
+use Rattle.spectator.specs.Stores.{inputsOf}
 use Rattle.test_replay.proofs.watched.put_inputs.Statement.{statement}
 use Rattle.test_replay.proofs.watched.put_inputs.Tie as tie
 
@@ -11,11 +15,19 @@ Inv-loop players size inputs n to₀ i₀ to i = n ≤ 256
 abbrev μ-loop : tie.MeasureT-loop
 μ-loop players size inputs n to₀ i₀ to i = n - i
 
-least-requires : tie.Need-least-requires Inv-loop μ-loop
-least-requires c κs = search needs
+count-requires : tie.Need-count-requires Inv-loop μ-loop
+count-requires c κs = search needs
 
+long : (c : tie.Start Inv-loop μ-loop) → length (c .args .t2 .entries) ≡ 256
+long c = search (unmap, needs)
+
+-- as many as the store holds, which lie in its array
 loop-holds : tie.Need-loop-holds Inv-loop μ-loop
-loop-holds c = omega arith
+unfolding inputsOf
+loop-holds c =
+    let p : tie.Start Inv-loop μ-loop = search in
+    let s = p .args .t2 in
+    omega (arith, long p, view-le (s .used) (s .entries), c .count .ensures)
 
 mul-input : tie.Need-mul-input Inv-loop μ-loop
 mul-input c = omega arith
@@ -44,7 +56,7 @@ put-inputs-spec =
     (tie.spec
     Inv-loop
     μ-loop
-    least-requires
+    count-requires
     loop-holds
     mul-input
     element-copy-out-input

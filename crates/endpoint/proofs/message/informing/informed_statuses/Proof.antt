@@ -1,9 +1,10 @@
+use mathlib.Core.Path.{refl}
 use borrow.Author.Needs.{needs}
 use Rattle.endpoint.proofs.message.informing.informed_statuses.Statement.{statement}
 use Rattle.endpoint.proofs.message.informing.informed_statuses.Tie as tie
 
 returns : tie.Need-returns
-returns c = rw (c .if1 .taken)
+returns c = (rw (c .if1 .taken), refl)
 
 merge-reports-requires : tie.Need-merge-reports-requires
 merge-reports-requires c κs = search needs

@@ -1,7 +1,7 @@
--- `merge_reports` merges one report after another. The invariant: what is held is what was held, merged with the first i reports.
+-- `merge_reports` merges one report after another. The invariant: what is held is what was held, merged with the first i reports, and as many.
 use borrow.Author.Needs.{needs}
 use borrow.Author.Tests.{ltb-true, ltb-false}
-use mathlib.Core.Path.{_≡_, sym, _∙_}
+use mathlib.Core.Path.{_≡_, refl, sym, _∙_}
 use Prim.Native.Nat.{_-_, _≤_}
 use native.Mathlib.Omega.{arith}
 use lib.ListN.{length, take, length-take}
@@ -16,13 +16,13 @@ use Rattle.endpoint.proofs.message.informing.merge_reports.Tie as tie
 
 abbrev Inv-loop : tie.InvT-loop
 Inv-loop reports next₀ i₀ next i =
-    (i ≤ 4) × (i ≤ reports .count) × (length (reports .list) ≡ 4) × (heldStatuses next ≡ mergedAll (heldStatuses next₀) (take i (statusesOf (reportList reports))))
+    (i ≤ 4) × (i ≤ reports .count) × (length (reports .list) ≡ 4) × (heldStatuses next ≡ mergedAll (heldStatuses next₀) (take i (statusesOf (reportList reports)))) × (next .count ≡ next₀ .count)
 
 abbrev μ-loop : tie.MeasureT-loop
 μ-loop reports next₀ i₀ next i = 4 - i
 
 loop-holds : tie.Need-loop-holds Inv-loop μ-loop
-loop-holds c = (omega arith, omega arith, search (unmap, needs), sym (all-none (heldStatuses (c .args .statuses))))
+loop-holds c = (omega arith, omega arith, search (unmap, needs), sym (all-none (heldStatuses (c .args .statuses))), refl)
 
 mul-report : tie.Need-mul-report Inv-loop μ-loop
 mul-report c = omega arith
@@ -47,19 +47,20 @@ loop-again c =
       omega (arith, ltb-true),
       l .inv .2,
       c .merge-report .ensures .0 ∙ rw (l .inv .3) (sym (reports-turn (heldStatuses (a .statuses)) (a .t2) (l .i) _ (omega (arith, ltb-true, l .inv .2, length-take (a .t2 .count) (a .t2 .list))))),
+      c .merge-report .ensures .1 ∙ l .inv .4,
     )
 
 returns : tie.Need-returns Inv-loop μ-loop
 returns c =
     let a = c .before .before .before .args in
     let l = c .before .before .loop in
-    l .inv .3 ∙ reports-end (heldStatuses (a .statuses)) (reportList (a .t2)) (l .i) (omega (arith, ltb-false, l .inv .2, length-take (a .t2 .count) (a .t2 .list)))
+    (l .inv .3 ∙ reports-end (heldStatuses (a .statuses)) (reportList (a .t2)) (l .i) (omega (arith, ltb-false, l .inv .2, length-take (a .t2 .count) (a .t2 .list))), l .inv .4)
 
 returns-2 : tie.Need-returns-2 Inv-loop μ-loop
 returns-2 c =
     let a = c .before .before .args in
     let l = c .before .loop in
-    l .inv .3 ∙ reports-end (heldStatuses (a .statuses)) (reportList (a .t2)) (l .i) (omega (arith, l .inv .2, length-take (a .t2 .count) (a .t2 .list)))
+    (l .inv .3 ∙ reports-end (heldStatuses (a .statuses)) (reportList (a .t2)) (l .i) (omega (arith, l .inv .2, length-take (a .t2 .count) (a .t2 .list))), l .inv .4)
 
 pub merge-reports-spec : {M : Type 1} → statement M
 merge-reports-spec =

@@ -8,6 +8,7 @@ use Rattle.codec.specs.declared.Wide.{Wide}
 use Rattle.codec.specs.declared.MessageBody.{MessageBody}
 use Rattle.codec.specs.declared.MessageBody.the-variants.{SyncRequest, SyncReply, QualityReport, QualityReply}
 use Rattle.codec.proofs.KindNumbers.{kind-other, kind-sync-request, kind-quality-report, kind-quality-reply}
+use Rattle.timers.specs.declared.Clocks.{Clocks}
 use Rattle.quality.specs.declared.Quality.{Quality}
 use Rattle.quality.specs.Quality.{roundTrip, remoteSet, tripNoted}
 use Rattle.endpoint.specs.declared.message.reaction.Reacted.{Reacted}
@@ -18,23 +19,23 @@ use Rattle.endpoint.proofs.message.reaction.react.Statement.{statement}
 use Rattle.endpoint.proofs.message.reaction.react.Tie as tie
 
 -- f: whether there is no room
-module _ (q : Quality) (sent now epoch magic : ℕ) (o : List ℕ) (at : ℕ) (f : Bool) where
+module _ (q : Quality) (c : Clocks) (now epoch magic : ℕ) (o : List ℕ) (at : ℕ) (f : Bool) where
   -- as it is noted
   abbrev Noted : Reacted → Type 0
-  Noted r = r ≡ record { quality = q; «last_send_time» = sent; end = at; ok = not f }
+  Noted r = r ≡ record { quality = q; clocks = c; end = at; ok = not f }
 
-  unanswered : (reply : MessageBody) (p : Quality) (r : Reacted) → Noted r → f ≡ true → Answers reply f p now magic o at r o
+  unanswered : (reply : MessageBody) (p : Quality) (r : Reacted) → Noted r → f ≡ true → Answers reply f p c now magic o at r o
   unanswered reply p r e t =
       let no : f ≡ false → ⊥ = λ h. false-true (sym h ∙ t) in
       record { unqueued = λ _. (rw (e, t), refl); queued = λ h. absurd (no h); noted = λ h. absurd (no h) }
 
-  unnoted : (p : Quality) (r : Reacted) → Noted r → f ≡ true → Notes f p sent o at r o
+  unnoted : (p : Quality) (r : Reacted) → Noted r → f ≡ true → Notes f p c o at r o
   unnoted p r e t = record { ok = rw e; noted = λ h. absurd (false-true (sym h ∙ t)); lent = refl }
 
-  only-noted : (r : Reacted) → Noted r → Notes f q sent o at r o
+  only-noted : (r : Reacted) → Noted r → Notes f q c o at r o
   only-noted r e = record { ok = rw e; noted = λ h. rw (e, h); lent = refl }
 
-  unqueued : (b : MessageBody) (r : Reacted) → Noted r → f ≡ true → ReactedAs b f q sent now epoch magic o at r o
+  unqueued : (b : MessageBody) (r : Reacted) → Noted r → f ≡ true → ReactedAs b f q c now epoch magic o at r o
   unqueued b r e t =
       record {
         syncRequest = λ n k. unanswered _ _ r e t;
@@ -44,7 +45,7 @@ module _ (q : Quality) (sent now epoch magic : ℕ) (o : List ℕ) (at : ℕ) (f
       }
 
   -- k: the number of a kind, which is neither 0 nor 4 nor 5
-  left-over : (b : MessageBody) (k : ℕ) (r : Reacted) → Noted r → k ≡ kindOf b → (k ≡ 0 → ⊥) → (k ≡ 4 → ⊥) → (k ≡ 5 → ⊥) → ReactedAs b f q sent now epoch magic o at r o
+  left-over : (b : MessageBody) (k : ℕ) (r : Reacted) → Noted r → k ≡ kindOf b → (k ≡ 0 → ⊥) → (k ≡ 4 → ⊥) → (k ≡ 5 → ⊥) → ReactedAs b f q c now epoch magic o at r o
   left-over b k r e i a0 a4 a5 =
       record {
         syncRequest = λ n h. absurd (a0 (i ∙ rw h (kind-sync-request n)));
@@ -54,11 +55,11 @@ module _ (q : Quality) (sent now epoch magic : ℕ) (o : List ℕ) (at : ℕ) (f
       }
 
 -- a body is of one kind: what a reaction to its kind does is all that is said of it
-module _ (b : MessageBody) (f : Bool) (q : Quality) (sent now epoch magic : ℕ) (o : List ℕ) (at : ℕ) (r : Reacted) (o′ : List ℕ) where
+module _ (b : MessageBody) (f : Bool) (q : Quality) (c : Clocks) (now epoch magic : ℕ) (o : List ℕ) (at : ℕ) (r : Reacted) (o′ : List ℕ) where
   abbrev Reacts : Type 0
-  Reacts = ReactedAs b f q sent now epoch magic o at r o′
+  Reacts = ReactedAs b f q c now epoch magic o at r o′
 
-  to-request : (n : ℕ) → b ≡ SyncRequest n → Answers (SyncReply n) f q now magic o at r o′ → Reacts
+  to-request : (n : ℕ) → b ≡ SyncRequest n → Answers (SyncReply n) f q c now magic o at r o′ → Reacts
   to-request n e a =
       record {
         syncRequest = λ m h. let same : n ≡ m = cc in rw (← same) a;
@@ -67,7 +68,7 @@ module _ (b : MessageBody) (f : Bool) (q : Quality) (sent now epoch magic : ℕ)
         keepAlive = λ h. absurd (false-true cc);
       }
 
-  to-report : (x : ℕ) (y : Wide) → b ≡ QualityReport x y → Answers (QualityReply y) f (remoteSet x q) now magic o at r o′ → Reacts
+  to-report : (x : ℕ) (y : Wide) → b ≡ QualityReport x y → Answers (QualityReply y) f (remoteSet x q) c now magic o at r o′ → Reacts
   to-report x y e a =
       record {
         syncRequest = λ n h. absurd (false-true cc);
@@ -76,7 +77,7 @@ module _ (b : MessageBody) (f : Bool) (q : Quality) (sent now epoch magic : ℕ)
         keepAlive = λ h. absurd (false-true cc);
       }
 
-  to-reply : (x : Wide) → b ≡ QualityReply x → Notes f (tripNoted (roundTrip epoch (x .low) (x .high)) q) sent o at r o′ → Reacts
+  to-reply : (x : Wide) → b ≡ QualityReply x → Notes f (tripNoted (roundTrip epoch (x .low) (x .high)) q) c o at r o′ → Reacts
   to-reply x e a =
       record {
         syncRequest = λ n h. absurd (false-true cc);
@@ -89,7 +90,7 @@ returns : tie.Need-returns
 returns c =
     let start : tie.Start = search in
     let a = start .args in
-    unqueued (a .quality) (a .last-send-time) (a .now) (a .epoch) (a .magic) (a .out .now) (a .queued) (a .full) (a .body) _ refl (c .if1 .taken)
+    unqueued (a .quality) (a .clocks) (a .now) (a .epoch) (a .magic) (a .out .now) (a .queued) (a .full) (a .body) _ refl (c .if1 .taken)
 
 kind-of-requires : tie.Need-kind-of-requires
 kind-of-requires c κs = search needs
@@ -107,6 +108,9 @@ returns-2 c =
 body-only-requires : tie.Need-body-only-requires
 body-only-requires c κs = search needs
 
+sent-requires : tie.Need-sent-requires
+sent-requires c κs = search needs
+
 enum-known-body-2 : tie.Need-enum-known-body-2
 enum-known-body-2 c = search needs
 
@@ -122,6 +126,9 @@ body-only-requires-2 c κs = search needs
 
 remote-requires : tie.Need-remote-requires
 remote-requires c κs = search needs
+
+sent-requires-2 : tie.Need-sent-requires-2
+sent-requires-2 c κs = search needs
 
 enum-known-body-3 : tie.Need-enum-known-body-3
 enum-known-body-3 c = search needs
@@ -148,32 +155,34 @@ returns-5 c =
     let after-body : tie.After-body = search in
     let else1 : tie.Else1 = search in
     to-request _ _ _ _ _ _ _ _ _ _ _ _ (after-body .body .given .1)
-    (record { unqueued = λ t. absurd (false-true (sym (else1 .if1 .left) ∙ t)); queued = λ _. after-body-only .body-only .ensures; noted = λ _. (refl, refl) })
+    (record { unqueued = λ t. absurd (false-true (sym (else1 .if1 .left) ∙ t)); queued = λ _. after-body-only .body-only .ensures; noted = λ _. (refl, c .sent .ensures) })
 
 same-length-2 : tie.Need-same-length-2
 same-length-2 c = search needs
 
 returns-6 : tie.Need-returns-6
 returns-6 c =
+    let after-remote : tie.After-remote = search in
     let after-body-only2 : tie.After-body-only2 = search in
     let after-body2 : tie.After-body2 = search in
     let else1 : tie.Else1 = search in
     to-report _ _ _ _ _ _ _ _ _ _ _ _ _ (after-body2 .body2 .given .1)
-    (record { unqueued = λ t. absurd (false-true (sym (else1 .if1 .left) ∙ t)); queued = λ _. after-body-only2 .body-only2 .ensures; noted = λ _. (c .remote .ensures, refl) })
+    (record { unqueued = λ t. absurd (false-true (sym (else1 .if1 .left) ∙ t)); queued = λ _. after-body-only2 .body-only2 .ensures; noted = λ _. (after-remote .remote .ensures, c .sent2 .ensures) })
 
 returns-7 : tie.Need-returns-7
 returns-7 c =
+    let after-tripped : tie.After-tripped = search in
     let after-body3 : tie.After-body3 = search in
     let else1 : tie.Else1 = search in
     to-reply _ _ _ _ _ _ _ _ _ _ _ _ (after-body3 .body3 .given .1)
-    (record { ok = refl; noted = λ _. rw (c .tripped .ensures, c .before .round-trip .ensures, else1 .if1 .left); lent = refl })
+    (record { ok = refl; noted = λ _. rw (after-tripped .tripped .ensures, after-tripped .before .round-trip .ensures, else1 .if1 .left); lent = refl })
 
 returns-8 : tie.Need-returns-8
 returns-8 c =
     let start : tie.Start = search in
     let a = start .args in
     let x = c .match .rest in
-    left-over (a .quality) (a .last-send-time) (a .now) (a .epoch) (a .magic) (a .out .now) (a .queued) (a .full) (a .body) (c .before .kind-of .result) _ refl (c .before .kind-of .ensures) (x .0 .0 .1) (x .0 .1) (x .1)
+    left-over (a .quality) (a .clocks) (a .now) (a .epoch) (a .magic) (a .out .now) (a .queued) (a .full) (a .body) (c .before .kind-of .result) _ refl (c .before .kind-of .ensures) (x .0 .0 .1) (x .0 .1) (x .1)
 
 pub react-spec : {M : Type 1} → statement M
 react-spec =
@@ -184,10 +193,12 @@ react-spec =
     enum-known-body
     returns-2
     body-only-requires
+    sent-requires
     enum-known-body-2
     returns-3
     body-only-requires-2
     remote-requires
+    sent-requires-2
     enum-known-body-3
     returns-4
     round-trip-requires

@@ -1,4 +1,4 @@
--- The invariant: handling what is left gives what handling all gives.
+-- The invariant: handling what is left gives what handling all gives, and right counts stay right.
 use borrow.Author.Needs.{needs}
 use mathlib.Core.Path.{_≡_, refl, _∙_, ap}
 use Prim.Native.Nat.{_-_, _≤_}
@@ -7,14 +7,14 @@ use lib.ListN.{length, drop}
 use Rattle.events.specs.Events.{heldEvents}
 use Rattle.spectator_rules.specs.Watch.{Watch}
 use Rattle.spectator_rules.specs.Handling.{handled, handledAll}
-use Rattle.spectator.specs.Inside.Handling.{assembled, TermsOf}
+use Rattle.spectator.specs.Inside.Handling.{assembled, TermsOf, PartsCounted}
 use Rattle.spectator.proofs.Laws.Handling.{handled-turn, handled-end}
 use Rattle.spectator.proofs.handling.Parts.handle_all.Statement.{statement}
 use Rattle.spectator.proofs.handling.Parts.handle_all.Tie as tie
 
 abbrev Inv-loop : tie.InvT-loop
 Inv-loop terms events n parts₀ i₀ parts i =
-    (i ≤ n) × (n ≡ length (heldEvents events)) × ((w : Watch) → TermsOf terms w → handledAll (drop i (heldEvents events)) (assembled w parts) ≡ handledAll (heldEvents events) (assembled w parts₀))
+    (i ≤ n) × (n ≡ length (heldEvents events)) × ((w : Watch) → TermsOf terms w → handledAll (drop i (heldEvents events)) (assembled w parts) ≡ handledAll (heldEvents events) (assembled w parts₀)) × (PartsCounted parts₀ → PartsCounted parts)
 
 abbrev μ-loop : tie.MeasureT-loop
 μ-loop terms events n parts₀ i₀ parts i = n - i
@@ -23,7 +23,7 @@ count-requires : tie.Need-count-requires Inv-loop μ-loop
 count-requires c κs = search needs
 
 loop-holds : tie.Need-loop-holds Inv-loop μ-loop
-loop-holds c = (omega arith, c .count .ensures, λ w k. refl)
+loop-holds c = (omega arith, c .count .ensures, λ w k. refl, λ k. k)
 
 entry-requires : tie.Need-entry-requires Inv-loop μ-loop
 entry-requires c κs = search needs
@@ -41,13 +41,13 @@ loop-again : tie.Need-loop-again Inv-loop μ-loop
 loop-again c =
     let a = c .before .before .before .before .before .args in
     let l = c .before .before .before .loop in
-    (omega arith, l .inv .1, λ w k. handled-turn (heldEvents (a .events)) (l .i) (assembled w (c .handle .result)) (assembled w (l .parts)) (omega arith) (c .handle .ensures .each w k ∙ ap (λ x. handled x (assembled w (l .parts))) (c .before .entry .ensures)) ∙ l .inv .2 w k)
+    (omega arith, l .inv .1, λ w k. handled-turn (heldEvents (a .events)) (l .i) (assembled w (c .handle .result)) (assembled w (l .parts)) (omega arith) (c .handle .ensures .each w k ∙ ap (λ x. handled x (assembled w (l .parts))) (c .before .entry .ensures)) ∙ l .inv .2 w k, λ k. c .handle .ensures .counted (l .inv .3 k))
 
 returns : tie.Need-returns Inv-loop μ-loop
 returns c =
     let a = c .before .before .before .args in
     let l = c .before .loop in
-    record { each = λ w k. handled-end (heldEvents (a .events)) (l .i) (assembled w (l .parts)) (omega arith) ∙ l .inv .2 w k }
+    record { each = λ w k. handled-end (heldEvents (a .events)) (l .i) (assembled w (l .parts)) (omega arith) ∙ l .inv .2 w k; counted = l .inv .3 }
 
 pub handle-all-spec : {M : Type 1} → statement M
 handle-all-spec =

@@ -16,7 +16,7 @@ returns : tie.Need-returns
 returns c =
     let a = c .before .before .before .before .args in
     store-changes (a .terms) (a .self) (a .frame) (a .player) (a .input) (c .before .before .before .store .result) (c .before .before .quality-after .result) (c .before .lent .result)
-    (c .before .before .before .store .ensures) (c .before .before .quality-after .ensures) (c .before .lent .ensures .0)
+    (c .before .before .before .store .ensures) (c .before .before .quality-after .ensures) (c .before .lent .ensures)
 
 pub store-spec : {M : Type 1} → statement M
 store-spec = tie.close (tie.spec store-requires quality-after-requires lent-requires returns)

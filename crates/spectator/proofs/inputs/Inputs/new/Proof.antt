@@ -2,6 +2,7 @@
 use borrow.Author.Needs.{needs}
 use native.Mathlib.Omega.{arith}
 use Prim.Native.Nat.{_*_, min}
+use lib.ListN.{length-replicate}
 use Rattle.base.proofs.Orders.{take-replicate}
 use Rattle.spectator_rules.specs.Inputs.{blankInput, freshInputs}
 use Rattle.spectator.specs.Stores.{inputsOf}
@@ -18,7 +19,7 @@ returns : tie.Need-returns
 unfolding inputsOf freshInputs blankInput
 returns c =
     let s = c .before .args .slots in
-    rw (c .least .ensures) (take-replicate (min s 64 * 4) 256 blankInput (omega arith))
+    (rw (c .least .ensures) (take-replicate (min s 64 * 4) 256 blankInput (omega arith)), rw (length-replicate, c .least .ensures))
 
 pub new-spec : {M : Type 1} → statement M
 new-spec = tie.close (tie.spec least-requires mul-used returns)

@@ -1,4 +1,4 @@
--- The invariant: the first k frames are there.
+-- The invariant: the first k frames are there, each with its count.
 use borrow.Author.Needs.{needs}
 use mathlib.Core.List.{map}
 use mathlib.Core.Path.{_≡_, refl}
@@ -7,16 +7,18 @@ use native.Mathlib.Omega.{arith}
 use lib.ListN.{length, take, length-set}
 use Rattle.base.proofs.Arrays.{unmap}
 use Rattle.status.specs.Statuses.{heldStatuses}
-use Rattle.spectator.specs.Stores.{inputsOf, requestOf, requestFrames}
+use Rattle.spectator.specs.declared.requests.Request.{Request}
+use Rattle.spectator.specs.Stores.{inputsOf, requestOf, requestFrames, requestCounts}
 use Rattle.spectator_rules.specs.Advance.{requestsBy}
-use Rattle.spectator.proofs.Laws.Requests.{request-turn}
+use Rattle.spectator.proofs.Laws.Requests.{request-turn, count-turn, frames-counted}
 use Rattle.spectator.proofs.inputs.Inputs.requests_from.Statement.{statement}
 use Rattle.spectator.proofs.inputs.Inputs.requests_from.Tie as tie
 
 abbrev Inv-loop : tie.InvT-loop
 Inv-loop self statuses slots players frame n requests₀ k₀ requests k =
-    (k ≤ n) × (n ≤ 63) × (frame + n ≤ 2 ^ 32) × (length (requests .frames) ≡ 63)
+    (k ≤ n) × (n ≤ 63) × (frame + n ≤ 2 ^ 32) × (players ≤ 4) × (length (requests .frames) ≡ 63)
     × (map requestOf (take k (requests .frames)) ≡ requestsBy slots k frame players (inputsOf self) (heldStatuses statuses))
+    × (map (λ (q : Request). q .used) (take k (requests .frames)) ≡ map length (requestsBy slots k frame players (inputsOf self) (heldStatuses statuses)))
 
 abbrev μ-loop : tie.MeasureT-loop
 μ-loop self statuses slots players frame n requests₀ k₀ requests k = n - k
@@ -26,13 +28,13 @@ none-requires c κs = search needs
 
 loop-holds : tie.Need-loop-holds Inv-loop μ-loop
 unfolding requestsBy
-loop-holds c = (omega arith, c .before .pre .1, c .before .pre .0, search (unmap, needs), refl)
+loop-holds c = (omega arith, c .before .pre .1, c .before .pre .0, c .before .pre .2, search (unmap, needs), refl, refl)
 
 add-request-at : tie.Need-add-request-at Inv-loop μ-loop
 add-request-at c = omega arith
 
 request-at-requires : tie.Need-request-at-requires Inv-loop μ-loop
-request-at-requires c κs = search needs
+request-at-requires c κs = omega arith
 
 cast-request : tie.Need-cast-request Inv-loop μ-loop
 cast-request c = omega arith
@@ -56,17 +58,23 @@ loop-again c =
       omega arith,
       l .inv .1,
       l .inv .2,
-      rw length-set (l .inv .3),
-      request-turn (a .slots) (a .players) (a .frame) (l .k) (inputsOf (a .self)) (heldStatuses (a .statuses)) (l .requests .frames) (c .request-at .result) (omega arith) (l .inv .4) (c .request-at .ensures),
+      l .inv .3,
+      rw length-set (l .inv .4),
+      request-turn (a .slots) (a .players) (a .frame) (l .k) (inputsOf (a .self)) (heldStatuses (a .statuses)) (l .requests .frames) (c .request-at .result) (omega arith) (l .inv .5) (c .request-at .ensures .0),
+      count-turn (a .slots) (a .players) (a .frame) (l .k) (inputsOf (a .self)) (heldStatuses (a .statuses)) (l .requests .frames) (c .request-at .result) (omega arith) (l .inv .6) (c .request-at .ensures .1),
     )
 
 returns : tie.Need-returns Inv-loop μ-loop
-unfolding requestFrames
+unfolding requestFrames requestCounts
 returns c =
     let a = c .before .before .before .args in
     let l = c .before .loop in
     let m : l .k ≡ a .n = omega arith in
-    rw m at (l .inv .4)
+    record {
+      frames = rw m at (l .inv .5);
+      count = frames-counted (a .slots) (a .players) (inputsOf (a .self)) (heldStatuses (a .statuses)) (a .n) (a .frame);
+      players = rw m at (l .inv .6);
+    }
 
 pub requests-from-spec : {M : Type 1} → statement M
 requests-from-spec =

@@ -3,11 +3,12 @@ use borrow.Author.Needs.{needs}
 use mathlib.Core.Path.{_≡_, sym, _∙_}
 use Prim.Native.Nat.{_<_}
 use native.Mathlib.Omega.{arith}
-use lib.ListN.{length, length-take}
+use lib.ListN.{length, length-set}
 use lib.Seq.{take-set-lt, set-out}
 use Rattle.base.proofs.Arrays.{unmap, view-le}
 use Rattle.spectator_rules.specs.Inputs.{inputStored}
 use Rattle.spectator.specs.Stores.{inputsOf}
+use Rattle.spectator.proofs.Laws.Counts.{counted-view}
 use Rattle.spectator.proofs.inputs.Inputs.store.Statement.{statement}
 use Rattle.spectator.proofs.inputs.Inputs.store.Tie as tie
 
@@ -35,16 +36,18 @@ element-set-from-self c = inside c
 returns : tie.Need-returns
 unfolding inputsOf inputStored
 returns c =
-    let a = c .before .before .before .args in
-    let p = c .before .before .place-of .result in
-    take-set-lt (a .t1 .used) (a .t1 .entries) p _ (omega (arith, c .if1 .taken, c .before .count .ensures, length-take (a .t1 .used) (a .t1 .entries)))
-    ∙ rw (c .before .before .place-of .ensures)
+    let s = c .before .before .before .args .t1 in
+    let p = c .before .before .place-of in
+    let n = c .before .count in
+    (take-set-lt (n .result) (s .entries) (p .result) _ (c .if1 .taken) ∙ rw (counted-view (s .used) (s .entries) (n .result) (n .ensures), p .ensures), rw length-set (n .ensures))
 
 returns-2 : tie.Need-returns-2
-unfolding inputStored
+unfolding inputsOf inputStored
 returns-2 c =
-    let a = c .before .before .before .args in
-    rw (← c .before .before .place-of .ensures) (sym (set-out (inputsOf (a .t1)) (c .before .before .place-of .result) _ (omega (arith, c .if1 .left, c .before .count .ensures))))
+    let s = c .before .before .before .args .t1 in
+    let p = c .before .before .place-of in
+    let n = c .before .count in
+    (counted-view (s .used) (s .entries) (n .result) (n .ensures) ∙ rw (← p .ensures) (sym (set-out (inputsOf s) (p .result) _ (omega (arith, c .if1 .left, n .ensures)))), rw length-set (n .ensures))
 
 pub store-spec : {M : Type 1} → statement M
 store-spec = tie.close (tie.spec place-of-requires count-requires mul-t12 element-set-from-self returns returns-2)

@@ -6,7 +6,7 @@ use Rattle.spectator.proofs.session_events.SessionEvents.new.Tie as tie
 
 returns : tie.Need-returns
 unfolding eventsOf
-returns c = refl
+returns c = (refl, refl)
 
 pub new-spec : {M : Type 1} → statement M
 new-spec = tie.close (tie.spec returns)

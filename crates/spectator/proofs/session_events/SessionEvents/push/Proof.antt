@@ -1,9 +1,8 @@
--- `push` writes behind the last where there is a place.
+-- `push` writes behind the last.
 use borrow.Author.Needs.{needs}
-use borrow.Author.Tests.{lt-ltb, le-ltb}
 use mathlib.Core.Path.{_≡_}
 use native.Mathlib.Omega.{arith}
-use lib.ListN.{length}
+use lib.ListN.{length, length-append}
 use Rattle.base.proofs.Arrays.{unmap, store-end}
 use Rattle.spectator.specs.Stores.{eventsOf}
 use Rattle.spectator.proofs.session_events.SessionEvents.push.Statement.{statement}
@@ -27,14 +26,11 @@ add-self c = search needs
 returns : tie.Need-returns
 unfolding eventsOf
 returns c =
-    let s = c .before .before .args .t1 in
-    let n = c .before .count .ensures in
-    rw (lt-ltb (length (eventsOf s)) 128 (omega arith)) (store-end (s .entries) (s .used) _ _ n (omega (arith, long (c .before .before))))
-
-returns-2 : tie.Need-returns-2
-returns-2 c =
-    let s = c .before .before .args .t1 in
-    rw (le-ltb (length (eventsOf s)) 128 (omega (arith, c .before .count .ensures)))
+    let after-count : tie.After-count = search in
+    let start : tie.Start = search in
+    let s = start .args .t1 in
+    let n = after-count .count .ensures in
+    (store-end (s .entries) (s .used) _ _ n (omega (arith, long start, start .pre)), rw length-append (omega (arith, n)))
 
 pub push-spec : {M : Type 1} → statement M
-push-spec = tie.close (tie.spec count-requires mul-entry element-set-from-entry add-self returns returns-2)
+push-spec = tie.close (tie.spec count-requires mul-entry element-set-from-entry add-self returns)

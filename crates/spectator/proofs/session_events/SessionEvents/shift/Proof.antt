@@ -3,10 +3,11 @@
 use borrow.Author.Needs.{needs}
 use Rattle.base.proofs.Arrays.{unmap, shifted, view-le}
 use Rattle.base.proofs.Shifts.{move-turn, move-rest}
+use mathlib.Core.List.{[]}
 use mathlib.Core.Path.{_≡_, refl, sym}
 use Prim.Native.Nat.{_-_, _≤_}
 use native.Mathlib.Omega.{arith}
-use lib.ListN.{length, take, drop, length-set, drop-of-length-le}
+use lib.ListN.{length, take, drop, length-set, length-drop, drop-of-length-le}
 use Rattle.spectator.specs.Stores.{eventsOf}
 use Rattle.spectator.proofs.session_events.SessionEvents.shift.Statement.{statement}
 use Rattle.spectator.proofs.session_events.SessionEvents.shift.Tie as tie
@@ -27,7 +28,9 @@ long c = search (unmap, needs)
 
 returns : tie.Need-returns Inv-loop μ-loop
 unfolding eventsOf
-returns c = sym (drop-of-length-le (eventsOf (c .before .before .args .t1)) {i = c .before .before .args .k} (omega (arith, c .before .count .ensures)))
+returns c =
+    let none : drop (c .before .before .args .k) (eventsOf (c .before .before .args .t1)) ≡ [] = drop-of-length-le (eventsOf (c .before .before .args .t1)) {i = c .before .before .args .k} (omega (arith, c .before .count .ensures)) in
+    (sym none, rw none)
 
 sub-m : tie.Need-sub-m Inv-loop μ-loop
 sub-m c = omega arith
@@ -80,7 +83,7 @@ returns-2 c =
     let a = c .before .before .before .before .args in
     let l = c .before .loop in
     let m : l .i ≡ c .before .before .before .count .result - a .k = omega arith in
-    shifted (l .self .entries) (a .t1 .entries) (a .t1 .used) (c .before .before .before .count .result) (a .k) (l .inv .3) (rw m at (l .inv .6))
+    (shifted (l .self .entries) (a .t1 .entries) (a .t1 .used) (c .before .before .before .count .result) (a .k) (l .inv .3) (rw m at (l .inv .6)), rw length-drop (omega (arith, l .inv .3)))
 
 pub shift-spec : {M : Type 1} → statement M
 shift-spec =

@@ -6,7 +6,7 @@ use Rattle.spectator.proofs.session_events.SessionEvents.take_all.Tie a
 
 returns : tie.Need-returns
 unfolding eventsOf
-returns c = refl
+returns c = (refl, refl)
 
 pub take-all-spec : {M : Type 1} → statement M
 take-all-spec = tie.close (tie.spec returns)

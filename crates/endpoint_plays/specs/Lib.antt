@@ -1,0 +1,4 @@
+pub mod Sides
+pub mod Plays
+pub mod Buffers
+pub mod Delivered

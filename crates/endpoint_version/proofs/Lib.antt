@@ -1,0 +1,9 @@
+pub mod Machine
+pub mod Typed
+pub mod Asked
+pub mod Reached
+pub mod Filled
+pub mod Unseen
+pub mod Values
+pub mod Proper
+pub mod Right

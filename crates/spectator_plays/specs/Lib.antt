@@ -1,0 +1,4 @@
+pub mod Screens
+pub mod Plays
+pub mod Buffers
+pub mod Viewed
