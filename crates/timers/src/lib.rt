@@ -59,8 +59,8 @@ pub enum Firing {
     ShuttingDown,
 }
 
-// The thin setter that F-7 asks for: the clocks are lent to it by `&mut`, and it sets in place those that the step fires. A function over `&mut` of a
-// struct is proved by hand, so there is one for all steps; what a step sets, by value, is `after`.
+// The thin setter that F-7 asks for: the clocks are lent to it by `&mut`, and it writes them in place: those that the step fires at the time given, every
+// other as it was. A function over `&mut` of a struct is proved by hand, so there is one for all steps; what a step sets, by value, is `after`.
 fn fire(clocks: &mut Clocks, step: Firing, at: u64)
     ensures { λ _. ⌜ now (clocks .exit) ≡ firedBy step at (now (clocks .entry)) ⌝ }
 {
