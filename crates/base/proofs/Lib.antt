@@ -13,3 +13,4 @@ pub mod InPlace
 pub mod Padded
 pub mod Removal
 pub mod Settled
+pub mod Last

@@ -1,6 +1,6 @@
 -- Laws of keyed elements (specs/Keyed.antt), over the element type and its key: the loops of a store that search its view, and what holds of the list before and after.
 use borrow.Author.Tests.{eq-eqb, ne-eqb, eqb-true, eqb-false, lt-ltb}
-use mathlib.Core.Bool.{Bool, true, false, not}
+use mathlib.Core.Bool.{Bool, true, false, not, _&&_}
 use mathlib.Core.List.{List, [], _∷_, _++_}
 use mathlib.Core.Path.{_≡_, refl, sym, _∙_, ap}
 use Prim.Native.Nat.{compare·suc-suc, ℕ, zero, suc, _+_, _<_, _≤_}
@@ -141,6 +141,32 @@ module _ {X : Type 0} (key : X → ℕ) where
         | false ↦ λ q f. (rw (has-append (key y) ys (x ∷ []), d .0, ne-eqb (key y) (key x) (λ s. eqb-false (key x) (key y) q (sym s))), distinct-end ys x (d .1) f)
       ]
       refl e
+
+  -- keys of a list without its first ones
+  pub drop-gone : (k i : ℕ) (l : List X) → has key k l ≡ false → has key k (drop i l) ≡ false
+  unfolding has
+  drop-gone k zero l e = e
+  drop-gone k (suc i) [] e = refl
+  drop-gone k (suc i) (x ∷ xs) e =
+      elim (eqb k (key x)) as (λ b. pick b true (has key k xs) ≡ false → has key k (drop i xs) ≡ false)
+      [ true ↦ λ f. cc | false ↦ λ f. drop-gone k i xs f ]
+      e
+
+  pub drop-distinct : (i : ℕ) (l : List X) → Distinct key l → Distinct key (drop i l)
+  unfolding Distinct
+  drop-distinct zero l d = d
+  drop-distinct (suc i) [] d = tt
+  drop-distinct (suc i) (x ∷ xs) d = drop-distinct i xs (d .1)
+
+  -- no key stands twice, so one is held behind the first i exactly where it is held and is not among these
+  pub drop-has : (k i : ℕ) (l : List X) → Distinct key l → has key k (drop i l) ≡ has key k l && not (has key k (take i l))
+  unfolding has Distinct
+  drop-has k zero l d = elim (has key k l) as (λ b. b ≡ b && true) [ true ↦ refl | false ↦ refl ]
+  drop-has k (suc i) [] d = refl
+  drop-has k (suc i) (x ∷ xs) d =
+      elim (eqb k (key x)) as (λ b. eqb k (key x) ≡ b → has key k (drop i xs) ≡ pick b true (has key k xs) && not (pick b true (has key k (take i xs))))
+      [ true ↦ λ q. drop-gone k i xs (rw (eqb-true k (key x) q) (d .0)) | false ↦ λ q. drop-has k i xs (d .1) ]
+      refl
 
   -- the place of a key: below the length exactly where it is held, and what stands there is the first of the key
   pub has-place : (k : ℕ) (l : List X) → has key k l ≡ ltb (place key k l) (length l)

@@ -3,3 +3,4 @@ pub mod First
 pub mod Lay
 pub mod Little
 pub mod Keyed
+pub mod Last

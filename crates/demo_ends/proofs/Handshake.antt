@@ -4,7 +4,8 @@ use mathlib.Core.List.{List, [], _∷_}
 use mathlib.Core.Path.{_≡_, refl}
 use Prim.Native.Nat.{ℕ}
 use Rattle.base.specs.Keyed.{kept, has, without}
-use Rattle.nonces.specs.Nonces.{issued, fits}
+use Rattle.base.specs.Last.{lastOf}
+use Rattle.nonces.specs.Nonces.{issued}
 use Rattle.status.specs.Statuses.{defaultStatuses}
 use Rattle.events.specs.Events.{hasRoom}
 use Rattle.setup.specs.Setup.{inserted, sorted, termsWith}
@@ -43,5 +44,5 @@ handshake remote =
 
 pub shaken : (magic player remote : ℕ) → after (handshake remote) (new magic player)
     ≡ withQuality (startedAt 71000 (new magic player .quality)) (synchronizedWith remote (new magic player))
-unfolding kept has without issued fits defaultStatuses hasRoom inserted sorted termsWith queueSize made refused tested queueWire done bufferFull isFull nonceIssued request started synchronized counted running replied onSyncReply synchronizeStep ignored resumed heard onBody reacted messageStep takeStep step twoPlayers synchronizedWith
+unfolding kept has without issued lastOf defaultStatuses hasRoom inserted sorted termsWith queueSize made refused tested queueWire done bufferFull isFull nonceIssued request started synchronized counted running replied onSyncReply synchronizeStep ignored resumed heard onBody reacted messageStep takeStep step twoPlayers synchronizedWith
 shaken magic player remote = refl

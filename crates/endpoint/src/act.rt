@@ -50,9 +50,7 @@ impl Endpoint {
             Phase::Synchronizing => {
                 let last = self.clocks.last_sync_request_time;
                 if timers::passed(last, SYNC_RETRY_INTERVAL, now) {
-                    let issued = self.nonces.issue(nonce);
                     let requested = handshake::request(
-                        issued.ok,
                         self.clocks,
                         self.setup.magic,
                         now,
@@ -66,9 +64,8 @@ impl Endpoint {
                             answer: Answer::Full,
                         };
                     }
-                    let nonces = issued.nonces;
                     let clocks = requested.clocks;
-                    self.nonces = nonces;
+                    self.nonces = self.nonces.issue(nonce);
                     self.clocks = clocks;
                     self.queued = requested.end;
                 }

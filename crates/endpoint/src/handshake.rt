@@ -34,9 +34,8 @@ pub struct Counted {
     pub ok: bool,
 }
 
-// A request, where what goes with it had room, its nonce or the event of a reply: written where it fits too, and then the times are noted.
+// A request: written where it fits, and then the times are noted.
 pub(crate) fn request(
-    roomy: bool,
     clocks: Clocks,
     magic: u16,
     now: u64,
@@ -44,15 +43,8 @@ pub(crate) fn request(
     out: &mut [u8],
     queued: usize,
 ) -> Requested
-    ensures { λ r. ⌜ RequestedAs roomy clocks magic now nonce (out .entry .now) queued r (out .exit .now) ⌝ }
+    ensures { λ r. ⌜ RequestedAs clocks magic now nonce (out .entry .now) queued r (out .exit .now) ⌝ }
 {
-    if !roomy {
-        return Requested {
-            clocks,
-            end: queued,
-            ok: false,
-        };
-    }
     let written = outbox::body_only(
         out,
         queued,
@@ -109,8 +101,16 @@ pub(crate) fn count_reply(
     ensures { λ r. ⌜ CountedAs roomy sync remaining «remote_magic» clocks magic now nonce (out .entry .now) queued r (out .exit .now) ⌝ }
 {
     let heard = clocks.heard(now);
+    if !roomy {
+        return Counted {
+            sync,
+            clocks: heard,
+            end: queued,
+            ok: false,
+        };
+    }
     if 0 < remaining {
-        let requested = request(roomy, heard, magic, now, nonce, out, queued);
+        let requested = request(heard, magic, now, nonce, out, queued);
         let clocks = requested.clocks;
         return Counted {
             sync: Sync { remaining, ..sync },
@@ -127,7 +127,7 @@ pub(crate) fn count_reply(
         },
         clocks: heard,
         end: queued,
-        ok: roomy,
+        ok: true,
     }
 }
 
@@ -150,23 +150,13 @@ impl Endpoint {
                 answer: Answer::WrongState,
             };
         };
-        let issued = self.nonces.issue(nonce);
-        let requested = request(
-            issued.ok,
-            self.clocks,
-            self.setup.magic,
-            now,
-            nonce,
-            out,
-            self.queued,
-        );
+        let requested = request(self.clocks, self.setup.magic, now, nonce, out, self.queued);
         if !requested.ok {
             return Ended {
                 endpoint: self,
                 answer: Answer::Full,
             };
         }
-        let nonces = issued.nonces;
         let clocks = requested.clocks;
         let quality = self.quality.started(epoch);
         let sync = Sync {
@@ -175,7 +165,7 @@ impl Endpoint {
             ..self.sync
         };
         self.sync = sync;
-        self.nonces = nonces;
+        self.nonces = self.nonces.issue(nonce);
         self.clocks = clocks;
         self.quality = quality;
         self.queued = requested.end;

@@ -9,13 +9,14 @@ use native.Mathlib.Omega.{arith}
 use lib.ListN.{length, drop, length-drop}
 use Rattle.base.specs.Little.{Bytes}
 use Rattle.base.specs.Keyed.{kept, has, without}
+use Rattle.base.specs.Last.{lastOf}
 use Rattle.frame.specs.Bias.{nullFrame}
 use Rattle.packing.specs.Packing.{xors, framesOf, unpack, pack, decodableLength, decodable}
 use Rattle.packing.specs.Pad.{zeros, padded}
 use Rattle.packing.specs.declared.input_bytes.InputBytes.{InputBytes}
 use Rattle.pending.specs.Pending.{dropTo, lastTo, room, firstFrame, lastFrame, payload}
 use Rattle.history.specs.History.{blankFrame, highest, newestOf, foundIn, referenceFrame, atLine, above, numbered, packetOf, takenIn}
-use Rattle.nonces.specs.Nonces.{issued, fits}
+use Rattle.nonces.specs.Nonces.{issued}
 use Rattle.status.specs.Status.{defaultStatus, reported, merged}
 use Rattle.status.specs.Statuses.{mergedAll, defaultStatuses}
 use Rattle.codec.specs.Message.{Wire, Fits, FitsBody, FitsReports}
@@ -168,22 +169,22 @@ halfway g magic =
     }
 
 a-half : nexts (first-half 9) a0 ≡ halfway wide 7
-unfolding kept has without xors framesOf unpack pack decodableLength decodable zeros padded dropTo lastTo room firstFrame lastFrame payload blankFrame highest newestOf foundIn atLine above numbered packetOf takenIn issued fits defaultStatus reported merged mergedAll defaultStatuses hasRoom inputOf inputEntry announced badSetup anyAbove anyTwice inserted sorted termsWith made refused tested queueWire queueSize reportOf pendingInput done bufferFull isFull nonceIssued request started synchronized counted running replied onSyncReply droppedTo acknowledged badFrame pendingQueued accepted announcesMost inputSent referenceFrame taken receivedIf receive announcedEach discarded packetOverflows statusesMerged informed inputsReceived inputTaken inputUnless onInput onInputAck fresh synchronizeStep ignored resumed heard onBody reacted messageStep sendStep step joined announcedIn
+unfolding kept has without xors framesOf unpack pack decodableLength decodable zeros padded dropTo lastTo room firstFrame lastFrame payload blankFrame highest newestOf foundIn atLine above numbered packetOf takenIn issued lastOf defaultStatus reported merged mergedAll defaultStatuses hasRoom inputOf inputEntry announced badSetup anyAbove anyTwice inserted sorted termsWith made refused tested queueWire queueSize reportOf pendingInput done bufferFull isFull nonceIssued request started synchronized counted running replied onSyncReply droppedTo acknowledged badFrame pendingQueued accepted announcesMost inputSent referenceFrame taken receivedIf receive announcedEach discarded packetOverflows statusesMerged informed inputsReceived inputTaken inputUnless onInput onInputAck fresh synchronizeStep ignored resumed heard onBody reacted messageStep sendStep step joined announcedIn
 a-half = refl
 
 a-rest : nexts (second-half 9) (halfway wide 7) ≡ ready wide 7 9
-unfolding kept has without xors framesOf unpack pack decodableLength decodable zeros padded dropTo lastTo room firstFrame lastFrame payload blankFrame highest newestOf foundIn atLine above numbered packetOf takenIn issued fits defaultStatus reported merged mergedAll defaultStatuses hasRoom inputOf inputEntry announced badSetup anyAbove anyTwice inserted sorted termsWith made refused tested queueWire queueSize reportOf pendingInput done bufferFull isFull nonceIssued request started synchronized counted running replied onSyncReply droppedTo acknowledged badFrame pendingQueued accepted announcesMost inputSent referenceFrame taken receivedIf receive announcedEach discarded packetOverflows statusesMerged informed inputsReceived inputTaken inputUnless onInput onInputAck fresh synchronizeStep ignored resumed heard onBody reacted messageStep sendStep step joined announcedIn
+unfolding kept has without xors framesOf unpack pack decodableLength decodable zeros padded dropTo lastTo room firstFrame lastFrame payload blankFrame highest newestOf foundIn atLine above numbered packetOf takenIn issued lastOf defaultStatus reported merged mergedAll defaultStatuses hasRoom inputOf inputEntry announced badSetup anyAbove anyTwice inserted sorted termsWith made refused tested queueWire queueSize reportOf pendingInput done bufferFull isFull nonceIssued request started synchronized counted running replied onSyncReply droppedTo acknowledged badFrame pendingQueued accepted announcesMost inputSent referenceFrame taken receivedIf receive announcedEach discarded packetOverflows statusesMerged informed inputsReceived inputTaken inputUnless onInput onInputAck fresh synchronizeStep ignored resumed heard onBody reacted messageStep sendStep step joined announcedIn
 a-rest = refl
 
 pub a-ready : nexts (greeting 9) a0 ≡ ready wide 7 9
 a-ready = ap (nexts (second-half 9)) a-half ∙ a-rest
 
 b-half : nexts (first-half 7) b0 ≡ halfway narrow 9
-unfolding kept has without xors framesOf unpack pack decodableLength decodable zeros padded dropTo lastTo room firstFrame lastFrame payload blankFrame highest newestOf foundIn atLine above numbered packetOf takenIn issued fits defaultStatus reported merged mergedAll defaultStatuses hasRoom inputOf inputEntry announced badSetup anyAbove anyTwice inserted sorted termsWith made refused tested queueWire queueSize reportOf pendingInput done bufferFull isFull nonceIssued request started synchronized counted running replied onSyncReply droppedTo acknowledged badFrame pendingQueued accepted announcesMost inputSent referenceFrame taken receivedIf receive announcedEach discarded packetOverflows statusesMerged informed inputsReceived inputTaken inputUnless onInput onInputAck fresh synchronizeStep ignored resumed heard onBody reacted messageStep sendStep step joined announcedIn
+unfolding kept has without xors framesOf unpack pack decodableLength decodable zeros padded dropTo lastTo room firstFrame lastFrame payload blankFrame highest newestOf foundIn atLine above numbered packetOf takenIn issued lastOf defaultStatus reported merged mergedAll defaultStatuses hasRoom inputOf inputEntry announced badSetup anyAbove anyTwice inserted sorted termsWith made refused tested queueWire queueSize reportOf pendingInput done bufferFull isFull nonceIssued request started synchronized counted running replied onSyncReply droppedTo acknowledged badFrame pendingQueued accepted announcesMost inputSent referenceFrame taken receivedIf receive announcedEach discarded packetOverflows statusesMerged informed inputsReceived inputTaken inputUnless onInput onInputAck fresh synchronizeStep ignored resumed heard onBody reacted messageStep sendStep step joined announcedIn
 b-half = refl
 
 b-rest : nexts (second-half 7) (halfway narrow 9) ≡ ready narrow 9 7
-unfolding kept has without xors framesOf unpack pack decodableLength decodable zeros padded dropTo lastTo room firstFrame lastFrame payload blankFrame highest newestOf foundIn atLine above numbered packetOf takenIn issued fits defaultStatus reported merged mergedAll defaultStatuses hasRoom inputOf inputEntry announced badSetup anyAbove anyTwice inserted sorted termsWith made refused tested queueWire queueSize reportOf pendingInput done bufferFull isFull nonceIssued request started synchronized counted running replied onSyncReply droppedTo acknowledged badFrame pendingQueued accepted announcesMost inputSent referenceFrame taken receivedIf receive announcedEach discarded packetOverflows statusesMerged informed inputsReceived inputTaken inputUnless onInput onInputAck fresh synchronizeStep ignored resumed heard onBody reacted messageStep sendStep step joined announcedIn
+unfolding kept has without xors framesOf unpack pack decodableLength decodable zeros padded dropTo lastTo room firstFrame lastFrame payload blankFrame highest newestOf foundIn atLine above numbered packetOf takenIn issued lastOf defaultStatus reported merged mergedAll defaultStatuses hasRoom inputOf inputEntry announced badSetup anyAbove anyTwice inserted sorted termsWith made refused tested queueWire queueSize reportOf pendingInput done bufferFull isFull nonceIssued request started synchronized counted running replied onSyncReply droppedTo acknowledged badFrame pendingQueued accepted announcesMost inputSent referenceFrame taken receivedIf receive announcedEach discarded packetOverflows statusesMerged informed inputsReceived inputTaken inputUnless onInput onInputAck fresh synchronizeStep ignored resumed heard onBody reacted messageStep sendStep step joined announcedIn
 b-rest = refl
 
 pub b-ready : nexts (greeting 7) b0 ≡ ready narrow 9 7
@@ -232,11 +233,11 @@ b1-as =
     }
 
 b1-is : b1 ≡ b1-as
-unfolding kept has without xors framesOf unpack pack decodableLength decodable zeros padded dropTo lastTo room firstFrame lastFrame payload blankFrame highest newestOf foundIn atLine above numbered packetOf takenIn issued fits defaultStatus reported merged mergedAll defaultStatuses hasRoom inputOf inputEntry announced badSetup anyAbove anyTwice inserted sorted termsWith made refused tested queueWire queueSize reportOf pendingInput done bufferFull isFull nonceIssued request started synchronized counted running replied onSyncReply droppedTo acknowledged badFrame pendingQueued accepted announcesMost inputSent referenceFrame taken receivedIf receive announcedEach discarded packetOverflows statusesMerged informed inputsReceived inputTaken inputUnless onInput onInputAck fresh synchronizeStep ignored resumed heard onBody reacted messageStep sendStep step joined announcedIn
+unfolding kept has without xors framesOf unpack pack decodableLength decodable zeros padded dropTo lastTo room firstFrame lastFrame payload blankFrame highest newestOf foundIn atLine above numbered packetOf takenIn issued lastOf defaultStatus reported merged mergedAll defaultStatuses hasRoom inputOf inputEntry announced badSetup anyAbove anyTwice inserted sorted termsWith made refused tested queueWire queueSize reportOf pendingInput done bufferFull isFull nonceIssued request started synchronized counted running replied onSyncReply droppedTo acknowledged badFrame pendingQueued accepted announcesMost inputSent referenceFrame taken receivedIf receive announcedEach discarded packetOverflows statusesMerged informed inputsReceived inputTaken inputUnless onInput onInputAck fresh synchronizeStep ignored resumed heard onBody reacted messageStep sendStep step joined announcedIn
 b1-is = refl
 
 b2-from : nexts (send 0 1 2 ∷ send 1 3 4 ∷ []) b1-as ≡ b2
-unfolding kept has without xors framesOf unpack pack decodableLength decodable zeros padded dropTo lastTo room firstFrame lastFrame payload blankFrame highest newestOf foundIn atLine above numbered packetOf takenIn issued fits defaultStatus reported merged mergedAll defaultStatuses hasRoom inputOf inputEntry announced badSetup anyAbove anyTwice inserted sorted termsWith made refused tested queueWire queueSize reportOf pendingInput done bufferFull isFull nonceIssued request started synchronized counted running replied onSyncReply droppedTo acknowledged badFrame pendingQueued accepted announcesMost inputSent referenceFrame taken receivedIf receive announcedEach discarded packetOverflows statusesMerged informed inputsReceived inputTaken inputUnless onInput onInputAck fresh synchronizeStep ignored resumed heard onBody reacted messageStep sendStep step joined announcedIn
+unfolding kept has without xors framesOf unpack pack decodableLength decodable zeros padded dropTo lastTo room firstFrame lastFrame payload blankFrame highest newestOf foundIn atLine above numbered packetOf takenIn issued lastOf defaultStatus reported merged mergedAll defaultStatuses hasRoom inputOf inputEntry announced badSetup anyAbove anyTwice inserted sorted termsWith made refused tested queueWire queueSize reportOf pendingInput done bufferFull isFull nonceIssued request started synchronized counted running replied onSyncReply droppedTo acknowledged badFrame pendingQueued accepted announcesMost inputSent referenceFrame taken receivedIf receive announcedEach discarded packetOverflows statusesMerged informed inputsReceived inputTaken inputUnless onInput onInputAck fresh synchronizeStep ignored resumed heard onBody reacted messageStep sendStep step joined announcedIn
 b2-from = refl
 
 pub b2-is : nexts (send 0 1 2 ∷ send 1 3 4 ∷ []) b1 ≡ b2
@@ -258,7 +259,7 @@ a3 =
     }
 
 pub a3-is : nexts (send 2 9 9 ∷ send 3 9 10 ∷ []) a2 ≡ a3
-unfolding kept has without xors framesOf unpack pack decodableLength decodable zeros padded dropTo lastTo room firstFrame lastFrame payload blankFrame highest newestOf foundIn atLine above numbered packetOf takenIn issued fits defaultStatus reported merged mergedAll defaultStatuses hasRoom inputOf inputEntry announced badSetup anyAbove anyTwice inserted sorted termsWith made refused tested queueWire queueSize reportOf pendingInput done bufferFull isFull nonceIssued request started synchronized counted running replied onSyncReply droppedTo acknowledged badFrame pendingQueued accepted announcesMost inputSent referenceFrame taken receivedIf receive announcedEach discarded packetOverflows statusesMerged informed inputsReceived inputTaken inputUnless onInput onInputAck fresh synchronizeStep ignored resumed heard onBody reacted messageStep sendStep step joined announcedIn
+unfolding kept has without xors framesOf unpack pack decodableLength decodable zeros padded dropTo lastTo room firstFrame lastFrame payload blankFrame highest newestOf foundIn atLine above numbered packetOf takenIn issued lastOf defaultStatus reported merged mergedAll defaultStatuses hasRoom inputOf inputEntry announced badSetup anyAbove anyTwice inserted sorted termsWith made refused tested queueWire queueSize reportOf pendingInput done bufferFull isFull nonceIssued request started synchronized counted running replied onSyncReply droppedTo acknowledged badFrame pendingQueued accepted announcesMost inputSent referenceFrame taken receivedIf receive announcedEach discarded packetOverflows statusesMerged informed inputsReceived inputTaken inputUnless onInput onInputAck fresh synchronizeStep ignored resumed heard onBody reacted messageStep sendStep step joined announcedIn
 a3-is = refl
 
 abbrev pub b3 : End
@@ -275,11 +276,11 @@ a4 = nexts (hand (ack 9 3) 2005 0 ∷ hand J2 2006 0 ∷ []) a3
 
 -- the messages queued, so that those handed over are among them
 pub first-queue : a1 .queued ≡ requests 7 (I0 ∷ I1 ∷ [])
-unfolding kept has without xors framesOf unpack pack decodableLength decodable zeros padded dropTo lastTo room firstFrame lastFrame payload blankFrame highest newestOf foundIn atLine above numbered packetOf takenIn issued fits defaultStatus reported merged mergedAll defaultStatuses hasRoom inputOf inputEntry announced badSetup anyAbove anyTwice inserted sorted termsWith made refused tested queueWire queueSize reportOf pendingInput done bufferFull isFull nonceIssued request started synchronized counted running replied onSyncReply droppedTo acknowledged badFrame pendingQueued accepted announcesMost inputSent referenceFrame taken receivedIf receive announcedEach discarded packetOverflows statusesMerged informed inputsReceived inputTaken inputUnless onInput onInputAck fresh synchronizeStep ignored resumed heard onBody reacted messageStep sendStep step joined announcedIn
+unfolding kept has without xors framesOf unpack pack decodableLength decodable zeros padded dropTo lastTo room firstFrame lastFrame payload blankFrame highest newestOf foundIn atLine above numbered packetOf takenIn issued lastOf defaultStatus reported merged mergedAll defaultStatuses hasRoom inputOf inputEntry announced badSetup anyAbove anyTwice inserted sorted termsWith made refused tested queueWire queueSize reportOf pendingInput done bufferFull isFull nonceIssued request started synchronized counted running replied onSyncReply droppedTo acknowledged badFrame pendingQueued accepted announcesMost inputSent referenceFrame taken receivedIf receive announcedEach discarded packetOverflows statusesMerged informed inputsReceived inputTaken inputUnless onInput onInputAck fresh synchronizeStep ignored resumed heard onBody reacted messageStep sendStep step joined announcedIn
 first-queue = refl
 
 pub last-queue : b4 .queued ≡ requests 9 (ack 9 1 ∷ ack 9 1 ∷ ack 9 1 ∷ J0 ∷ J1 ∷ ack 9 3 ∷ J2 ∷ [])
-unfolding kept has without xors framesOf unpack pack decodableLength decodable zeros padded dropTo lastTo room firstFrame lastFrame payload blankFrame highest newestOf foundIn atLine above numbered packetOf takenIn issued fits defaultStatus reported merged mergedAll defaultStatuses hasRoom inputOf inputEntry announced badSetup anyAbove anyTwice inserted sorted termsWith made refused tested queueWire queueSize reportOf pendingInput done bufferFull isFull nonceIssued request started synchronized counted running replied onSyncReply droppedTo acknowledged badFrame pendingQueued accepted announcesMost inputSent referenceFrame taken receivedIf receive announcedEach discarded packetOverflows statusesMerged informed inputsReceived inputTaken inputUnless onInput onInputAck fresh synchronizeStep ignored resumed heard onBody reacted messageStep sendStep step joined announcedIn
+unfolding kept has without xors framesOf unpack pack decodableLength decodable zeros padded dropTo lastTo room firstFrame lastFrame payload blankFrame highest newestOf foundIn atLine above numbered packetOf takenIn issued lastOf defaultStatus reported merged mergedAll defaultStatuses hasRoom inputOf inputEntry announced badSetup anyAbove anyTwice inserted sorted termsWith made refused tested queueWire queueSize reportOf pendingInput done bufferFull isFull nonceIssued request started synchronized counted running replied onSyncReply droppedTo acknowledged badFrame pendingQueued accepted announcesMost inputSent referenceFrame taken receivedIf receive announcedEach discarded packetOverflows statusesMerged informed inputsReceived inputTaken inputUnless onInput onInputAck fresh synchronizeStep ignored resumed heard onBody reacted messageStep sendStep step joined announcedIn
 last-queue = refl
 
 -- what each accepted, and what the other announced of it: each frame once, for each player with its bytes
@@ -295,7 +296,7 @@ pub sample-facts : (a4 .accepted ≡ frame 0 5 7 ∷ frame 1 6 8 ∷ frame 2 9 9
     -- everything that the first end sent is acknowledged; of the second end's frames one is still pending
     × (pendingBy a4 ≡ [])
     × (pendingBy b4 ≡ frame 2 1 1 ∷ [])
-unfolding kept has without xors framesOf unpack pack decodableLength decodable zeros padded dropTo lastTo room firstFrame lastFrame payload blankFrame highest newestOf foundIn atLine above numbered packetOf takenIn issued fits defaultStatus reported merged mergedAll defaultStatuses hasRoom inputOf inputEntry announced badSetup anyAbove anyTwice inserted sorted termsWith made refused tested queueWire queueSize reportOf pendingInput done bufferFull isFull nonceIssued request started synchronized counted running replied onSyncReply droppedTo acknowledged badFrame pendingQueued accepted announcesMost inputSent referenceFrame taken receivedIf receive announcedEach discarded packetOverflows statusesMerged informed inputsReceived inputTaken inputUnless onInput onInputAck fresh synchronizeStep ignored resumed heard onBody reacted messageStep sendStep step joined announcedIn
+unfolding kept has without xors framesOf unpack pack decodableLength decodable zeros padded dropTo lastTo room firstFrame lastFrame payload blankFrame highest newestOf foundIn atLine above numbered packetOf takenIn issued lastOf defaultStatus reported merged mergedAll defaultStatuses hasRoom inputOf inputEntry announced badSetup anyAbove anyTwice inserted sorted termsWith made refused tested queueWire queueSize reportOf pendingInput done bufferFull isFull nonceIssued request started synchronized counted running replied onSyncReply droppedTo acknowledged badFrame pendingQueued accepted announcesMost inputSent referenceFrame taken receivedIf receive announcedEach discarded packetOverflows statusesMerged informed inputsReceived inputTaken inputUnless onInput onInputAck fresh synchronizeStep ignored resumed heard onBody reacted messageStep sendStep step joined announcedIn
 sample-facts = (refl, refl, refl, refl, refl, refl)
 
 -- ---- so they are the ends of a run
@@ -476,7 +477,7 @@ sample-dropped =
 
 -- at max_prediction 1 the keep line is two frames below the newest, frame 3: the second end holds frame 1, and is ready for an Input from frame 2 on. Frame 0 lies below
 line : b4 .state .setup .maxPrediction ≡ 1
-unfolding kept has without xors framesOf unpack pack decodableLength decodable zeros padded dropTo lastTo room firstFrame lastFrame payload blankFrame highest newestOf foundIn atLine above numbered packetOf takenIn issued fits defaultStatus reported merged mergedAll defaultStatuses hasRoom inputOf inputEntry announced badSetup anyAbove anyTwice inserted sorted termsWith made refused tested queueWire queueSize reportOf pendingInput done bufferFull isFull nonceIssued request started synchronized counted running replied onSyncReply droppedTo acknowledged badFrame pendingQueued accepted announcesMost inputSent referenceFrame taken receivedIf receive announcedEach discarded packetOverflows statusesMerged informed inputsReceived inputTaken inputUnless onInput onInputAck fresh synchronizeStep ignored resumed heard onBody reacted messageStep sendStep step joined announcedIn
+unfolding kept has without xors framesOf unpack pack decodableLength decodable zeros padded dropTo lastTo room firstFrame lastFrame payload blankFrame highest newestOf foundIn atLine above numbered packetOf takenIn issued lastOf defaultStatus reported merged mergedAll defaultStatuses hasRoom inputOf inputEntry announced badSetup anyAbove anyTwice inserted sorted termsWith made refused tested queueWire queueSize reportOf pendingInput done bufferFull isFull nonceIssued request started synchronized counted running replied onSyncReply droppedTo acknowledged badFrame pendingQueued accepted announcesMost inputSent referenceFrame taken receivedIf receive announcedEach discarded packetOverflows statusesMerged informed inputsReceived inputTaken inputUnless onInput onInputAck fresh synchronizeStep ignored resumed heard onBody reacted messageStep sendStep step joined announcedIn
 line = refl
 
 pub sample-ready : Ready (fr 2) b4
@@ -495,7 +496,7 @@ abbrev lastHistory : List InputBytes
 lastHistory = record { frame = fr 1; bytes = padded (6 ∷ 8 ∷ []) } ∷ record { frame = fr 2; bytes = padded (9 ∷ 9 ∷ []) } ∷ record { frame = fr 3; bytes = padded (9 ∷ 10 ∷ []) } ∷ []
 
 pub passing : Passes I1 0 2000 (ready narrow 9 7) × Passes I3 2 2004 b2 × Passes I1 0 2007 b4 × (b4 .state .carried .receiver .history ≡ lastHistory)
-unfolding kept has without xors framesOf unpack pack decodableLength decodable zeros padded dropTo lastTo room firstFrame lastFrame payload blankFrame highest newestOf foundIn atLine above numbered packetOf takenIn issued fits defaultStatus reported merged mergedAll defaultStatuses hasRoom inputOf inputEntry announced badSetup anyAbove anyTwice inserted sorted termsWith made refused tested queueWire queueSize reportOf pendingInput done bufferFull isFull nonceIssued request started synchronized counted running replied onSyncReply droppedTo acknowledged badFrame pendingQueued accepted announcesMost inputSent referenceFrame taken receivedIf receive announcedEach discarded packetOverflows statusesMerged informed inputsReceived inputTaken inputUnless onInput onInputAck fresh synchronizeStep ignored resumed heard onBody reacted messageStep sendStep step joined announcedIn
+unfolding kept has without xors framesOf unpack pack decodableLength decodable zeros padded dropTo lastTo room firstFrame lastFrame payload blankFrame highest newestOf foundIn atLine above numbered packetOf takenIn issued lastOf defaultStatus reported merged mergedAll defaultStatuses hasRoom inputOf inputEntry announced badSetup anyAbove anyTwice inserted sorted termsWith made refused tested queueWire queueSize reportOf pendingInput done bufferFull isFull nonceIssued request started synchronized counted running replied onSyncReply droppedTo acknowledged badFrame pendingQueued accepted announcesMost inputSent referenceFrame taken receivedIf receive announcedEach discarded packetOverflows statusesMerged informed inputsReceived inputTaken inputUnless onInput onInputAck fresh synchronizeStep ignored resumed heard onBody reacted messageStep sendStep step joined announcedIn
 passing = (
   (refl, record { alive = refl; known = refl; passes = inr refl }, record { from = omega arith; complete = inr refl }),
   (refl, record { alive = refl; known = refl; passes = inr refl }, record { from = omega arith; complete = inr refl }),
@@ -505,14 +506,14 @@ passing = (
 
 -- frames 0 and 1 are brought to an end that has no frame yet
 pub sample-brought : fr 0 + 2 ≤ suc (lastAnnounced nullFrame (announcedBy (next (hand I1 2000 0) (ready narrow 9 7))))
-unfolding kept has without xors framesOf unpack pack decodableLength decodable zeros padded dropTo lastTo room firstFrame lastFrame payload blankFrame highest newestOf foundIn atLine above numbered packetOf takenIn issued fits defaultStatus reported merged mergedAll defaultStatuses hasRoom inputOf inputEntry announced badSetup anyAbove anyTwice inserted sorted termsWith made refused tested queueWire queueSize reportOf pendingInput done bufferFull isFull nonceIssued request started synchronized counted running replied onSyncReply droppedTo acknowledged badFrame pendingQueued accepted announcesMost inputSent referenceFrame taken receivedIf receive announcedEach discarded packetOverflows statusesMerged informed inputsReceived inputTaken inputUnless onInput onInputAck fresh synchronizeStep ignored resumed heard onBody reacted messageStep sendStep step joined announcedIn
+unfolding kept has without xors framesOf unpack pack decodableLength decodable zeros padded dropTo lastTo room firstFrame lastFrame payload blankFrame highest newestOf foundIn atLine above numbered packetOf takenIn issued lastOf defaultStatus reported merged mergedAll defaultStatuses hasRoom inputOf inputEntry announced badSetup anyAbove anyTwice inserted sorted termsWith made refused tested queueWire queueSize reportOf pendingInput done bufferFull isFull nonceIssued request started synchronized counted running replied onSyncReply droppedTo acknowledged badFrame pendingQueued accepted announcesMost inputSent referenceFrame taken receivedIf receive announcedEach discarded packetOverflows statusesMerged informed inputsReceived inputTaken inputUnless onInput onInputAck fresh synchronizeStep ignored resumed heard onBody reacted messageStep sendStep step joined announcedIn
 sample-brought =
     let p = passing .0 in
     brings first .1 .message 3 2 I1 2000 (epochAt 2000) 0 65536 I1-queued false (fr 0) nullFrame refl (p .0) (p .1) (p .2) .reaches (inl refl)
 
 -- frames 2 and 3 to an end that holds frame 1
 pub sample-held : fr 2 + 2 ≤ suc (lastAnnounced nullFrame (announcedBy b3))
-unfolding kept has without xors framesOf unpack pack decodableLength decodable zeros padded dropTo lastTo room firstFrame lastFrame payload blankFrame highest newestOf foundIn atLine above numbered packetOf takenIn issued fits defaultStatus reported merged mergedAll defaultStatuses hasRoom inputOf inputEntry announced badSetup anyAbove anyTwice inserted sorted termsWith made refused tested queueWire queueSize reportOf pendingInput done bufferFull isFull nonceIssued request started synchronized counted running replied onSyncReply droppedTo acknowledged badFrame pendingQueued accepted announcesMost inputSent referenceFrame taken receivedIf receive announcedEach discarded packetOverflows statusesMerged informed inputsReceived inputTaken inputUnless onInput onInputAck fresh synchronizeStep ignored resumed heard onBody reacted messageStep sendStep step joined announcedIn
+unfolding kept has without xors framesOf unpack pack decodableLength decodable zeros padded dropTo lastTo room firstFrame lastFrame payload blankFrame highest newestOf foundIn atLine above numbered packetOf takenIn issued lastOf defaultStatus reported merged mergedAll defaultStatuses hasRoom inputOf inputEntry announced badSetup anyAbove anyTwice inserted sorted termsWith made refused tested queueWire queueSize reportOf pendingInput done bufferFull isFull nonceIssued request started synchronized counted running replied onSyncReply droppedTo acknowledged badFrame pendingQueued accepted announcesMost inputSent referenceFrame taken receivedIf receive announcedEach discarded packetOverflows statusesMerged informed inputsReceived inputTaken inputUnless onInput onInputAck fresh synchronizeStep ignored resumed heard onBody reacted messageStep sendStep step joined announcedIn
 sample-held =
     let p = passing .1 in
     brings third .1 .message 3 2 I3 2004 (epochAt 2004) 0 65536 I3-queued false (fr 2) (fr 1) refl (p .0) (p .1) (p .2) .reaches
@@ -537,7 +538,7 @@ abbrev handedAs : (peer count now : ℕ) → Call
 handedAs peer count now = Call.message peer count I1 now (epochAt 2000) 0 65536
 
 not-handed : (¬ HandsInput (handedAs 3 1 2000) (ready narrow 9 7 .state)) × (¬ HandsInput (handedAs 4 2 2000) (ready narrow 9 7 .state)) × (¬ HandsInput (handedAs 3 2 (2 ^ 62)) (ready narrow 9 7 .state))
-unfolding kept has without xors framesOf unpack pack decodableLength decodable zeros padded dropTo lastTo room firstFrame lastFrame payload blankFrame highest newestOf foundIn atLine above numbered packetOf takenIn issued fits defaultStatus reported merged mergedAll defaultStatuses hasRoom inputOf inputEntry announced badSetup anyAbove anyTwice inserted sorted termsWith made refused tested queueWire queueSize reportOf pendingInput done bufferFull isFull nonceIssued request started synchronized counted running replied onSyncReply droppedTo acknowledged badFrame pendingQueued accepted announcesMost inputSent referenceFrame taken receivedIf receive announcedEach discarded packetOverflows statusesMerged informed inputsReceived inputTaken inputUnless onInput onInputAck fresh synchronizeStep ignored resumed heard onBody reacted messageStep sendStep step joined announcedIn
+unfolding kept has without xors framesOf unpack pack decodableLength decodable zeros padded dropTo lastTo room firstFrame lastFrame payload blankFrame highest newestOf foundIn atLine above numbered packetOf takenIn issued lastOf defaultStatus reported merged mergedAll defaultStatuses hasRoom inputOf inputEntry announced badSetup anyAbove anyTwice inserted sorted termsWith made refused tested queueWire queueSize reportOf pendingInput done bufferFull isFull nonceIssued request started synchronized counted running replied onSyncReply droppedTo acknowledged badFrame pendingQueued accepted announcesMost inputSent referenceFrame taken receivedIf receive announcedEach discarded packetOverflows statusesMerged informed inputsReceived inputTaken inputUnless onInput onInputAck fresh synchronizeStep ignored resumed heard onBody reacted messageStep sendStep step joined announcedIn
 not-handed = (
   λ p. few (p .disconnect) (p .body) (p .heeded .complete),
   λ p. let n : _≡_ {A = ℕ} 4 3 = p .heard .known in omega arith,

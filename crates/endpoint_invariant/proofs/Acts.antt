@@ -22,11 +22,11 @@ use Rattle.endpoint_rules.specs.declared.Phase.the-variants.{Initializing, Sync
 use Rattle.endpoint_rules.specs.Seen.{Seen, isInitializing, isSynchronizing, isRunning, withPhase, inputAt}
 use Rattle.endpoint_rules.specs.Did.{Effect, begin, change, queueWire}
 use Rattle.endpoint_rules.specs.Sending.{badFrame, badBytes, pendingFull, pendingQueued, queuePending, accepted, announcesMost, inputSent}
-use Rattle.endpoint_rules.specs.Act.{requestDue, resendDue, reportDue, keepAliveDue, interruptionDue, disconnectDue, resent, reportSent, keptAlive, interrupted, timedOut, acted, requestChoked}
+use Rattle.endpoint_rules.specs.Act.{requestDue, resendDue, reportDue, keepAliveDue, interruptionDue, disconnectDue, resent, reportSent, keptAlive, interrupted, timedOut, acted}
 use Rattle.endpoint_rules.specs.Reports.{pingOf, reportQueued}
 use Rattle.endpoint_invariant.specs.Each.{Each}
 use Rattle.endpoint_invariant.specs.Sound.{Sound, SoundStatus}
-use Rattle.endpoint_invariant.proofs.Choices.{never, and-none, by-pick}
+use Rattle.endpoint_invariant.proofs.Choices.{never, by-pick}
 use Rattle.endpoint_invariant.proofs.Parts.{sender-part, phase-part, clocks-part, flags-part}
 use Rattle.endpoint_invariant.proofs.Fields.{quality-clock, input-clock}
 use Rattle.endpoint_invariant.proofs.Syncs.{closed-sync}
@@ -90,16 +90,16 @@ module _ (now : ℕ) (statuses : List ConnectionStatus) (small : now < 2 ^ 62) (
       by-pick Good (disconnectDue now (e .state)) _ e (λ _. event-good _ (changed-good e g _ (flags-part (e .state) (g .state) _ (g .state .notify))) Event.Disconnected) (λ _. g)
 
   module _ (epoch nonce : ℕ) (late : epoch < 2 ^ 62) (named : nonce < 2 ^ 32) (s : Seen) (h : Sound s) where
-    pub acted-good : (p : Phase) → s .phase ≡ p → requestChoked p now nonce s ≡ false → Good (acted p now epoch nonce statuses (begin s))
+    pub acted-good : (p : Phase) → s .phase ≡ p → Good (acted p now epoch nonce statuses (begin s))
     unfolding acted
-    acted-good Initializing e k = begun s h
-    acted-good Synchronizing e k =
-        by-pick Good (requestDue now s) _ (begin s) (λ d. request-good now nonce small named (begin s) (begun s h) (rw e) (and-none (requestDue now s) _ k d)) (λ _. begun s h)
-    acted-good Running e k = timed-good _ (interrupted-runs _ (alive-runs _ (reported-runs epoch late _ (resent-runs (begin s) (begun s h, e)))) .0)
-    acted-good Disconnected e k =
+    acted-good Initializing e = begun s h
+    acted-good Synchronizing e =
+        by-pick Good (requestDue now s) _ (begin s) (λ _. request-good now nonce small named (begin s) (begun s h) (rw e)) (λ _. begun s h)
+    acted-good Running e = timed-good _ (interrupted-runs _ (alive-runs _ (reported-runs epoch late _ (resent-runs (begin s) (begun s h, e)))) .0)
+    acted-good Disconnected e =
         by-pick Good (ltb (s .clocks .«shutdown_timeout») now) (change (withPhase Shutdown) (begin s)) (begin s)
         (λ _. changed-good (begin s) (begun s h) _ (closed-phase s h Shutdown refl refl refl)) (λ _. begun s h)
-    acted-good Shutdown e k = begun s h
+    acted-good Shutdown e = begun s h
 
   -- ---- send_input
 

@@ -2,11 +2,12 @@
 use mathlib.Core.Bool.{Bool, true, false}
 use mathlib.Core.List.{List, [], _∷_, _++_}
 use mathlib.Core.Path.{_≡_, refl}
-use Prim.Native.Nat.{ℕ, zero, suc}
+use Prim.Native.Nat.{ℕ, zero, suc, _-_}
 use lib.Dec.{eqb}
-use lib.ListN.{replicate}
+use lib.ListN.{length, drop, replicate}
 use Rattle.base.specs.Pick.{pick}
 use Rattle.base.specs.Keyed.{kept, put}
+use Rattle.base.specs.Last.{lastOf}
 use Rattle.endpoint_invariant.specs.Each.{Each}
 
 module _ {X : Type 0} (P : X → Type 0) where
@@ -24,6 +25,16 @@ module _ {X : Type 0} (P : X → Type 0) where
   unfolding Each
   each-behind [] m h = h
   each-behind (x ∷ l) m h = each-behind l m (h .1)
+
+  pub each-drop : (n : ℕ) (l : List X) → Each P l → Each P (drop n l)
+  unfolding Each
+  each-drop zero l h = h
+  each-drop (suc n) [] h = h
+  each-drop (suc n) (x ∷ l) h = each-drop n l (h .1)
+
+  pub each-last : (n : ℕ) (l : List X) → Each P l → Each P (lastOf n l)
+  unfolding lastOf
+  each-last n l h = each-drop (length l - n) l h
 
   pub each-kept : (p : X → Bool) (l : List X) → Each P l → Each P (kept p l)
   unfolding Each kept

@@ -128,7 +128,7 @@ module _ (now : ℕ) (small : now < 2 ^ 62) (e : Effect) (g : Good e) where
       → onBody b count w now epoch nonce e .storeFull ≡ false → Good (onBody b count w now epoch nonce e .effect)
   unfolding onBody onInputAck
   body-good epoch nonce late named count w t (SyncRequest asked) b f = asked-good now nonce small named asked b e g
-  body-good epoch nonce late named count w t (SyncReply reply) b f = reply-good now nonce small named (w .magic) reply (t .magic) e g f
+  body-good epoch nonce late named count w t (SyncReply reply) b f = reply-good now nonce small named (w .magic) reply (t .magic) e g
   body-good epoch nonce late named count w t (Input disconnect start ack) b f = input-good now small start ack (w .reports) (w .payload) (b .0) (t .frames) (t .bytes) count disconnect e g
   body-good epoch nonce late named count w t (InputAck ack) b f = acknowledged-good ack e g
   body-good epoch nonce late named count w t (QualityReport advantage ping) b f = report-good advantage ping (b .0) (b .1)

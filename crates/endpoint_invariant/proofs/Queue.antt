@@ -25,9 +25,9 @@ use Rattle.endpoint_rules.specs.Seen.{Seen, isShutdown, withPhase, withEvents, 
 use Rattle.endpoint_rules.specs.Did.{Did, Effect, refused, tested, begin, queueWire, done}
 use Rattle.endpoint_rules.specs.Room.{eventsFull, bufferFull, isFull}
 use Rattle.endpoint_rules.specs.Call.{Call}
-use Rattle.endpoint_rules.specs.Handshake.{Reaction, noncesFull, synchronized, started}
+use Rattle.endpoint_rules.specs.Handshake.{Reaction, synchronized, started}
 use Rattle.endpoint_rules.specs.Sending.{pendingFull, inputSent}
-use Rattle.endpoint_rules.specs.Act.{acted, requestChoked}
+use Rattle.endpoint_rules.specs.Act.{acted}
 use Rattle.endpoint_rules.specs.Checksum.{checksumSent}
 use Rattle.endpoint_rules.specs.Advantage.{bothKnown, localAdvantage, advantageUpdated}
 use Rattle.endpoint_rules.specs.Step.{changed, shortBuffer, heard, onBody, step, synchronizeStep, messageStep, datagramStep, actStep, sendStep, disconnectStep, checksumStep, advantageStep, statsStep, statusStep, takeStep, reacted}
@@ -119,7 +119,7 @@ step-queues (Call.synchronize now epoch nonce buffer) n s =
     let e : Effect = synchronized now epoch nonce (begin s) in
     inr (
       λ _. refl,
-      tested-both _ s _ (Queues buffer s) (refused-queues buffer s) (λ z. done-queues buffer s e (books (request-leaves now nonce _)) (neither (noncesFull nonce s) _ (z .1 .1 .0) .1)),
+      tested-both _ s _ (Queues buffer s) (refused-queues buffer s) (λ z. done-queues buffer s e (books (request-leaves now nonce _)) (z .1 .1 .0)),
     )
 step-queues (Call.message from count w now epoch nonce buffer) n s = inr (λ _. refl, message-queues from count w now epoch nonce buffer s)
 step-queues (Call.datagram from bs now epoch nonce buffer) n s =
@@ -129,7 +129,7 @@ step-queues (Call.act count statuses now epoch nonce buffer) n s =
     inr (
       λ _. refl,
       tested-both _ s _ (Queues buffer s) (refused-queues buffer s) (λ z.
-          done-queues buffer s e (books (acted-leaves now (s .phase) epoch nonce statuses (begin s))) (neither (requestChoked (s .phase) now nonce s) _ (z .1 .1 .0) .1)),
+          done-queues buffer s e (books (acted-leaves now (s .phase) epoch nonce statuses (begin s))) (z .1 .1 .0)),
     )
 step-queues (Call.sendInput frame bs count statuses now buffer) n s =
     let e : Effect = inputSent now frame bs statuses (begin s) in

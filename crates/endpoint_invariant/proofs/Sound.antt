@@ -25,9 +25,8 @@ use Rattle.endpoint_rules.specs.declared.Phase.the-variants.{Disconnected}
 use Rattle.endpoint_rules.specs.Seen.{Seen, made, shutdownAt}
 use Rattle.endpoint_rules.specs.Did.{begin}
 use Rattle.endpoint_rules.specs.Room.{isFull}
-use Rattle.endpoint_rules.specs.Handshake.{Reaction, noncesFull}
+use Rattle.endpoint_rules.specs.Handshake.{Reaction}
 use Rattle.endpoint_rules.specs.Sending.{badStatuses, pendingFull}
-use Rattle.endpoint_rules.specs.Act.{requestChoked}
 use Rattle.endpoint_rules.specs.Checksum.{checksumSent}
 use Rattle.endpoint_rules.specs.Advantage.{bothKnown, localAdvantage, advantageUpdated}
 use Rattle.endpoint_rules.specs.Call.{Call}
@@ -88,9 +87,8 @@ module _ (s : Seen) (h : Sound s) where
   synchronize-keeps : (now epoch nonce buffer : ℕ) → nonce < 2 ^ 32 → Keeps (synchronizeStep now epoch nonce buffer s)
   unfolding synchronizeStep
   synchronize-keeps now epoch nonce buffer named = tested-keeps _ s _ h (λ z.
-      let r = neither (noncesFull nonce s) _ (z .1 .1 .0) in
       let small = clocks-small now epoch (z .0) in
-      done-keeps buffer _ (r .1) (synchronized-good now nonce (small .0) named epoch s (small .1) h (not-false _ (z .1 .0)) (r .0)))
+      done-keeps buffer _ (z .1 .1 .0) (synchronized-good now nonce (small .0) named epoch s (small .1) h (not-false _ (z .1 .0))))
 
   message-keeps : (from count : ℕ) (w : Wire) (now epoch nonce buffer : ℕ) → TypedWire w → nonce < 2 ^ 32 → Keeps (messageStep from count w now epoch nonce buffer s)
   unfolding messageStep reacted
@@ -104,9 +102,8 @@ module _ (s : Seen) (h : Sound s) where
   act-keeps : (count : ℕ) (statuses : List ConnectionStatus) (now epoch nonce buffer : ℕ) → TypedStatuses count statuses → nonce < 2 ^ 32 → Keeps (actStep count statuses now epoch nonce buffer s)
   unfolding actStep
   act-keeps count statuses now epoch nonce buffer t named = tested-keeps _ s _ h (λ z.
-      let r = neither (requestChoked (s .phase) now nonce s) _ (z .1 .1 .0) in
       let small = clocks-small now epoch (z .0) in
-      done-keeps buffer _ (r .1) (acted-good now statuses (small .0) (omega (arith, t .few)) (t .frames) epoch nonce (small .1) named s h (s .phase) refl (r .0)))
+      done-keeps buffer _ (z .1 .1 .0) (acted-good now statuses (small .0) (omega (arith, t .few)) (t .frames) epoch nonce (small .1) named s h (s .phase) refl))
 
   send-keeps : (frame : ℕ) (bytes : List ℕ) (count : ℕ) (statuses : List ConnectionStatus) (now buffer : ℕ) → frame < 2 ^ 32 → Bytes bytes → TypedStatuses count statuses
       → Keeps (sendStep frame bytes count statuses now buffer s)

@@ -8,8 +8,9 @@ use native.Mathlib.Omega.{arith}
 use lib.Dec.{ltb}
 use lib.ListN.{length}
 use Rattle.base.specs.Keyed.{without, Distinct}
+use Rattle.base.specs.Last.{lastOf}
 use Rattle.base.proofs.Kept.{kept-length}
-use Rattle.nonces.specs.Nonces.{spent, issued, fits}
+use Rattle.nonces.specs.Nonces.{spent, issued}
 use Rattle.nonces.proofs.Laws.{issued-distinct, issued-bound, spent-distinct}
 use Rattle.endpoint_rules.specs.declared.Phase.{Phase}
 use Rattle.endpoint_rules.specs.declared.Phase.the-variants.{Initializing, Synchronizing, Running, Disconnected, Shutdown}
@@ -18,7 +19,7 @@ use Rattle.endpoint_rules.specs.Handshake.{withNonces}
 use Rattle.endpoint_invariant.specs.Each.{Each}
 use Rattle.endpoint_invariant.specs.Sound.{SoundSync}
 use Rattle.endpoint_invariant.proofs.Choices.{never}
-use Rattle.endpoint_invariant.proofs.Eaches.{each-append, each-kept}
+use Rattle.endpoint_invariant.proofs.Eaches.{each-append, each-last, each-kept}
 
 -- a phase is one of them
 pub synchronizing-only : (p : Phase) → isSynchronizing p ≡ true → (isInitializing p ≡ false) × (isRunning p ≡ false)
@@ -66,13 +67,13 @@ module _ (p : Phase) (x : Sync) (h : SoundSync p x) where
       }
 
   -- a nonce is issued
-  pub issued-sync : (nonce : ℕ) → isInitializing p ≡ false → fits nonce (x .nonces) ≡ true → nonce < 2 ^ 32 → SoundSync p (withNonces (issued nonce (x .nonces)) x)
+  pub issued-sync : (nonce : ℕ) → isInitializing p ≡ false → nonce < 2 ^ 32 → SoundSync p (withNonces (issued nonce (x .nonces)) x)
   unfolding issued Each
-  issued-sync nonce i f small =
+  issued-sync nonce i small =
       record {
         distinct = issued-distinct nonce (x .nonces) (h .distinct);
-        count = issued-bound nonce (x .nonces) f;
-        nonces = each-append (λ n. n < 2 ^ 32) (spent nonce (x .nonces)) (nonce ∷ []) (each-spent (λ n. n < 2 ^ 32) nonce (x .nonces) (h .nonces)) (small, tt);
+        count = issued-bound nonce (x .nonces);
+        nonces = each-append (λ n. n < 2 ^ 32) (lastOf 255 (spent nonce (x .nonces))) (nonce ∷ []) (each-last (λ n. n < 2 ^ 32) 255 (spent nonce (x .nonces)) (each-spent (λ n. n < 2 ^ 32) nonce (x .nonces) (h .nonces))) (small, tt);
         remaining = h .remaining;
         magic = h .magic;
         initializing = λ e. never (sym i ∙ e);

@@ -15,7 +15,6 @@ use Rattle.endpoint_rules.specs.Call.{Call}
 use Rattle.endpoint_rules.specs.Step.{fresh, step}
 use Rattle.endpoint_rules.specs.Value.{valueOf}
 use Rattle.endpoint_invariant.specs.Typed.{IsU64, TypedSetup}
-use Rattle.endpoint_invariant.specs.Runs.{handed}
 use Rattle.endpoint_invariant.specs.Each.{Each}
 use Rattle.endpoint_invariant.specs.Announcement.{Announcement}
 use Rattle.endpoint_invariant.proofs.Choices.{passes}
@@ -29,27 +28,12 @@ use Rattle.endpoint.specs.declared.Endpoint.{Endpoint}
 use Rattle.endpoint.specs.Endpoint.{seen}
 use Rattle.endpoint_version.specs.Version.{Version, Asked, IsAsked, callOf, endpointAfter}
 use Rattle.endpoint_version.specs.Meets.{Meets, Reached}
-use Rattle.endpoint_version.proofs.Asked.{asked-typed}
+use Rattle.endpoint_version.proofs.Asked.{asked-typed, none-handed}
 use Rattle.endpoint_version.proofs.Reached.{Good, after-seen, called-good, taken-good, reached-good}
 use Rattle.endpoint_plays.specs.Sides.{Side, after, taking, starts, eventsOf, shown, acceptedFrom}
 use Rattle.endpoint_plays.specs.Plays.{Fitting, Play}
 use Rattle.endpoint_plays.specs.Delivered.{handlesOf, givenTerms}
 use Rattle.endpoint_plays.proofs.Written.{queued-messages}
-
--- no call but that of events hands any out
-none-handed : (c : Asked) (s : Seen) → handed (callOf c) s ≡ []
-none-handed (Asked.synchronize now epoch nonce out) s = refl
-none-handed (Asked.message from m payload now epoch nonce out) s = refl
-none-handed (Asked.datagram from d now epoch nonce out) s = refl
-none-handed (Asked.act statuses now epoch nonce out) s = refl
-none-handed (Asked.sendInput frame bytes statuses now out) s = refl
-none-handed (Asked.disconnect now) s = refl
-none-handed (Asked.sendChecksumReport frame checksum now out) s = refl
-none-handed (Asked.updateLocalFrameAdvantage local) s = refl
-none-handed (Asked.takeMessages out) s = refl
-none-handed (Asked.networkStats epoch) s = refl
-none-handed (Asked.peerConnectStatus handle) s = refl
-none-handed (Asked.takeMessagesInto out into) s = refl
 
 module _ (v : Version) (m : Meets v) where
   module _ (e : Endpoint) (g : Good v m e) where

@@ -10,12 +10,13 @@ use lib.Seq.{length-take-le}
 use borrow.Author.Tests.{le-ltb}
 use Rattle.base.specs.Little.{Bytes}
 use Rattle.base.specs.Keyed.{kept, has, without}
+use Rattle.base.specs.Last.{lastOf}
 use Rattle.frame.specs.Bias.{nullFrame}
 use Rattle.packing.specs.Packing.{xors, framesOf, unpack, pack, decodableLength, decodable}
 use Rattle.packing.specs.Pad.{zeros, padded}
 use Rattle.pending.specs.Pending.{dropTo, lastTo, room}
 use Rattle.history.specs.History.{blankFrame, highest, newestOf, foundIn, referenceFrame, atLine, above, numbered, packetOf, takenIn}
-use Rattle.nonces.specs.Nonces.{issued, fits}
+use Rattle.nonces.specs.Nonces.{issued}
 use Rattle.status.specs.Status.{defaultStatus, reported, merged}
 use Rattle.status.specs.Statuses.{mergedAll, defaultStatuses}
 use Rattle.events.specs.Events.{heldEvents, hasRoom, inputOf, inputEntry, announced, announcedEach}
@@ -42,7 +43,6 @@ use Rattle.endpoint_rules.specs.Value.{Value, valueOf, filledPart, handedBack}
 use Rattle.endpoint_rules.proofs.Bouts.{setupWith, setup-taken, new, fr, wire, none, P3, P5}
 use Rattle.endpoint_rules.proofs.Datagrams.{bytes-message}
 use Rattle.endpoint_invariant.specs.Each.{Each}
-use Rattle.endpoint_invariant.specs.Runs.{handed}
 use Rattle.endpoint_invariant.specs.Typed.{TypedSetup}
 use Rattle.endpoint_invariant.proofs.Announced.{step-announces}
 use Rattle.endpoint_invariant.proofs.Examples.{small-typed}
@@ -56,6 +56,7 @@ use Rattle.endpoint.specs.Shown.{shown}
 use Rattle.endpoint_version.specs.Values.{IsSlice, IsMessage, IsEndpoint}
 use Rattle.endpoint_version.specs.Version.{Version, Asked, IsAsked, functionOf, callOf, numberFrom, endpointAfter}
 use Rattle.endpoint_version.specs.Meets.{Meets, Reached}
+use Rattle.endpoint_version.proofs.Asked.{none-handed}
 use Rattle.endpoint_version.proofs.Reached.{after-seen, reached-good}
 use Rattle.endpoint_ruled_out.specs.Unusable.{RefusesAll, Constant, Untouched, Received, FirstOnly, toCome, countsIn, TellsCount, addedBy, InventsCounts, InventsLengths}
 use Rattle.endpoint_ruled_out.proofs.Steps.{idle-calm, one-counts, other-message, unasked-reply, asked-reply, begins, reports, takes-all}
@@ -126,11 +127,11 @@ abbrev received : Seen
 received = step P3 new .after
 
 newest-one : newest received ≡ fr 1
-unfolding kept has without xors framesOf unpack pack decodableLength decodable zeros padded dropTo lastTo room blankFrame highest newestOf foundIn atLine above numbered packetOf takenIn issued fits defaultStatus reported merged mergedAll defaultStatuses hasRoom inputOf inputEntry announced badSetup anyAbove anyTwice inserted sorted termsWith made refused tested queueWire queueSize done bufferFull isFull droppedTo acknowledged referenceFrame taken receivedIf receive announcedEach discarded packetOverflows statusesMerged informed inputsReceived inputTaken inputUnless onInput fresh ignored resumed heard onBody reacted messageStep step
+unfolding kept has without xors framesOf unpack pack decodableLength decodable zeros padded dropTo lastTo room blankFrame highest newestOf foundIn atLine above numbered packetOf takenIn issued lastOf defaultStatus reported merged mergedAll defaultStatuses hasRoom inputOf inputEntry announced badSetup anyAbove anyTwice inserted sorted termsWith made refused tested queueWire queueSize done bufferFull isFull droppedTo acknowledged referenceFrame taken receivedIf receive announcedEach discarded packetOverflows statusesMerged informed inputsReceived inputTaken inputUnless onInput fresh ignored resumed heard onBody reacted messageStep step
 newest-one = refl
 
 newest-two : newest (step P5 received .after) ≡ fr 2
-unfolding kept has without xors framesOf unpack pack decodableLength decodable zeros padded dropTo lastTo room blankFrame highest newestOf foundIn atLine above numbered packetOf takenIn issued fits defaultStatus reported merged mergedAll defaultStatuses hasRoom inputOf inputEntry announced badSetup anyAbove anyTwice inserted sorted termsWith made refused tested queueWire queueSize done bufferFull isFull droppedTo acknowledged referenceFrame taken receivedIf receive announcedEach discarded packetOverflows statusesMerged informed inputsReceived inputTaken inputUnless onInput fresh ignored resumed heard onBody reacted messageStep step
+unfolding kept has without xors framesOf unpack pack decodableLength decodable zeros padded dropTo lastTo room blankFrame highest newestOf foundIn atLine above numbered packetOf takenIn issued lastOf defaultStatus reported merged mergedAll defaultStatuses hasRoom inputOf inputEntry announced badSetup anyAbove anyTwice inserted sorted termsWith made refused tested queueWire queueSize done bufferFull isFull droppedTo acknowledged referenceFrame taken receivedIf receive announcedEach discarded packetOverflows statusesMerged informed inputsReceived inputTaken inputUnless onInput fresh ignored resumed heard onBody reacted messageStep step
 newest-two = refl
 
 -- the packets as values, their reports in an array of four
@@ -260,21 +261,6 @@ held s = s .events
 drop-joined : (l more : List Entry) → drop (length l) (l ++ more) ≡ more
 drop-joined [] more = refl
 drop-joined (x ∷ l) more = drop-joined l more
-
--- no call here hands events back
-none-handed : (c : Asked) (s : Seen) → handed (callOf c) s ≡ []
-none-handed (Asked.synchronize now epoch nonce out) s = refl
-none-handed (Asked.message from x payload now epoch nonce out) s = refl
-none-handed (Asked.datagram from d now epoch nonce out) s = refl
-none-handed (Asked.act statuses now epoch nonce out) s = refl
-none-handed (Asked.sendInput frame bytes statuses now out) s = refl
-none-handed (Asked.disconnect now) s = refl
-none-handed (Asked.sendChecksumReport frame checksum now out) s = refl
-none-handed (Asked.updateLocalFrameAdvantage local) s = refl
-none-handed (Asked.takeMessages out) s = refl
-none-handed (Asked.networkStats epoch) s = refl
-none-handed (Asked.peerConnectStatus handle) s = refl
-none-handed (Asked.takeMessagesInto out into) s = refl
 
 module _ (v : Version) (m : Meets v) (e : Endpoint) (i : IsEndpoint e) where
   module _ (c : Asked) (a : IsAsked c) where

@@ -5,12 +5,13 @@ use mathlib.Core.Path.{_≡_, refl}
 use Prim.Native.Nat.{ℕ, _+_, _-_}
 use lib.ListN.{length}
 use Rattle.base.specs.Keyed.{kept, has, without}
+use Rattle.base.specs.Last.{lastOf}
 use Rattle.frame.specs.Bias.{bias32, bias16, nullFrame}
 use Rattle.packing.specs.Packing.{xors, framesOf, unpack, pack, decodableLength, decodable}
 use Rattle.packing.specs.Pad.{zeros, padded}
 use Rattle.pending.specs.Pending.{dropTo, lastTo, room}
 use Rattle.history.specs.History.{blankFrame, highest, newestOf, foundIn, referenceFrame, atLine, above, numbered, packetOf, takenIn}
-use Rattle.nonces.specs.Nonces.{issued, fits}
+use Rattle.nonces.specs.Nonces.{issued}
 use Rattle.status.specs.Status.{defaultStatus, reported, merged}
 use Rattle.status.specs.Statuses.{mergedAll, defaultStatuses}
 use Rattle.codec.specs.Message.{Wire}
@@ -218,5 +219,5 @@ pub bouts :
     × (reportAfter (fr 0) (fr 40000) ≡ QualityReport (bias16 - 32768) (record { low = 72000; high = 0 }) ∷ [])
     -- P14: rtt 100, fps 60, newest 10, local 12: advantage 1
     × (after (pong ∷ advanced (fr 10) (fr 12)) new .quality .«local_frame_advantage» ≡ bias32 + 1)
-unfolding kept has without xors framesOf unpack pack decodableLength decodable zeros padded dropTo lastTo room blankFrame highest newestOf foundIn atLine above numbered packetOf takenIn issued fits defaultStatus reported merged mergedAll defaultStatuses hasRoom inputOf inputEntry announced badSetup anyAbove anyTwice inserted sorted termsWith made refused tested queueWire queueSize done bufferFull isFull nonceIssued request started synchronized counted running replied onSyncReply droppedTo acknowledged pendingQueued referenceFrame taken receivedIf receive announcedEach discarded packetOverflows statusesMerged informed inputsReceived inputTaken inputUnless onInput resent reportSent keptAlive interrupted timedOut acted clamped reportQueued roundTrip roundTripNoted onQualityReply advantageOf advantageOverflows localAdvantage advantageUpdated fresh synchronizeStep ignored resumed heard onBody reacted messageStep actStep disconnectStep advantageStep step
+unfolding kept has without xors framesOf unpack pack decodableLength decodable zeros padded dropTo lastTo room blankFrame highest newestOf foundIn atLine above numbered packetOf takenIn issued lastOf defaultStatus reported merged mergedAll defaultStatuses hasRoom inputOf inputEntry announced badSetup anyAbove anyTwice inserted sorted termsWith made refused tested queueWire queueSize done bufferFull isFull nonceIssued request started synchronized counted running replied onSyncReply droppedTo acknowledged pendingQueued referenceFrame taken receivedIf receive announcedEach discarded packetOverflows statusesMerged informed inputsReceived inputTaken inputUnless onInput resent reportSent keptAlive interrupted timedOut acted clamped reportQueued roundTrip roundTripNoted onQualityReply advantageOf advantageOverflows localAdvantage advantageUpdated fresh synchronizeStep ignored resumed heard onBody reacted messageStep actStep disconnectStep advantageStep step
 bouts = (refl, refl, refl, refl, refl, refl, refl, refl, refl, refl, refl, refl, refl, refl, refl, refl, refl, refl, refl, refl, refl, refl, refl, refl, refl, refl, refl, refl)

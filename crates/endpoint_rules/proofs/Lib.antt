@@ -4,3 +4,5 @@ pub mod Timings
 pub mod Laws
 pub mod Datagrams
 pub mod Tested
+pub mod Requests
+pub mod LongWait

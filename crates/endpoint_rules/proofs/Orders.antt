@@ -5,12 +5,13 @@ use mathlib.Core.Path.{_≡_, refl}
 use Prim.Native.Nat.{ℕ, zero, suc, _^_}
 use lib.ListN.{length, replicate}
 use Rattle.base.specs.Keyed.{kept, has, without}
+use Rattle.base.specs.Last.{lastOf}
 use Rattle.frame.specs.Bias.{nullFrame}
 use Rattle.packing.specs.Packing.{xors, framesOf, unpack, pack, decodableLength, decodable}
 use Rattle.packing.specs.Pad.{zeros, padded}
 use Rattle.pending.specs.Pending.{dropTo, lastTo, firstFrame, lastFrame, room, payload}
 use Rattle.history.specs.History.{blankFrame, highest, newestOf, foundIn, referenceFrame, atLine, above, numbered, packetOf, takenIn}
-use Rattle.nonces.specs.Nonces.{issued, fits}
+use Rattle.nonces.specs.Nonces.{issued}
 use Rattle.status.specs.Status.{defaultStatus, reported, merged}
 use Rattle.status.specs.Statuses.{mergedAll, defaultStatuses}
 use Rattle.codec.specs.declared.MessageBody.the-variants.{SyncReply, Input, KeepAlive}
@@ -96,7 +97,7 @@ orders :
     × (step (hand (wire (Input true (fr 0) nullFrame) [] []) 2000 0) (after (hand (wire (Input true (fr 0) nullFrame) [] []) 2000 0 ∷ []) new) .events ≡ [])
     -- from then on another magic is not heard
     × (step (Call.message 3 0 (record { magic = 8; body = KeepAlive; reports = []; payload = [] }) 2000 2000 0 0) (after handshake new) .after .clocks .«last_recv_time» ≡ 1000)
-unfolding kept has without xors framesOf unpack pack decodableLength decodable zeros padded dropTo lastTo firstFrame lastFrame room payload blankFrame highest newestOf foundIn atLine above numbered packetOf takenIn issued fits defaultStatus reported merged mergedAll defaultStatuses hasRoom inputOf inputEntry announced badSetup anyAbove anyTwice inserted sorted termsWith made refused tested queueWire queueSize done bufferFull isFull nonceIssued request started synchronized counted running replied onSyncReply droppedTo acknowledged badFrame reportOf pendingInput pendingQueued accepted announcesMost inputSent referenceFrame taken receivedIf receive announcedEach discarded packetOverflows statusesMerged informed inputsReceived inputTaken inputUnless onInput fresh synchronizeStep ignored resumed heard onBody reacted messageStep sendStep disconnectStep step statsStep statusStep takeStep checksumStep checksumSent
+unfolding kept has without xors framesOf unpack pack decodableLength decodable zeros padded dropTo lastTo firstFrame lastFrame room payload blankFrame highest newestOf foundIn atLine above numbered packetOf takenIn issued lastOf defaultStatus reported merged mergedAll defaultStatuses hasRoom inputOf inputEntry announced badSetup anyAbove anyTwice inserted sorted termsWith made refused tested queueWire queueSize done bufferFull isFull nonceIssued request started synchronized counted running replied onSyncReply droppedTo acknowledged badFrame reportOf pendingInput pendingQueued accepted announcesMost inputSent referenceFrame taken receivedIf receive announcedEach discarded packetOverflows statusesMerged informed inputsReceived inputTaken inputUnless onInput fresh synchronizeStep ignored resumed heard onBody reacted messageStep sendStep disconnectStep step statsStep statusStep takeStep checksumStep checksumSent
 orders = (refl, refl, refl, refl, refl, refl, refl, refl, refl, refl, refl, refl, refl, refl, refl, refl, refl, refl, refl, refl, refl, refl, refl, refl, refl, refl, refl, refl, refl, refl, refl, refl, refl)
 
 -- ---- the 129th pending input
@@ -131,5 +132,5 @@ crowded :
     × (with129 .flags .«disconnect_event_sent» ≡ false)
     -- one more does not fit
     × (step (send (fr 129) (5 ∷ []) 2000 65536) with129 .answer ≡ 5)
-unfolding kept has without xors framesOf unpack pack decodableLength decodable zeros padded dropTo lastTo firstFrame lastFrame room payload blankFrame highest newestOf foundIn atLine above numbered packetOf takenIn issued fits defaultStatus reported merged mergedAll defaultStatuses hasRoom inputOf inputEntry announced badSetup anyAbove anyTwice inserted sorted termsWith made refused tested queueWire queueSize done bufferFull isFull nonceIssued request started synchronized counted running replied onSyncReply droppedTo acknowledged badFrame reportOf pendingInput pendingQueued accepted announcesMost inputSent fresh synchronizeStep ignored resumed heard onBody reacted messageStep sendStep step
+unfolding kept has without xors framesOf unpack pack decodableLength decodable zeros padded dropTo lastTo firstFrame lastFrame room payload blankFrame highest newestOf foundIn atLine above numbered packetOf takenIn issued lastOf defaultStatus reported merged mergedAll defaultStatuses hasRoom inputOf inputEntry announced badSetup anyAbove anyTwice inserted sorted termsWith made refused tested queueWire queueSize done bufferFull isFull nonceIssued request started synchronized counted running replied onSyncReply droppedTo acknowledged badFrame reportOf pendingInput pendingQueued accepted announcesMost inputSent fresh synchronizeStep ignored resumed heard onBody reacted messageStep sendStep step
 crowded = (refl, refl, refl, refl, refl, refl, refl, refl, refl)

@@ -67,6 +67,20 @@ tested-done ts s d q = by-tests ts s d (λ (x : Did). x .answer ≡ 0 → x ≡ 
     each [] q = tt
     each (t ∷ l) q = (one (t .0) (t .1) (q .0), each l (q .1))
 
+-- the same tests give the same number, where what goes on has the same
+pub tested-answer : (ts : List (Bool × Verdict)) (s t : Seen) (d e : Did) → d .answer ≡ e .answer → tested ts s d .answer ≡ tested ts t e .answer
+unfolding tested refused
+tested-answer [] s t d e h = h
+tested-answer (x ∷ ts) s t d e h = go (tested-answer ts s t d e h) (eqb (holding (x .0)) 0)
+  where
+    stops : (v : Verdict) → stopped v s .answer ≡ stopped v t .answer
+    stops (refuse n) = refl
+    stops ignore = refl
+
+    go : tested ts s d .answer ≡ tested ts t e .answer → (b : Bool) → pick b (tested ts s d) (stopped (x .1) s) .answer ≡ pick b (tested ts t e) (stopped (x .1) t) .answer
+    go rest true = rest
+    go rest false = stops (x .1)
+
 -- ---- the reader's number
 
 pub by-decided : (n : ℕ) (s : Seen) (d : Did) (P : Did → Type 0) → (n ≡ 0 → P d) → ((n ≡ 0 → ⊥) → P (refused n s)) → P (decided n s d)

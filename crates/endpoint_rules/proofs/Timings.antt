@@ -4,9 +4,10 @@ use mathlib.Core.List.{List, [], _∷_, map}
 use mathlib.Core.Path.{_≡_, refl}
 use Prim.Native.Nat.{ℕ}
 use Rattle.base.specs.Keyed.{kept, has, without}
+use Rattle.base.specs.Last.{lastOf}
 use Rattle.frame.specs.Bias.{bias16}
 use Rattle.history.specs.History.{blankFrame, highest, newestOf}
-use Rattle.nonces.specs.Nonces.{issued, fits}
+use Rattle.nonces.specs.Nonces.{issued}
 use Rattle.status.specs.Status.{defaultStatus}
 use Rattle.status.specs.Statuses.{defaultStatuses}
 use Rattle.codec.specs.declared.MessageBody.the-variants.{SyncRequest, QualityReport, KeepAlive}
@@ -65,7 +66,7 @@ timings :
     × (step (actWith 73) ready .answer ≡ 5)
     × (step (actWith 73) ready .events ≡ [])
     × (step (actWith 74) ready .answer ≡ 0)
-unfolding kept has without blankFrame highest newestOf issued fits defaultStatus defaultStatuses hasRoom badSetup anyAbove anyTwice inserted sorted termsWith made refused tested queueWire queueSize done bufferFull isFull nonceIssued request started synchronized counted running replied onSyncReply pendingQueued clamped reportQueued checksumSent resent reportSent keptAlive interrupted timedOut acted fresh synchronizeStep ignored resumed heard onBody reacted messageStep actStep checksumStep step
+unfolding kept has without blankFrame highest newestOf issued lastOf defaultStatus defaultStatuses hasRoom badSetup anyAbove anyTwice inserted sorted termsWith made refused tested queueWire queueSize done bufferFull isFull nonceIssued request started synchronized counted running replied onSyncReply pendingQueued clamped reportQueued checksumSent resent reportSent keptAlive interrupted timedOut acted fresh synchronizeStep ignored resumed heard onBody reacted messageStep actStep checksumStep step
 timings = (refl, refl, refl, refl, refl, refl, refl, refl, refl, refl, refl, refl, refl, refl)
 
 -- ---- P11 where the clocks differ: the endpoint is made at 900, its first request goes out at 1000, and at 1100 it answers a request of the other end
@@ -95,5 +96,5 @@ requests : (answering .clocks ≡ clocksWith 1100 1000)
     -- so the next one is not due at 1401, and is due at 1402
     × (bodies (step (actAt 1401) (after (actAt 1201 ∷ []) answering)) ≡ [])
     × (bodies (step (actAt 1402) (after (actAt 1201 ∷ []) answering)) ≡ SyncRequest 99 ∷ [])
-unfolding kept without issued fits hasRoom termsWith made tested queueWire queueSize done bufferFull isFull nonceIssued request started synchronized onSyncRequest acted fresh synchronizeStep ignored resumed heard onBody reacted messageStep actStep step
+unfolding kept without issued lastOf hasRoom termsWith made tested queueWire queueSize done bufferFull isFull nonceIssued request started synchronized onSyncRequest acted fresh synchronizeStep ignored resumed heard onBody reacted messageStep actStep step
 requests = (refl, refl, refl, refl, refl, refl, refl, refl)

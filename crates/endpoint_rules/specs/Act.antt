@@ -1,5 +1,5 @@
 -- Act: what the clocks bring (E-43 to E-54). A wait is over strictly after its end, last + 200 < now (`passed`, E-45).
-use mathlib.Core.Bool.{Bool, true, false, not, _&&_}
+use mathlib.Core.Bool.{Bool, true, not, _&&_}
 use mathlib.Core.List.{List}
 use Prim.Native.Nat.{ℕ, _-_}
 use lib.Dec.{ltb}
@@ -12,7 +12,7 @@ use Rattle.endpoint_rules.specs.declared.Phase.{Phase}
 use Rattle.endpoint_rules.specs.declared.Phase.the-variants.{Initializing, Synchronizing, Running, Disconnected, Shutdown}
 use Rattle.endpoint_rules.specs.Seen.{Seen, withPhase, withFlags, inputAt}
 use Rattle.endpoint_rules.specs.Did.{Effect, change, queue, announceEvent}
-use Rattle.endpoint_rules.specs.Handshake.{request, noncesFull}
+use Rattle.endpoint_rules.specs.Handshake.{request}
 use Rattle.endpoint_rules.specs.Sending.{queuePending}
 use Rattle.endpoint_rules.specs.Reports.{reportQueued}
 
@@ -71,11 +71,3 @@ acted Synchronizing now epoch nonce statuses e = pick (requestDue now (e .state)
 acted Running now epoch nonce statuses e = timedOut now (interrupted now (keptAlive now (reportSent now epoch (resent now statuses e))))
 acted Disconnected now epoch nonce statuses e = pick (ltb (e .state .clocks .«shutdown_timeout») now) (change (withPhase Shutdown) e) e
 acted Shutdown now epoch nonce statuses e = e
-
--- 5: a request is due, with 256 other nonces outstanding
-abbrev pub requestChoked : Phase → (now nonce : ℕ) → Seen → Bool
-requestChoked Initializing now nonce s = false
-requestChoked Synchronizing now nonce s = requestDue now s && noncesFull nonce s
-requestChoked Running now nonce s = false
-requestChoked Disconnected now nonce s = false
-requestChoked Shutdown now nonce s = false

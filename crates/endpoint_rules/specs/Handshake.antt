@@ -1,9 +1,9 @@
 -- The handshake: requests, and replies that count by their nonce; and what every message call is made of.
-use mathlib.Core.Bool.{Bool, true, false, not, _&&_}
+use mathlib.Core.Bool.{Bool, true, false, _&&_}
 use mathlib.Core.List.{List}
 use Prim.Native.Nat.{ℕ, _-_}
 use lib.Dec.{ltb}
-use Rattle.nonces.specs.Nonces.{isOutstanding, spent, issued, fits}
+use Rattle.nonces.specs.Nonces.{isOutstanding, spent, issued}
 use Rattle.quality.specs.Quality.{startedAt}
 use Rattle.codec.specs.declared.MessageBody.the-variants.{SyncRequest, SyncReply}
 use Rattle.events.specs.declared.Event.the-variants as Event
@@ -11,7 +11,7 @@ use Rattle.endpoint_rules.specs.declared.Phase.the-variants.{Synchronizi
 use Rattle.endpoint_rules.specs.Seen.{Seen, Sync, isSynchronizing, withPhase, withSync, withQuality, requestAt}
 use Rattle.endpoint_rules.specs.Did.{Effect, change, queue, announceEvent}
 
--- what a message would do: the tests for 12 and 6, that a store has no room, and the effect if none of these holds
+-- what a message would do: the tests for 12 and 6, that the checksums have no room, and the effect if none of these holds
 pub record Reaction : Type 0 where
   pub tooLong : Bool
   pub overflows : Bool
@@ -24,14 +24,10 @@ plainly e = record { tooLong = false; overflows = false; storeFull = false; effe
 abbrev pub withNonces : List ℕ → Sync → Sync
 withNonces x y = record { remaining = y .remaining; nonces = x; remoteMagic = y .remoteMagic }
 
--- 5: outstanding nonces 256 (C-14)
-abbrev pub noncesFull : ℕ → Seen → Bool
-noncesFull nonce s = not (fits nonce (s .sync .nonces))
-
 unfoldable pub nonceIssued : ℕ → Seen → Seen
 nonceIssued nonce s = withSync (withNonces (issued nonce (s .sync .nonces)) (s .sync)) s
 
--- a request: its time is noted, its nonce is outstanding (E-4)
+-- a request: its time is noted, its nonce is outstanding (E-4), whatever is forgotten for it (E-70)
 unfoldable pub request : (now nonce : ℕ) → Effect → Effect
 request now nonce e = queue now (SyncRequest nonce) (change (λ s. nonceIssued nonce (requestAt now s)) e)
 
@@ -64,12 +60,8 @@ running magic s = withPhase Running (withSync (record { remaining = s .sync .rem
 -- whether it counts, and whether more are to come: the first four are announced and followed by a request (E-8), the fifth ends the handshake (E-9)
 unfoldable pub replied : (now nonce magic reply : ℕ) → (countsIt more : Bool) → Effect → Reaction
 replied now nonce magic reply false more e = plainly e
-replied now nonce magic reply true true e = record {
-  tooLong = false;
-  overflows = false;
-  storeFull = noncesFull nonce (counted reply (e .state));
-  effect = request now nonce (announceEvent (Event.Synchronizing 5 (5 - (e .state .sync .remaining - 1))) (change (counted reply) e));
-}
+replied now nonce magic reply true true e =
+    plainly (request now nonce (announceEvent (Event.Synchronizing 5 (5 - (e .state .sync .remaining - 1))) (change (counted reply) e)))
 replied now nonce magic reply true false e = plainly (announceEvent Event.Synchronized (change (λ s. running magic (counted reply s)) e))
 
 unfoldable pub onSyncReply : (now nonce magic reply : ℕ) → Effect → Reaction

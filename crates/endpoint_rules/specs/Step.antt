@@ -24,10 +24,10 @@ use Rattle.endpoint_rules.specs.Seen.{Seen, made, isInitializing, isRunn
 use Rattle.endpoint_rules.specs.Did.{Did, Effect, tested, decided, begin, change, announceEvent, done}
 use Rattle.endpoint_rules.specs.Did.Verdict.{refuse, ignore}
 use Rattle.endpoint_rules.specs.Room.{isFull}
-use Rattle.endpoint_rules.specs.Handshake.{Reaction, plainly, synchronized, noncesFull, onSyncRequest, onSyncReply}
+use Rattle.endpoint_rules.specs.Handshake.{Reaction, plainly, synchronized, onSyncRequest, onSyncReply}
 use Rattle.endpoint_rules.specs.Sending.{badFrame, badStatuses, badBytes, pendingFull, inputSent}
 use Rattle.endpoint_rules.specs.Receiving.{inputMessage, onInput, onInputAck}
-use Rattle.endpoint_rules.specs.Act.{acted, requestChoked}
+use Rattle.endpoint_rules.specs.Act.{acted}
 use Rattle.endpoint_rules.specs.Reports.{onQualityReport, onQualityReply, notSynchronized, notEnoughData}
 use Rattle.endpoint_rules.specs.Checksum.{onChecksumReport, checksumSent}
 use Rattle.endpoint_rules.specs.Advantage.{localOverflows, advantageUpdated}
@@ -50,7 +50,7 @@ synchronizeStep now epoch nonce buffer s =
     let e : Effect = synchronized now epoch nonce (begin s) in
     tested ((badClocks now epoch, refuse 8)
     ∷ (wrongState s, refuse 2)
-    ∷ (noncesFull nonce s || isFull buffer e, refuse 5)
+    ∷ (isFull buffer e, refuse 5)
     ∷ []) s (done e)
 
 -- ---- messages
@@ -116,7 +116,7 @@ actStep count statuses now epoch nonce buffer s =
     let e : Effect = acted (s .phase) now epoch nonce statuses (begin s) in
     tested ((badClocks now epoch, refuse 8)
     ∷ (badStatuses count s, refuse 3)
-    ∷ (requestChoked (s .phase) now nonce s || isFull buffer e, refuse 5)
+    ∷ (isFull buffer e, refuse 5)
     ∷ []) s (done e)
 
 -- send_input (E-55 to E-59): outside Running ignored

@@ -1,5 +1,6 @@
--- What a version is asked with values of the code's types is a call with arguments of those types, as the rules' runs take it.
-use mathlib.Core.List.{List}
+-- What a version is asked with values of the code's types is a call with arguments of those types, as the rules' runs take it; and it hands out no events.
+use mathlib.Core.List.{List, []}
+use mathlib.Core.Path.{_≡_, refl}
 use native.Mathlib.Omega.{arith}
 use Prim.Native.Nat.{ℕ}
 use Rattle.base.specs.Little.{Bytes}
@@ -7,6 +8,8 @@ use Rattle.status.specs.Statuses.{heldStatuses}
 use Rattle.status.specs.declared.list.Statuses.{Statuses}
 use Rattle.codec.specs.Message.{meant}
 use Rattle.codec.specs.declared.Message.{Message}
+use Rattle.endpoint_rules.specs.Seen.{Seen}
+use Rattle.endpoint_invariant.specs.Runs.{handed}
 use Rattle.endpoint_invariant.specs.Typed.{TypedStatuses, TypedWire, Typed}
 use Rattle.endpoint_invariant.proofs.Typed as Typed
 use Rattle.endpoint_version.specs.Values.{IsStatuses, IsMessage}
@@ -33,3 +36,18 @@ asked-typed (Asked.takeMessages out) h = h .1
 asked-typed (Asked.networkStats epoch) h = h
 asked-typed (Asked.peerConnectStatus handle) h = h
 asked-typed (Asked.takeMessagesInto out into) h = omega arith
+
+-- no call but that of events hands any out
+pub none-handed : (c : Asked) (s : Seen) → handed (callOf c) s ≡ []
+none-handed (Asked.synchronize now epoch nonce out) s = refl
+none-handed (Asked.message from m payload now epoch nonce out) s = refl
+none-handed (Asked.datagram from d now epoch nonce out) s = refl
+none-handed (Asked.act statuses now epoch nonce out) s = refl
+none-handed (Asked.sendInput frame bytes statuses now out) s = refl
+none-handed (Asked.disconnect now) s = refl
+none-handed (Asked.sendChecksumReport frame checksum now out) s = refl
+none-handed (Asked.updateLocalFrameAdvantage local) s = refl
+none-handed (Asked.takeMessages out) s = refl
+none-handed (Asked.networkStats epoch) s = refl
+none-handed (Asked.peerConnectStatus handle) s = refl
+none-handed (Asked.takeMessagesInto out into) s = refl

@@ -1,4 +1,4 @@
--- What `keep_others` leaves of a store makes what spending and issuing give: where all nonces stay the array is as it was.
+-- What `keep_others` and `make_room` leave of a store makes what spending and issuing give: where all nonces stay the array is as it was.
 use borrow.Author.Tests.{lt-ltb, le-ltb}
 use mathlib.Core.Bool.{Bool, true, false, not}
 use mathlib.Core.List.{List}
@@ -6,14 +6,31 @@ use mathlib.Core.Path.{_≡_, refl, sym, _∙_}
 use Prim.Native.Nat.{ℕ, _+_, _≤_, _<_}
 use native.Mathlib.Omega.{arith}
 use lib.Dec.{ltb, eqb}
-use lib.ListN.{length, take, set}
-use lib.Seq.{length-take-le}
+use lib.ListN.{length, length-take, length-drop, take, drop, set}
+use lib.Seq.{length-take-le, take-all}
 use Rattle.base.specs.Keyed.{without}
+use Rattle.base.specs.Last.{lastOf}
 use Rattle.base.proofs.Arrays.{take-count, view-le, store-end}
 use Rattle.base.proofs.InPlace.{keeping-all}
+use Rattle.base.proofs.Last.{last-all}
 use Rattle.nonces.specs.declared.Nonces.{Nonces}
-use Rattle.nonces.specs.Nonces.{outstanding, isOutstanding, spent, issued, fits, renewed, KeptAs, IssuedAs, SpentAs}
-use Rattle.nonces.proofs.Laws.{spent-fewer, fits-after-spent}
+use Rattle.nonces.specs.Nonces.{outstanding, isOutstanding, spent, issued, renewed, KeptAs, RoomMadeAs, SpentAs}
+use Rattle.nonces.proofs.Laws.{spent-fewer}
+
+-- room for one more behind the first n: there is some, or all but the oldest have moved one place down
+pub room-left : (l : List ℕ) (n : ℕ) → n < 256 → RoomMadeAs l n n l
+room-left l n h = record { long = refl; few = h; front = sym (last-all 255 (take n l) (omega (arith, length-take n l))) }
+
+pub room-made : (l : List ℕ) (n : ℕ) (r : List ℕ) (m : ℕ) → n ≡ 256 → m ≡ 255 → length l ≡ 256 → length r ≡ 256 → take m r ≡ take m (drop 1 l) → RoomMadeAs l n m r
+unfolding lastOf
+room-made l n r m en em long long′ e =
+    let all : take 256 l ≡ l = take-all 256 l (omega arith) in
+    let rest : take 255 (drop 1 l) ≡ drop 1 l = take-all 255 (drop 1 l) (omega (arith, length-drop 1 l)) in
+    record {
+      long = omega arith;
+      few = omega arith;
+      front = e ∙ rw (en, em, all, long) rest;
+    }
 
 module _ (s : Nonces) (long : length (s .list) ≡ 256) (n : ℕ) (counted : n ≡ length (outstanding s)) where
   pub count-le : n ≤ 256
@@ -47,45 +64,26 @@ module _ (s : Nonces) (long : length (s .list) ≡ 256) (n : ℕ) (counted : n �
 
     -- each law takes the answer's flag, and what its test says of the numbers
     module _ (goesOn : Bool) (next : ℕ) where
-      later : isOutstanding nonce (outstanding s) ≡ true → fits next (spent nonce (outstanding s)) ≡ true
-      later = fits-after-spent nonce (outstanding s) next (omega (arith, count-le, counted))
-
       pub spent-some : {found : Bool} → found ≡ true → kept < n → goesOn ≡ false
           → SpentAs s nonce goesOn next (record { nonces = record { list = l; used = kept }; found = found })
       unfolding outstanding renewed
       spent-some f h over =
           let has : isOutstanding nonce (outstanding s) ≡ true = sym fewer ∙ lt-ltb kept n h in
-          record { found = f ∙ sym has; view = rw (has, over) front; room = λ _. later has; same = λ e. cc }
+          record { found = f ∙ sym has; view = rw (has, over) front; same = λ e. cc }
 
       pub spent-none : {found : Bool} → found ≡ false → n ≤ kept
           → SpentAs s nonce goesOn next (record { nonces = record { list = l; used = s .used }; found = found })
       unfolding renewed
       spent-none f h =
           let none : isOutstanding nonce (outstanding s) ≡ false = sym fewer ∙ le-ltb kept n h in
-          record { found = f ∙ sym none; view = rw (same-store h, none); room = λ e. cc; same = λ _. same-store h }
+          record { found = f ∙ sym none; view = rw (same-store h, none); same = λ _. same-store h }
 
-    room : ltb kept 256 ≡ fits nonce (outstanding s)
-    unfolding fits
-    room = rw (← many)
-
-    pub issued-some : {ok : Bool} → ok ≡ true → kept < 256
-        → IssuedAs s nonce (record { nonces = record { list = set l kept nonce; used = kept + 1 }; ok = ok })
+    -- room is made, and the nonce written behind the others
+    pub issued-last : (at : ℕ) (r : List ℕ) → RoomMadeAs l kept at r → outstanding (record { list = set r at nonce; used = at + 1 }) ≡ issued nonce (outstanding s)
     unfolding outstanding issued
-    issued-some f h =
-        record {
-          ok = f ∙ sym (lt-ltb kept 256 h) ∙ room;
-          view = rw (← room, lt-ltb kept 256 h) (store-end l kept kept nonce (sym front-length) (omega (arith, k .long)) ∙ rw front);
-          same = λ e. cc;
-        }
-
-    pub issued-none : {ok : Bool} → ok ≡ false → 256 ≤ kept → IssuedAs s nonce (record { nonces = record { list = l; used = s .used }; ok = ok })
-    issued-none f h =
-        let all : n ≤ kept = omega (arith, count-le) in
-        record {
-          ok = f ∙ sym (le-ltb kept 256 h) ∙ room;
-          view = rw (same-store all, ← room, le-ltb kept 256 h);
-          same = λ _. same-store all;
-        }
+    issued-last at r m =
+        let inside : at < length r = omega (arith, m .few, m .long, k .long, long) in
+        store-end r at at nonce (sym (length-take-le at r (omega arith))) inside ∙ rw (m .front, front)
 
 -- what is left of a store is a store, to which the next nonce goes
 module _ (s : Nonces) (long : length (s .list) ≡ 256) (n : ℕ) (counted : n ≡ length (outstanding s)) (nonce kept : ℕ) (l : List ℕ) (k : KeptAs (s .list) n nonce kept l)
@@ -112,6 +110,4 @@ module _ (s : Nonces) (long : length (s .list) ≡ 256) (n : ℕ) (counted : n �
     unfolding renewed
     spent-next f goesOn on =
         let has : isOutstanding nonce (outstanding s) ≡ true = sym (fewer s long n counted nonce kept l k) ∙ lt-ltb kept n some in
-        let room = later s long n counted nonce kept l k goesOn next has in
-        let i = issued-some left left-long kept left-counted next last l2 k2 {ok = true} refl last-within in
-        record { found = f ∙ sym has; view = rw (has, on) (i .view ∙ rw (left-is, room)); room = λ _. room; same = λ e. cc }
+        record { found = f ∙ sym has; view = rw (has, on) (issued-last left left-long kept left-counted next last l2 k2 last l2 (room-left l2 last last-within) ∙ rw left-is); same = λ e. cc }

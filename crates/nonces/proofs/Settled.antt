@@ -6,9 +6,8 @@ use Prim.Native.Nat.{ℕ}
 use lib.ListN.{length}
 use Rattle.base.proofs.Settled.{settled}
 use Rattle.nonces.specs.declared.Nonces.{Nonces}
-use Rattle.nonces.specs.declared.Issued.{Issued}
 use Rattle.nonces.specs.declared.Spent.{Spent}
-use Rattle.nonces.specs.Nonces.{outstanding, IssuedAs, SpentAs}
+use Rattle.nonces.specs.Nonces.{outstanding, issued, SpentAs}
 
 pub new-settled : (r s : Nonces) → outstanding r ≡ [] → outstanding s ≡ [] → outstanding r ≡ outstanding s
 new-settled = settled outstanding []
@@ -18,8 +17,8 @@ module _ (n : Nonces) where
   count-settled = settled (λ r. r) (length (outstanding n))
 
   module _ (nonce : ℕ) where
-    pub issue-settled : (r s : Issued) → IssuedAs n nonce r → IssuedAs n nonce s → (r .ok ≡ s .ok) × (outstanding (r .nonces) ≡ outstanding (s .nonces))
-    issue-settled r s a b = (a .ok ∙ sym (b .ok), a .view ∙ sym (b .view))
+    pub issue-settled : (r s : Nonces) → outstanding r ≡ issued nonce (outstanding n) → outstanding s ≡ issued nonce (outstanding n) → outstanding r ≡ outstanding s
+    issue-settled = settled outstanding (issued nonce (outstanding n))
 
     pub spend-settled : (goesOn : Bool) (next : ℕ) (r s : Spent) → SpentAs n nonce goesOn next r → SpentAs n nonce goesOn next s
         → (r .found ≡ s .found) × (outstanding (r .nonces) ≡ outstanding (s .nonces))

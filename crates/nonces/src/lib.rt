@@ -4,7 +4,7 @@ ghost use mathlib.Core.List.{[]};
 ghost use Prim.Native.Nat.{_≤_};
 ghost use lib.ListN.{length};
 ghost use Rattle.ceilings.specs.Ceilings.{mostNonces};
-ghost use Rattle.nonces.specs.Nonces.{outstanding, KeptAs, IssuedAs, SpentAs};
+ghost use Rattle.nonces.specs.Nonces.{outstanding, issued, KeptAs, RoomMadeAs, SpentAs};
 use ceilings::MOST_NONCES;
 
 pub struct Nonces {
@@ -12,12 +12,7 @@ pub struct Nonces {
     pub used: usize,
 }
 
-// The store stands first in what a call gives back: a flag in front of it would make padding, and then the compiler copies the store once more.
-pub struct Issued {
-    pub nonces: Nonces,
-    pub ok: bool,
-}
-
+// The store stands first in what `spend` gives back: a flag in front of it would make padding, and then the compiler copies the store once more.
 pub struct Spent {
     pub nonces: Nonces,
     pub found: bool,
@@ -42,6 +37,22 @@ fn keep_others(list: &mut [u32; MOST_NONCES], n: usize, nonce: u32) -> usize
     kept
 }
 
+// How many of the first n stay, so that one more has room behind them: of a full array the oldest is forgotten, and the others move one place down.
+fn make_room(list: &mut [u32; MOST_NONCES], n: usize) -> usize
+    requires { ⌜ (n ≤ mostNonces) × (length (now list) ≡ mostNonces) ⌝ }
+    ensures { λ r. ⌜ RoomMadeAs (now (list .entry)) n r (now (list .exit)) ⌝ }
+{
+    if n < MOST_NONCES {
+        return n;
+    }
+    let mut i = 0;
+    while i < MOST_NONCES - 1 {
+        list[i] = list[i + 1];
+        i += 1;
+    }
+    i
+}
+
 impl Nonces {
     pub fn new() -> Nonces
         ensures { λ r. ⌜ outstanding r ≡ [] ⌝ }
@@ -58,18 +69,16 @@ impl Nonces {
         numbers::least(self.used, MOST_NONCES)
     }
 
-    // The nonce at the end, and nowhere else; where 256 others are outstanding, unchanged.
-    pub fn issue(mut self, nonce: u32) -> Issued
-        ensures { λ r. ⌜ IssuedAs self nonce r ⌝ }
+    // The nonce at the end, and nowhere else; where 256 others are outstanding, the oldest of them is forgotten.
+    pub fn issue(mut self, nonce: u32) -> Nonces
+        ensures { λ r. ⌜ outstanding r ≡ issued nonce (outstanding self) ⌝ }
     {
         let n = self.count();
-        let at = keep_others(&mut self.list, n, nonce);
-        let ok = at < MOST_NONCES;
-        if ok {
-            self.list[at] = nonce;
-            self.used = at + 1;
-        }
-        Issued { nonces: self, ok }
+        let others = keep_others(&mut self.list, n, nonce);
+        let at = make_room(&mut self.list, others);
+        self.list[at] = nonce;
+        self.used = at + 1;
+        self
     }
 
     // The nonce is found where it is outstanding, and is so no longer: fewer are left, so that the next one, where the handshake goes on, has its room.

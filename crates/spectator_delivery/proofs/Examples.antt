@@ -7,12 +7,13 @@ use Prim.Native.Nat.{ℕ, zero, suc, _+_, _<_}
 use native.Mathlib.Omega.{arith}
 use lib.ListN.{length, take}
 use Rattle.base.specs.Keyed.{kept, has, without}
+use Rattle.base.specs.Last.{lastOf}
 use Rattle.frame.specs.Bias.{nullFrame}
 use Rattle.packing.specs.Packing.{xors, framesOf, unpack, pack, decodableLength, decodable}
 use Rattle.packing.specs.Pad.{zeros, padded}
 use Rattle.pending.specs.Pending.{dropTo, lastTo, room, firstFrame, lastFrame, payload}
 use Rattle.history.specs.History.{blankFrame, highest, newestOf, foundIn, referenceFrame, atLine, above, numbered, packetOf, takenIn}
-use Rattle.nonces.specs.Nonces.{issued, fits}
+use Rattle.nonces.specs.Nonces.{issued}
 use Rattle.status.specs.Status.{defaultStatus, reported, merged}
 use Rattle.status.specs.Statuses.{mergedAll, defaultStatuses}
 use Rattle.status.specs.declared.ConnectionStatus.{ConnectionStatus}
@@ -51,7 +52,7 @@ use Rattle.spectator_rules.specs.declared.SessionState.the-variants as SessionS
 use Rattle.spectator_rules.specs.Setup.{hostSetup}
 use Rattle.spectator_rules.specs.Watch.{Watch, madeWatch, withHost, withState}
 use Rattle.spectator_rules.specs.Inputs.{blankInput, freshInputs, inputStored, playerInputAt}
-use Rattle.spectator_rules.specs.Handling.{lastOf, eventAdded, announce, inputHandled, handled, handledAll}
+use Rattle.spectator_rules.specs.Handling.{eventAdded, announce, inputHandled, handled, handledAll}
 use Rattle.spectator_rules.specs.Advance.{framesToAdvance, framesBy, framesRefusalBy, syncedAt, frameInputsBy, requestsBy, requestsOf, advanceRefusal}
 use Rattle.spectator_rules.specs.Call.{Call}
 use Rattle.spectator_rules.specs.Step.{fresh, decided, byHost, hostActs, hostTakes, pollRefusal, polled, pollStep, advanceStep, step}
@@ -72,11 +73,11 @@ abbrev sender0 : End
 sender0 = starts (hostFresh sender 1000 .1)
 
 sender-half : nexts (first-half 7) sender0 ≡ halfway sender 9
-unfolding kept has without xors framesOf unpack pack decodableLength decodable zeros padded dropTo lastTo room firstFrame lastFrame payload blankFrame highest newestOf foundIn atLine above numbered packetOf takenIn issued fits defaultStatus reported merged mergedAll defaultStatuses hasRoom inputOf inputEntry announced inserted sorted termsWith made hostRefused tested queueWire queueSize reportOf pendingInput done bufferFull isFull nonceIssued request started synchronized counted running replied onSyncReply badFrame pendingQueued accepted announcesMost inputSent hostFresh synchronizeStep ignored resumed heard onBody reacted messageStep sendStep hostStep
+unfolding kept has without xors framesOf unpack pack decodableLength decodable zeros padded dropTo lastTo room firstFrame lastFrame payload blankFrame highest newestOf foundIn atLine above numbered packetOf takenIn issued lastOf defaultStatus reported merged mergedAll defaultStatuses hasRoom inputOf inputEntry announced inserted sorted termsWith made hostRefused tested queueWire queueSize reportOf pendingInput done bufferFull isFull nonceIssued request started synchronized counted running replied onSyncReply badFrame pendingQueued accepted announcesMost inputSent hostFresh synchronizeStep ignored resumed heard onBody reacted messageStep sendStep hostStep
 sender-half = refl
 
 sender-rest : nexts (second-half 7) (halfway sender 9) ≡ ready sender 9 7
-unfolding kept has without xors framesOf unpack pack decodableLength decodable zeros padded dropTo lastTo room firstFrame lastFrame payload blankFrame highest newestOf foundIn atLine above numbered packetOf takenIn issued fits defaultStatus reported merged mergedAll defaultStatuses hasRoom inputOf inputEntry announced inserted sorted termsWith made hostRefused tested queueWire queueSize reportOf pendingInput done bufferFull isFull nonceIssued request started synchronized counted running replied onSyncReply badFrame pendingQueued accepted announcesMost inputSent hostFresh synchronizeStep ignored resumed heard onBody reacted messageStep sendStep hostStep
+unfolding kept has without xors framesOf unpack pack decodableLength decodable zeros padded dropTo lastTo room firstFrame lastFrame payload blankFrame highest newestOf foundIn atLine above numbered packetOf takenIn issued lastOf defaultStatus reported merged mergedAll defaultStatuses hasRoom inputOf inputEntry announced inserted sorted termsWith made hostRefused tested queueWire queueSize reportOf pendingInput done bufferFull isFull nonceIssued request started synchronized counted running replied onSyncReply badFrame pendingQueued accepted announcesMost inputSent hostFresh synchronizeStep ignored resumed heard onBody reacted messageStep sendStep hostStep
 sender-rest = refl
 
 pub sender-ready : nexts (greeting 7) sender0 ≡ ready sender 9 7
@@ -115,7 +116,7 @@ abbrev pub frame : (number x y : ℕ) → Frame
 frame number x y = record { number = fr number; bytes = x ∷ y ∷ [] }
 
 pub sender-facts : (sender1 .queued ≡ requests 9 (I0 ∷ input (1 ∷ 2 ∷ 3 ∷ 4 ∷ []) ∷ I2 ∷ [])) × (sender1 .accepted ≡ frame 0 1 2 ∷ frame 1 3 4 ∷ frame 2 5 6 ∷ [])
-unfolding kept has without xors framesOf unpack pack decodableLength decodable zeros padded dropTo lastTo room firstFrame lastFrame payload blankFrame highest newestOf foundIn atLine above numbered packetOf takenIn issued fits defaultStatus reported merged mergedAll defaultStatuses hasRoom inputOf inputEntry announced inserted sorted termsWith made hostRefused tested queueWire queueSize reportOf pendingInput done bufferFull isFull nonceIssued request started synchronized counted running replied onSyncReply badFrame pendingQueued accepted announcesMost inputSent hostFresh synchronizeStep ignored resumed heard onBody reacted messageStep sendStep hostStep
+unfolding kept has without xors framesOf unpack pack decodableLength decodable zeros padded dropTo lastTo room firstFrame lastFrame payload blankFrame highest newestOf foundIn atLine above numbered packetOf takenIn issued lastOf defaultStatus reported merged mergedAll defaultStatuses hasRoom inputOf inputEntry announced inserted sorted termsWith made hostRefused tested queueWire queueSize reportOf pendingInput done bufferFull isFull nonceIssued request started synchronized counted running replied onSyncReply badFrame pendingQueued accepted announcesMost inputSent hostFresh synchronizeStep ignored resumed heard onBody reacted messageStep sendStep hostStep
 sender-facts = (refl, refl)
 
 -- ---- the box: four slots; more than two frames behind it goes on by two
@@ -140,15 +141,15 @@ box-halfway =
     w)) (halfway sender 7 .queued) []
 
 box-half : nextBoxes (Call.synchronize 1000 71000 1 65536 ∷ reply 1 2 ∷ reply 2 3 ∷ []) (opens setup 1000) ≡ box-halfway
-unfolding kept has without xors framesOf unpack decodableLength decodable zeros padded dropTo lastTo blankFrame highest newestOf foundIn atLine above numbered packetOf takenIn issued fits defaultStatus reported merged mergedAll defaultStatuses hasRoom inputOf inputEntry announced inserted sorted termsWith made hostRefused tested queueWire queueSize done bufferFull isFull nonceIssued request started synchronized counted running replied onSyncReply droppedTo acknowledged pendingQueued referenceFrame taken receivedIf receive announcedEach discarded packetOverflows statusesMerged informed inputsReceived inputTaken inputUnless onInput resent reportSent keptAlive interrupted timedOut acted advantageOf advantageOverflows localAdvantage advantageUpdated synchronizeStep ignored resumed heard onBody reacted messageStep actStep advantageStep takeStep hostStep hostSetup madeWatch blankInput freshInputs inputStored playerInputAt lastOf eventAdded announce inputHandled handled handledAll framesToAdvance framesBy framesRefusalBy syncedAt frameInputsBy requestsBy requestsOf advanceRefusal fresh decided byHost hostActs hostTakes pollRefusal polled pollStep advanceStep step numberedFrom inputCount
+unfolding kept has without xors framesOf unpack decodableLength decodable zeros padded dropTo lastTo blankFrame highest newestOf foundIn atLine above numbered packetOf takenIn issued lastOf defaultStatus reported merged mergedAll defaultStatuses hasRoom inputOf inputEntry announced inserted sorted termsWith made hostRefused tested queueWire queueSize done bufferFull isFull nonceIssued request started synchronized counted running replied onSyncReply droppedTo acknowledged pendingQueued referenceFrame taken receivedIf receive announcedEach discarded packetOverflows statusesMerged informed inputsReceived inputTaken inputUnless onInput resent reportSent keptAlive interrupted timedOut acted advantageOf advantageOverflows localAdvantage advantageUpdated synchronizeStep ignored resumed heard onBody reacted messageStep actStep advantageStep takeStep hostStep hostSetup madeWatch blankInput freshInputs inputStored playerInputAt eventAdded announce inputHandled handled handledAll framesToAdvance framesBy framesRefusalBy syncedAt frameInputsBy requestsBy requestsOf advanceRefusal fresh decided byHost hostActs hostTakes pollRefusal polled pollStep advanceStep step numberedFrom inputCount
 box-half = refl
 
 box-rest : nextBoxes (reply 3 4 ∷ reply 4 5 ∷ reply 5 6 ∷ []) box-halfway ≡ dark (synced 4 8 2 2) (requests 7 []) []
-unfolding kept has without xors framesOf unpack decodableLength decodable zeros padded dropTo lastTo blankFrame highest newestOf foundIn atLine above numbered packetOf takenIn issued fits defaultStatus reported merged mergedAll defaultStatuses hasRoom inputOf inputEntry announced inserted sorted termsWith made hostRefused tested queueWire queueSize done bufferFull isFull nonceIssued request started synchronized counted running replied onSyncReply droppedTo acknowledged pendingQueued referenceFrame taken receivedIf receive announcedEach discarded packetOverflows statusesMerged informed inputsReceived inputTaken inputUnless onInput resent reportSent keptAlive interrupted timedOut acted advantageOf advantageOverflows localAdvantage advantageUpdated synchronizeStep ignored resumed heard onBody reacted messageStep actStep advantageStep takeStep hostStep hostSetup madeWatch blankInput freshInputs inputStored playerInputAt lastOf eventAdded announce inputHandled handled handledAll framesToAdvance framesBy framesRefusalBy syncedAt frameInputsBy requestsBy requestsOf advanceRefusal fresh decided byHost hostActs hostTakes pollRefusal polled pollStep advanceStep step numberedFrom inputCount
+unfolding kept has without xors framesOf unpack decodableLength decodable zeros padded dropTo lastTo blankFrame highest newestOf foundIn atLine above numbered packetOf takenIn issued lastOf defaultStatus reported merged mergedAll defaultStatuses hasRoom inputOf inputEntry announced inserted sorted termsWith made hostRefused tested queueWire queueSize done bufferFull isFull nonceIssued request started synchronized counted running replied onSyncReply droppedTo acknowledged pendingQueued referenceFrame taken receivedIf receive announcedEach discarded packetOverflows statusesMerged informed inputsReceived inputTaken inputUnless onInput resent reportSent keptAlive interrupted timedOut acted advantageOf advantageOverflows localAdvantage advantageUpdated synchronizeStep ignored resumed heard onBody reacted messageStep actStep advantageStep takeStep hostStep hostSetup madeWatch blankInput freshInputs inputStored playerInputAt eventAdded announce inputHandled handled handledAll framesToAdvance framesBy framesRefusalBy syncedAt frameInputsBy requestsBy requestsOf advanceRefusal fresh decided byHost hostActs hostTakes pollRefusal polled pollStep advanceStep step numberedFrom inputCount
 box-rest = refl
 
 box-running : nextBoxes (poll ∷ Call.takeEvents ∷ []) (dark (synced 4 8 2 2) (requests 7 []) []) ≡ dark (readyWatch 4 8 2 2) (requests 7 []) synchronizing
-unfolding kept has without xors framesOf unpack decodableLength decodable zeros padded dropTo lastTo blankFrame highest newestOf foundIn atLine above numbered packetOf takenIn issued fits defaultStatus reported merged mergedAll defaultStatuses hasRoom inputOf inputEntry announced inserted sorted termsWith made hostRefused tested queueWire queueSize done bufferFull isFull nonceIssued request started synchronized counted running replied onSyncReply droppedTo acknowledged pendingQueued referenceFrame taken receivedIf receive announcedEach discarded packetOverflows statusesMerged informed inputsReceived inputTaken inputUnless onInput resent reportSent keptAlive interrupted timedOut acted advantageOf advantageOverflows localAdvantage advantageUpdated synchronizeStep ignored resumed heard onBody reacted messageStep actStep advantageStep takeStep hostSetup madeWatch blankInput freshInputs inputStored playerInputAt lastOf eventAdded announce inputHandled handled handledAll framesToAdvance framesBy framesRefusalBy syncedAt frameInputsBy requestsBy requestsOf advanceRefusal fresh decided byHost hostActs hostTakes pollRefusal polled pollStep advanceStep step numberedFrom inputCount
+unfolding kept has without xors framesOf unpack decodableLength decodable zeros padded dropTo lastTo blankFrame highest newestOf foundIn atLine above numbered packetOf takenIn issued lastOf defaultStatus reported merged mergedAll defaultStatuses hasRoom inputOf inputEntry announced inserted sorted termsWith made hostRefused tested queueWire queueSize done bufferFull isFull nonceIssued request started synchronized counted running replied onSyncReply droppedTo acknowledged pendingQueued referenceFrame taken receivedIf receive announcedEach discarded packetOverflows statusesMerged informed inputsReceived inputTaken inputUnless onInput resent reportSent keptAlive interrupted timedOut acted advantageOf advantageOverflows localAdvantage advantageUpdated synchronizeStep ignored resumed heard onBody reacted messageStep actStep advantageStep takeStep hostSetup madeWatch blankInput freshInputs inputStored playerInputAt eventAdded announce inputHandled handled handledAll framesToAdvance framesBy framesRefusalBy syncedAt frameInputsBy requestsBy requestsOf advanceRefusal fresh decided byHost hostActs hostTakes pollRefusal polled pollStep advanceStep step numberedFrom inputCount
 box-running = refl
 
 abbrev pub lit : Box
@@ -187,7 +188,7 @@ pub box-facts : (box1 .shown ≡ shown 0 (confirmed 1) (confirmed 2) ∷ shown 1
     × (box1 .watch .current ≡ fr 2)
     × (box1 .watch .host .setup .inputSize ≡ 1)
     × (box1 .watch .host .setup .handles ≡ 0 ∷ 1 ∷ [])
-unfolding kept has without xors framesOf unpack decodableLength decodable zeros padded dropTo lastTo blankFrame highest newestOf foundIn atLine above numbered packetOf takenIn issued fits defaultStatus reported merged mergedAll defaultStatuses hasRoom inputOf inputEntry announced inserted sorted termsWith made hostRefused tested queueWire queueSize done bufferFull isFull nonceIssued request started synchronized counted running replied onSyncReply droppedTo acknowledged pendingQueued referenceFrame taken receivedIf receive announcedEach discarded packetOverflows statusesMerged informed inputsReceived inputTaken inputUnless onInput resent reportSent keptAlive interrupted timedOut acted advantageOf advantageOverflows localAdvantage advantageUpdated synchronizeStep ignored resumed heard onBody reacted messageStep actStep advantageStep takeStep hostStep hostSetup madeWatch blankInput freshInputs inputStored playerInputAt lastOf eventAdded announce inputHandled handled handledAll framesToAdvance framesBy framesRefusalBy syncedAt frameInputsBy requestsBy requestsOf advanceRefusal fresh decided byHost hostActs hostTakes pollRefusal polled pollStep advanceStep step numberedFrom inputCount
+unfolding kept has without xors framesOf unpack decodableLength decodable zeros padded dropTo lastTo blankFrame highest newestOf foundIn atLine above numbered packetOf takenIn issued lastOf defaultStatus reported merged mergedAll defaultStatuses hasRoom inputOf inputEntry announced inserted sorted termsWith made hostRefused tested queueWire queueSize done bufferFull isFull nonceIssued request started synchronized counted running replied onSyncReply droppedTo acknowledged pendingQueued referenceFrame taken receivedIf receive announcedEach discarded packetOverflows statusesMerged informed inputsReceived inputTaken inputUnless onInput resent reportSent keptAlive interrupted timedOut acted advantageOf advantageOverflows localAdvantage advantageUpdated synchronizeStep ignored resumed heard onBody reacted messageStep actStep advantageStep takeStep hostStep hostSetup madeWatch blankInput freshInputs inputStored playerInputAt eventAdded announce inputHandled handled handledAll framesToAdvance framesBy framesRefusalBy syncedAt frameInputsBy requestsBy requestsOf advanceRefusal fresh decided byHost hostActs hostTakes pollRefusal polled pollStep advanceStep step numberedFrom inputCount
 box-facts = (refl, refl, refl, refl, refl, refl)
 
 -- ---- so they are a run

@@ -6,13 +6,14 @@ use Prim.Native.Nat.{ℕ, _+_, _^_, zero, suc, _<_}
 use native.Mathlib.Omega.{arith}
 use lib.ListN.{getD, replicate}
 use Rattle.base.specs.Keyed.{kept, has, without}
+use Rattle.base.specs.Last.{lastOf}
 use Rattle.base.specs.Little.{Bytes}
 use Rattle.frame.specs.Bias.{nullFrame}
 use Rattle.packing.specs.Packing.{xors, framesOf, unpack, decodableLength, decodable}
 use Rattle.packing.specs.Pad.{zeros, padded}
 use Rattle.pending.specs.Pending.{dropTo, lastTo}
 use Rattle.history.specs.History.{blankFrame, highest, newestOf, foundIn, referenceFrame, atLine, above, numbered, packetOf, takenIn}
-use Rattle.nonces.specs.Nonces.{issued, fits}
+use Rattle.nonces.specs.Nonces.{issued}
 use Rattle.status.specs.Status.{defaultStatus, reported, merged}
 use Rattle.status.specs.Statuses.{mergedAll, defaultStatuses}
 use Rattle.codec.specs.declared.StatusReport.{StatusReport}
@@ -41,7 +42,7 @@ use Rattle.spectator_rules.specs.declared.SessionSetup.{SessionSetup}
 use Rattle.spectator_rules.specs.Setup.{hostSetup, badLimits, badSession}
 use Rattle.spectator_rules.specs.Watch.{Watch, madeWatch}
 use Rattle.spectator_rules.specs.Inputs.{blankInput, freshInputs, inputStored, playerInputAt}
-use Rattle.spectator_rules.specs.Handling.{lastOf, eventAdded, announce, inputHandled, handled, handledAll}
+use Rattle.spectator_rules.specs.Handling.{eventAdded, announce, inputHandled, handled, handledAll}
 use Rattle.spectator_rules.specs.Advance.{framesToAdvance, framesBy, framesRefusal, framesRefusalBy, syncedAt, frameInputsBy, requestsBy, requestsOf, advanceRefusal, heldAt, frameRefusal}
 use Rattle.spectator_rules.specs.Call.{Call}
 use Rattle.spectator_rules.specs.Step.{fresh, decided, byHost, hostActs, hostTakes, pollRefusal, polled, pollStep, advanceStep, step}
@@ -210,7 +211,7 @@ abbrev events : List Entry
 events = greetings ++ playerInput 0 0 (byte 1) ∷ playerInput 0 1 (byte 2) ∷ playerInput 1 0 (byte 3) ∷ playerInput 1 1 (byte 4) ∷ playerInput 2 0 (byte 5) ∷ playerInput 2 1 (byte 6) ∷ []
 
 handled-are : allHandled calls (new 4 8 2 2) ≡ events
-unfolding kept has without xors framesOf unpack decodableLength decodable zeros padded dropTo lastTo blankFrame highest newestOf foundIn atLine above numbered packetOf takenIn issued fits defaultStatus reported merged mergedAll defaultStatuses hasRoom inputOf inputEntry announced inserted sorted termsWith made hostRefused tested queueWire queueSize done bufferFull isFull nonceIssued request started synchronized counted running replied onSyncReply droppedTo acknowledged pendingQueued referenceFrame taken receivedIf receive announcedEach discarded packetOverflows statusesMerged informed inputsReceived inputTaken inputUnless onInput resent reportSent keptAlive interrupted timedOut acted advantageOf advantageOverflows localAdvantage advantageUpdated synchronizeStep ignored resumed heard onBody reacted messageStep actStep advantageStep takeStep hostSetup madeWatch freshInputs lastOf eventAdded announce inputHandled handled handledAll fresh decided byHost hostActs hostTakes pollRefusal polled pollStep step ran allHandled
+unfolding kept has without xors framesOf unpack decodableLength decodable zeros padded dropTo lastTo blankFrame highest newestOf foundIn atLine above numbered packetOf takenIn issued lastOf defaultStatus reported merged mergedAll defaultStatuses hasRoom inputOf inputEntry announced inserted sorted termsWith made hostRefused tested queueWire queueSize done bufferFull isFull nonceIssued request started synchronized counted running replied onSyncReply droppedTo acknowledged pendingQueued referenceFrame taken receivedIf receive announcedEach discarded packetOverflows statusesMerged informed inputsReceived inputTaken inputUnless onInput resent reportSent keptAlive interrupted timedOut acted advantageOf advantageOverflows localAdvantage advantageUpdated synchronizeStep ignored resumed heard onBody reacted messageStep actStep advantageStep takeStep hostSetup madeWatch freshInputs eventAdded announce inputHandled handled handledAll fresh decided byHost hostActs hostTakes pollRefusal polled pollStep step ran allHandled
 handled-are = refl
 
 -- ---- and what the laws say there

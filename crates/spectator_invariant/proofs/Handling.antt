@@ -1,10 +1,11 @@
 -- Handling the host's events one after the other keeps what holds: each is announced on, or an Input that is not below the newest frame.
 use mathlib.Core.List.{List, [], _∷_, _++_}
 use mathlib.Core.Path.{_≡_, refl, _∙_}
-use Prim.Native.Nat.{ℕ, suc, _+_, _-_, _*_, _^_, _≤_, _<_, min}
+use Prim.Native.Nat.{ℕ, suc, _+_, _*_, _^_, _≤_, _<_, min}
 use native.Mathlib.Omega.{arith}
 use lib.Dec.{eqb}
-use lib.ListN.{length, getD, length-set, length-drop}
+use lib.ListN.{length, getD, length-set}
+use Rattle.base.proofs.Last.{last-few}
 use Rattle.base.specs.Pick.{pick}
 use Rattle.history.specs.History.{newestOf}
 use Rattle.events.specs.declared.Entry.{Entry}
@@ -28,7 +29,7 @@ use Rattle.spectator_rules.specs.declared.SessionEvent.the-variants as SessionE
 use Rattle.spectator_rules.specs.declared.SessionState.the-variants.{Running}
 use Rattle.spectator_rules.specs.Inputs.{blankInput, slotOf, placeOf, inputStored}
 use Rattle.spectator_rules.specs.Watch.{Watch, withState, withEvents}
-use Rattle.spectator_rules.specs.Handling.{lastOf, eventAdded, announce, inputHandled, handled, handledAll}
+use Rattle.spectator_rules.specs.Handling.{eventAdded, announce, inputHandled, handled, handledAll}
 use Rattle.spectator_invariant.specs.Seated.{Rising, SeatedInput, SeatedOwn, frameAt}
 use Rattle.spectator_invariant.proofs.Slots.{each-set, each-get, Others, stored-due, stored-whole, stored-stock}
 use Rattle.spectator_invariant.proofs.Rising.{next-least, rising-most}
@@ -54,10 +55,6 @@ pub record Midway (t : Terms) (top : ℕ) (rest : List Entry) (w : Watch) : Type
   pub coming : Rising (t .players) (w .newest) due top rest
 
 -- ---- announcing
-
-last-few : {X : Type 0} (n : ℕ) (l : List X) → length (lastOf n l) ≤ n
-unfolding lastOf
-last-few n l = omega (arith, length-drop (length l - n) l)
 
 announced-few : (most : ℕ) (x : SessionEntry) (l : List SessionEntry) → length (eventAdded most x l) ≤ most
 unfolding eventAdded

@@ -18,6 +18,7 @@ use Rattle.timers.specs.Timers.{badClock}
 use Rattle.numbers.specs.Range.{outside}
 use Rattle.setup.specs.Setup.{badSetup, inserted, sorted, termsWith, Between}
 use Rattle.setup.proofs.Tests.{none-holds}
+use Rattle.endpoint_rules.specs.declared.Phase.the-variants.{Synchronizing}
 use Rattle.endpoint_rules.specs.Seen.{Seen, made, withEvents}
 use Rattle.endpoint_rules.specs.Did.{Did as HostDid, refused as hostRefused}
 use Rattle.endpoint_rules.specs.Call as Host
@@ -43,6 +44,7 @@ use Rattle.spectator_rules.specs.Handling.{handledAll}
 use Rattle.spectator_rules.specs.Advance.{behind, behindOverflows, framesToAdvance, advanceRefusal, advanced}
 use Rattle.spectator_rules.specs.Call.{Call}
 use Rattle.spectator_rules.specs.Step.{Did, fresh, refused, changed, decided, byHost, hostActs, hostTakes, polled, pollStep, advanceStep, framesBehindStep, step}
+use Rattle.spectator_rules.proofs.PollHandshake.{PollRequests, poll-requests}
 use Rattle.spectator_invariant.specs.Typed.{Typed, TypedSession}
 use Rattle.spectator_invariant.specs.Seated.{Rising, SeatedLimits, SeatedInput, SeatedOwn, Seated, ran}
 use Rattle.spectator_invariant.proofs.Rising.{next-least, Upto, rising-append}
@@ -305,3 +307,9 @@ unfolding Rising
 handled-ascends w h now epoch nonce buffer t l rest frame player input e =
     let m = all-midway (w .host .setup) (top w h now epoch nonce buffer t) l (record { event = Event.Input frame player; input = input } ∷ rest) (begins w h now epoch nonce buffer t) (rw (sym e) (begins-midway w h now epoch nonce buffer t)) in
     next-least _ (m .due) frame (m .coming .0 .0)
+
+-- a poll sends the request that is due, whatever is outstanding and however many events wait
+pub seated-poll-requests : (w : Watch) → Seated w → (now epoch nonce buffer : ℕ) → now < 2 ^ 62 → epoch < 2 ^ 62 → w .host .phase ≡ Synchronizing
+    → w .host .clocks .«last_sync_request_time» + 200 < now → w .host .queued + 10 ≤ buffer → PollRequests nonce now w (step (Call.pollRemoteClients now epoch nonce buffer) w)
+unfolding step
+seated-poll-requests w h now epoch nonce buffer tn te phase due room = poll-requests now epoch nonce buffer w tn te (h .own .players) phase due room

@@ -5,17 +5,19 @@ use mathlib.Core.Path.{_≡_, refl, ap, _∙_}
 use Prim.Native.Nat.{ℕ, _+_, _-_, _^_}
 use lib.ListN.{length, replicate}
 use Rattle.base.specs.Keyed.{kept, has, without}
+use Rattle.base.specs.Last.{lastOf}
 use Rattle.frame.specs.Bias.{bias32, nullFrame}
 use Rattle.packing.specs.Packing.{xors, framesOf, unpack, pack, decodableLength, decodable}
 use Rattle.packing.specs.Pad.{zeros, padded}
 use Rattle.pending.specs.Pending.{dropTo, lastTo, room}
 use Rattle.history.specs.History.{blankFrame, highest, newestOf, foundIn, referenceFrame, atLine, above, numbered, packetOf, takenIn}
-use Rattle.nonces.specs.Nonces.{issued, fits}
+use Rattle.nonces.specs.Nonces.{issued, following}
 use Rattle.status.specs.Status.{defaultStatus, reported, merged}
 use Rattle.status.specs.Statuses.{mergedAll, defaultStatuses}
 use Rattle.codec.specs.Message.{Wire}
 use Rattle.codec.specs.declared.StatusReport.{StatusReport}
-use Rattle.codec.specs.declared.MessageBody.the-variants.{SyncReply, Input, QualityReply}
+use Rattle.codec.specs.Read.{bodyOnly}
+use Rattle.codec.specs.declared.MessageBody.the-variants.{SyncRequest, SyncReply, Input, QualityReply}
 use Rattle.events.specs.declared.Event.{Event}
 use Rattle.events.specs.declared.Event.the-variants as Event
 use Rattle.events.specs.Events.{hasRoom, inputOf, withoutInput, inputEntry, announced, announcedEach}
@@ -48,7 +50,7 @@ use Rattle.spectator_rules.specs.declared.SyncedInput.{SyncedInput}
 use Rattle.spectator_rules.specs.Setup.{hostSetup, badLimits, badSession}
 use Rattle.spectator_rules.specs.Watch.{Watch, madeWatch, withHost, withState, withCurrent, withNewest}
 use Rattle.spectator_rules.specs.Inputs.{blankInput, freshInputs, inputStored, playerInputAt}
-use Rattle.spectator_rules.specs.Handling.{lastOf, eventAdded, announce, inputHandled, handled, handledAll}
+use Rattle.spectator_rules.specs.Handling.{eventAdded, announce, inputHandled, handled, handledAll}
 use Rattle.spectator_rules.specs.Advance.{framesToAdvance, framesBy, framesRefusalBy, syncedAt, frameInputsBy, requestsBy, requestsOf, advanceRefusal}
 use Rattle.spectator_rules.specs.Call.{Call}
 use Rattle.spectator_rules.specs.Step.{fresh, refused, decided, byHost, hostActs, hostTakes, pollRefusal, polled, pollStep, advanceStep, framesBehindStep, step}
@@ -178,7 +180,7 @@ setups :
     × (new 2 1 0 0 .host .setup .handles ≡ 0 ∷ 1 ∷ [])
     × (new 2 1 0 0 .current ≡ nullFrame)
     × (new 2 1 0 0 .newest ≡ nullFrame)
-unfolding kept has without xors framesOf unpack pack decodableLength decodable zeros padded dropTo lastTo room blankFrame highest newestOf foundIn atLine above numbered packetOf takenIn issued fits defaultStatus reported merged mergedAll defaultStatuses hasRoom inputOf inputEntry announced badSetup anyAbove anyTwice inserted sorted termsWith made hostRefused tested queueWire queueSize done bufferFull isFull nonceIssued request started synchronized counted running replied onSyncReply droppedTo acknowledged pendingQueued referenceFrame taken receivedIf receive announcedEach discarded packetOverflows statusesMerged informed inputsReceived inputTaken inputUnless onInput resent reportSent keptAlive interrupted timedOut acted clamped reportQueued roundTrip roundTripNoted onQualityReply advantageOf advantageOverflows localAdvantage advantageUpdated synchronizeStep ignored resumed heard onBody reacted messageStep actStep advantageStep takeStep statsOf filledPart hostSetup badLimits badSession madeWatch blankInput freshInputs inputStored playerInputAt lastOf eventAdded announce inputHandled handled handledAll framesToAdvance framesBy framesRefusalBy syncedAt frameInputsBy requestsBy requestsOf advanceRefusal fresh refused decided byHost hostActs hostTakes pollRefusal polled pollStep advanceStep framesBehindStep step valueOf
+unfolding kept has without xors framesOf unpack pack decodableLength decodable zeros padded dropTo lastTo room blankFrame highest newestOf foundIn atLine above numbered packetOf takenIn issued lastOf defaultStatus reported merged mergedAll defaultStatuses hasRoom inputOf inputEntry announced badSetup anyAbove anyTwice inserted sorted termsWith made hostRefused tested queueWire queueSize done bufferFull isFull nonceIssued request started synchronized counted running replied onSyncReply droppedTo acknowledged pendingQueued referenceFrame taken receivedIf receive announcedEach discarded packetOverflows statusesMerged informed inputsReceived inputTaken inputUnless onInput resent reportSent keptAlive interrupted timedOut acted clamped reportQueued roundTrip roundTripNoted onQualityReply advantageOf advantageOverflows localAdvantage advantageUpdated synchronizeStep ignored resumed heard onBody reacted messageStep actStep advantageStep takeStep statsOf filledPart hostSetup badLimits badSession madeWatch blankInput freshInputs inputStored playerInputAt eventAdded announce inputHandled handled handledAll framesToAdvance framesBy framesRefusalBy syncedAt frameInputsBy requestsBy requestsOf advanceRefusal fresh refused decided byHost hostActs hostTakes pollRefusal polled pollStep advanceStep framesBehindStep step valueOf
 setups = (refl, refl, refl, refl, refl, refl, refl, refl, refl, refl, refl, refl)
 
 -- ---- handshake
@@ -195,11 +197,11 @@ halfway slots events behind speed =
     w)
 
 half : (slots events behind speed : ℕ) → after (Call.synchronize 1000 (epochAt 1000) 1 65536 ∷ reply 1 2 ∷ reply 2 3 ∷ []) (new slots events behind speed) ≡ halfway slots events behind speed
-unfolding kept has without xors framesOf unpack pack decodableLength decodable zeros padded dropTo lastTo room blankFrame highest newestOf foundIn atLine above numbered packetOf takenIn issued fits defaultStatus reported merged mergedAll defaultStatuses hasRoom inputOf inputEntry announced badSetup anyAbove anyTwice inserted sorted termsWith made hostRefused tested queueWire queueSize done bufferFull isFull nonceIssued request started synchronized counted running replied onSyncReply droppedTo acknowledged pendingQueued referenceFrame taken receivedIf receive announcedEach discarded packetOverflows statusesMerged informed inputsReceived inputTaken inputUnless onInput resent reportSent keptAlive interrupted timedOut acted clamped reportQueued roundTrip roundTripNoted onQualityReply advantageOf advantageOverflows localAdvantage advantageUpdated synchronizeStep ignored resumed heard onBody reacted messageStep actStep advantageStep takeStep statsOf filledPart hostSetup badLimits badSession madeWatch blankInput freshInputs inputStored playerInputAt lastOf eventAdded announce inputHandled handled handledAll framesToAdvance framesBy framesRefusalBy syncedAt frameInputsBy requestsBy requestsOf advanceRefusal fresh refused decided byHost hostActs hostTakes pollRefusal polled pollStep advanceStep framesBehindStep step valueOf
+unfolding kept has without xors framesOf unpack pack decodableLength decodable zeros padded dropTo lastTo room blankFrame highest newestOf foundIn atLine above numbered packetOf takenIn issued lastOf defaultStatus reported merged mergedAll defaultStatuses hasRoom inputOf inputEntry announced badSetup anyAbove anyTwice inserted sorted termsWith made hostRefused tested queueWire queueSize done bufferFull isFull nonceIssued request started synchronized counted running replied onSyncReply droppedTo acknowledged pendingQueued referenceFrame taken receivedIf receive announcedEach discarded packetOverflows statusesMerged informed inputsReceived inputTaken inputUnless onInput resent reportSent keptAlive interrupted timedOut acted clamped reportQueued roundTrip roundTripNoted onQualityReply advantageOf advantageOverflows localAdvantage advantageUpdated synchronizeStep ignored resumed heard onBody reacted messageStep actStep advantageStep takeStep statsOf filledPart hostSetup badLimits badSession madeWatch blankInput freshInputs inputStored playerInputAt eventAdded announce inputHandled handled handledAll framesToAdvance framesBy framesRefusalBy syncedAt frameInputsBy requestsBy requestsOf advanceRefusal fresh refused decided byHost hostActs hostTakes pollRefusal polled pollStep advanceStep framesBehindStep step valueOf
 half slots events behind speed = refl
 
 rest : (slots events behind speed : ℕ) → after (reply 3 4 ∷ reply 4 5 ∷ reply 5 6 ∷ []) (halfway slots events behind speed) ≡ synced slots events behind speed
-unfolding kept has without xors framesOf unpack pack decodableLength decodable zeros padded dropTo lastTo room blankFrame highest newestOf foundIn atLine above numbered packetOf takenIn issued fits defaultStatus reported merged mergedAll defaultStatuses hasRoom inputOf inputEntry announced badSetup anyAbove anyTwice inserted sorted termsWith made hostRefused tested queueWire queueSize done bufferFull isFull nonceIssued request started synchronized counted running replied onSyncReply droppedTo acknowledged pendingQueued referenceFrame taken receivedIf receive announcedEach discarded packetOverflows statusesMerged informed inputsReceived inputTaken inputUnless onInput resent reportSent keptAlive interrupted timedOut acted clamped reportQueued roundTrip roundTripNoted onQualityReply advantageOf advantageOverflows localAdvantage advantageUpdated synchronizeStep ignored resumed heard onBody reacted messageStep actStep advantageStep takeStep statsOf filledPart hostSetup badLimits badSession madeWatch blankInput freshInputs inputStored playerInputAt lastOf eventAdded announce inputHandled handled handledAll framesToAdvance framesBy framesRefusalBy syncedAt frameInputsBy requestsBy requestsOf advanceRefusal fresh refused decided byHost hostActs hostTakes pollRefusal polled pollStep advanceStep framesBehindStep step valueOf
+unfolding kept has without xors framesOf unpack pack decodableLength decodable zeros padded dropTo lastTo room blankFrame highest newestOf foundIn atLine above numbered packetOf takenIn issued lastOf defaultStatus reported merged mergedAll defaultStatuses hasRoom inputOf inputEntry announced badSetup anyAbove anyTwice inserted sorted termsWith made hostRefused tested queueWire queueSize done bufferFull isFull nonceIssued request started synchronized counted running replied onSyncReply droppedTo acknowledged pendingQueued referenceFrame taken receivedIf receive announcedEach discarded packetOverflows statusesMerged informed inputsReceived inputTaken inputUnless onInput resent reportSent keptAlive interrupted timedOut acted clamped reportQueued roundTrip roundTripNoted onQualityReply advantageOf advantageOverflows localAdvantage advantageUpdated synchronizeStep ignored resumed heard onBody reacted messageStep actStep advantageStep takeStep statsOf filledPart hostSetup badLimits badSession madeWatch blankInput freshInputs inputStored playerInputAt eventAdded announce inputHandled handled handledAll framesToAdvance framesBy framesRefusalBy syncedAt frameInputsBy requestsBy requestsOf advanceRefusal fresh refused decided byHost hostActs hostTakes pollRefusal polled pollStep advanceStep framesBehindStep step valueOf
 rest slots events behind speed = refl
 
 pub shaken : (slots events behind speed : ℕ) → after handshake (new slots events behind speed) ≡ synced slots events behind speed
@@ -226,8 +228,34 @@ handshakes :
     ≡ record { answer = 0; after = after (Call.synchronize 1000 (epochAt 1000) 1 65536 ∷ []) (new 4 8 2 1); out = [] })
     × (step (Call.synchronize 1000 (epochAt 1000) 1 65536) (ready 4 8 2 1) .answer ≡ 2)
     × (step (Call.synchronize 1000 (epochAt 1000) 1 9) (new 4 8 2 1) ≡ record { answer = 5; after = new 4 8 2 1; out = [] })
-unfolding kept has without xors framesOf unpack pack decodableLength decodable zeros padded dropTo lastTo room blankFrame highest newestOf foundIn atLine above numbered packetOf takenIn issued fits defaultStatus reported merged mergedAll defaultStatuses hasRoom inputOf inputEntry announced badSetup anyAbove anyTwice inserted sorted termsWith made hostRefused tested queueWire queueSize done bufferFull isFull nonceIssued request started synchronized counted running replied onSyncReply droppedTo acknowledged pendingQueued referenceFrame taken receivedIf receive announcedEach discarded packetOverflows statusesMerged informed inputsReceived inputTaken inputUnless onInput resent reportSent keptAlive interrupted timedOut acted clamped reportQueued roundTrip roundTripNoted onQualityReply advantageOf advantageOverflows localAdvantage advantageUpdated synchronizeStep ignored resumed heard onBody reacted messageStep actStep advantageStep takeStep statsOf filledPart hostSetup badLimits badSession madeWatch blankInput freshInputs inputStored playerInputAt lastOf eventAdded announce inputHandled handled handledAll framesToAdvance framesBy framesRefusalBy syncedAt frameInputsBy requestsBy requestsOf advanceRefusal fresh refused decided byHost hostActs hostTakes pollRefusal polled pollStep advanceStep framesBehindStep step valueOf
+unfolding kept has without xors framesOf unpack pack decodableLength decodable zeros padded dropTo lastTo room blankFrame highest newestOf foundIn atLine above numbered packetOf takenIn issued lastOf defaultStatus reported merged mergedAll defaultStatuses hasRoom inputOf inputEntry announced badSetup anyAbove anyTwice inserted sorted termsWith made hostRefused tested queueWire queueSize done bufferFull isFull nonceIssued request started synchronized counted running replied onSyncReply droppedTo acknowledged pendingQueued referenceFrame taken receivedIf receive announcedEach discarded packetOverflows statusesMerged informed inputsReceived inputTaken inputUnless onInput resent reportSent keptAlive interrupted timedOut acted clamped reportQueued roundTrip roundTripNoted onQualityReply advantageOf advantageOverflows localAdvantage advantageUpdated synchronizeStep ignored resumed heard onBody reacted messageStep actStep advantageStep takeStep statsOf filledPart hostSetup badLimits badSession madeWatch blankInput freshInputs inputStored playerInputAt eventAdded announce inputHandled handled handledAll framesToAdvance framesBy framesRefusalBy syncedAt frameInputsBy requestsBy requestsOf advanceRefusal fresh refused decided byHost hostActs hostTakes pollRefusal polled pollStep advanceStep framesBehindStep step valueOf
 handshakes = (refl, shaken 4 8 2 1, refl, refl, refl, refl, refl, refl, refl)
+
+-- ---- a host that answered once and then fell silent
+
+-- 1 to 256 are outstanding, the last request went out at 1000, and the event of a first reply waits for a poll
+abbrev silent : Watch
+silent =
+    let w : Watch = ready 4 8 2 1 in
+    let s : Seen = withHostEvents (withoutInput (Event.Synchronizing 5 1) ∷ []) (w .host) in
+    withState Synchronizing (withHost (withPhase Phase.Synchronizing (withSync (record { remaining = 4; nonces = following 1 256; remoteMagic = 0 }) s)) w)
+
+abbrev ask : (now buffer : ℕ) → Call
+ask now buffer = Call.pollRemoteClients now (epochAt now) 257 buffer
+
+-- at 1200 the event is handled, and nothing is due; at 1201 the request goes out too, and forgets nonce 1; without room for it all is as it was
+asks-at-ceiling :
+    (step (ask 1200 10) silent .after .host .sync .nonces ≡ following 1 256)
+    × (step (ask 1200 10) silent .out ≡ [])
+    × (step (ask 1200 10) silent .after .events ≡ by3 (SessionEvent.Synchronizing 5 1) ∷ [])
+    × (step (ask 1201 10) silent .answer ≡ 0)
+    × (step (ask 1201 10) silent .out ≡ bodyOnly 7 (SyncRequest 257) ∷ [])
+    × (step (ask 1201 10) silent .after .host .sync .nonces ≡ following 2 256)
+    × (step (ask 1201 10) silent .after .host .events ≡ [])
+    × (step (ask 1201 10) silent .after .events ≡ by3 (SessionEvent.Synchronizing 5 1) ∷ [])
+    × (step (ask 1201 9) silent ≡ record { answer = 5; after = silent; out = [] })
+unfolding kept without issued lastOf hasRoom tested hostRefused queueWire queueSize done bufferFull isFull nonceIssued request acted actStep takeStep eventAdded announce handled handledAll refused decided hostActs hostTakes pollRefusal polled pollStep step
+asks-at-ceiling = (refl, refl, refl, refl, refl, refl, refl, refl, refl)
 
 -- ---- inputs
 
@@ -278,7 +306,7 @@ watches :
     × (valueOf poll unpolled ≡ Value.part 10)
     × (stored .host .queued ≡ 0)
     × (valueOf (pollAt 1201 65536) unpolled ≡ Value.part 34)
-unfolding kept has without xors framesOf unpack pack decodableLength decodable zeros padded dropTo lastTo room blankFrame highest newestOf foundIn atLine above numbered packetOf takenIn issued fits defaultStatus reported merged mergedAll defaultStatuses hasRoom inputOf inputEntry announced badSetup anyAbove anyTwice inserted sorted termsWith made hostRefused tested queueWire queueSize done bufferFull isFull nonceIssued request started synchronized counted running replied onSyncReply droppedTo acknowledged pendingQueued referenceFrame taken receivedIf receive announcedEach discarded packetOverflows statusesMerged informed inputsReceived inputTaken inputUnless onInput resent reportSent keptAlive interrupted timedOut acted clamped reportQueued roundTrip roundTripNoted onQualityReply advantageOf advantageOverflows localAdvantage advantageUpdated synchronizeStep ignored resumed heard onBody reacted messageStep actStep advantageStep takeStep statsOf filledPart hostSetup badLimits badSession madeWatch blankInput freshInputs inputStored playerInputAt lastOf eventAdded announce inputHandled handled handledAll framesToAdvance framesBy framesRefusalBy syncedAt frameInputsBy requestsBy requestsOf advanceRefusal fresh refused decided byHost hostActs hostTakes pollRefusal polled pollStep advanceStep framesBehindStep step valueOf
+unfolding kept has without xors framesOf unpack pack decodableLength decodable zeros padded dropTo lastTo room blankFrame highest newestOf foundIn atLine above numbered packetOf takenIn issued lastOf defaultStatus reported merged mergedAll defaultStatuses hasRoom inputOf inputEntry announced badSetup anyAbove anyTwice inserted sorted termsWith made hostRefused tested queueWire queueSize done bufferFull isFull nonceIssued request started synchronized counted running replied onSyncReply droppedTo acknowledged pendingQueued referenceFrame taken receivedIf receive announcedEach discarded packetOverflows statusesMerged informed inputsReceived inputTaken inputUnless onInput resent reportSent keptAlive interrupted timedOut acted clamped reportQueued roundTrip roundTripNoted onQualityReply advantageOf advantageOverflows localAdvantage advantageUpdated synchronizeStep ignored resumed heard onBody reacted messageStep actStep advantageStep takeStep statsOf filledPart hostSetup badLimits badSession madeWatch blankInput freshInputs inputStored playerInputAt eventAdded announce inputHandled handled handledAll framesToAdvance framesBy framesRefusalBy syncedAt frameInputsBy requestsBy requestsOf advanceRefusal fresh refused decided byHost hostActs hostTakes pollRefusal polled pollStep advanceStep framesBehindStep step valueOf
 watches = (refl, refl, refl, refl, refl, refl, refl, refl, refl, refl, refl, refl, refl, refl, refl, refl, refl, refl, refl)
 
 -- ---- falling behind
@@ -326,7 +354,7 @@ catches-up :
     -- a first frame other than 0: 16 while slot 0 is blank, then 17
     × (step Call.advanceFrame seventh .answer ≡ 16)
     × (step Call.advanceFrame eighth .answer ≡ 17)
-unfolding kept has without xors framesOf unpack pack decodableLength decodable zeros padded dropTo lastTo room blankFrame highest newestOf foundIn atLine above numbered packetOf takenIn issued fits defaultStatus reported merged mergedAll defaultStatuses hasRoom inputOf inputEntry announced badSetup anyAbove anyTwice inserted sorted termsWith made hostRefused tested queueWire queueSize done bufferFull isFull nonceIssued request started synchronized counted running replied onSyncReply droppedTo acknowledged pendingQueued referenceFrame taken receivedIf receive announcedEach discarded packetOverflows statusesMerged informed inputsReceived inputTaken inputUnless onInput resent reportSent keptAlive interrupted timedOut acted clamped reportQueued roundTrip roundTripNoted onQualityReply advantageOf advantageOverflows localAdvantage advantageUpdated synchronizeStep ignored resumed heard onBody reacted messageStep actStep advantageStep takeStep statsOf filledPart hostSetup badLimits badSession madeWatch blankInput freshInputs inputStored playerInputAt lastOf eventAdded announce inputHandled handled handledAll framesToAdvance framesBy framesRefusalBy syncedAt frameInputsBy requestsBy requestsOf advanceRefusal fresh refused decided byHost hostActs hostTakes pollRefusal polled pollStep advanceStep framesBehindStep step valueOf
+unfolding kept has without xors framesOf unpack pack decodableLength decodable zeros padded dropTo lastTo room blankFrame highest newestOf foundIn atLine above numbered packetOf takenIn issued lastOf defaultStatus reported merged mergedAll defaultStatuses hasRoom inputOf inputEntry announced badSetup anyAbove anyTwice inserted sorted termsWith made hostRefused tested queueWire queueSize done bufferFull isFull nonceIssued request started synchronized counted running replied onSyncReply droppedTo acknowledged pendingQueued referenceFrame taken receivedIf receive announcedEach discarded packetOverflows statusesMerged informed inputsReceived inputTaken inputUnless onInput resent reportSent keptAlive interrupted timedOut acted clamped reportQueued roundTrip roundTripNoted onQualityReply advantageOf advantageOverflows localAdvantage advantageUpdated synchronizeStep ignored resumed heard onBody reacted messageStep actStep advantageStep takeStep statsOf filledPart hostSetup badLimits badSession madeWatch blankInput freshInputs inputStored playerInputAt eventAdded announce inputHandled handled handledAll framesToAdvance framesBy framesRefusalBy syncedAt frameInputsBy requestsBy requestsOf advanceRefusal fresh refused decided byHost hostActs hostTakes pollRefusal polled pollStep advanceStep framesBehindStep step valueOf
 catches-up = (refl, refl, refl, refl, refl, refl, refl, refl, refl, refl, refl, refl)
 
 -- ---- overflow
@@ -359,11 +387,11 @@ pacedAs =
     withHost (withQuality (record { «local_frame_advantage» = bias32 + 3; «remote_frame_advantage» = bias32; «round_trip_time» = 100; «stats_start_time» = epochAt 1000 }) h) stored
 
 paced-is : paced ≡ pacedAs
-unfolding kept has without xors framesOf unpack pack decodableLength decodable zeros padded dropTo lastTo room blankFrame highest newestOf foundIn atLine above numbered packetOf takenIn issued fits defaultStatus reported merged mergedAll defaultStatuses hasRoom inputOf inputEntry announced badSetup anyAbove anyTwice inserted sorted termsWith made hostRefused tested queueWire queueSize done bufferFull isFull nonceIssued request started synchronized counted running replied onSyncReply droppedTo acknowledged pendingQueued referenceFrame taken receivedIf receive announcedEach discarded packetOverflows statusesMerged informed inputsReceived inputTaken inputUnless onInput resent reportSent keptAlive interrupted timedOut acted clamped reportQueued roundTrip roundTripNoted onQualityReply advantageOf advantageOverflows localAdvantage advantageUpdated synchronizeStep ignored resumed heard onBody reacted messageStep actStep advantageStep takeStep statsOf filledPart hostSetup badLimits badSession madeWatch blankInput freshInputs inputStored playerInputAt lastOf eventAdded announce inputHandled handled handledAll framesToAdvance framesBy framesRefusalBy syncedAt frameInputsBy requestsBy requestsOf advanceRefusal fresh refused decided byHost hostActs hostTakes pollRefusal polled pollStep advanceStep framesBehindStep step valueOf
+unfolding kept has without xors framesOf unpack pack decodableLength decodable zeros padded dropTo lastTo room blankFrame highest newestOf foundIn atLine above numbered packetOf takenIn issued lastOf defaultStatus reported merged mergedAll defaultStatuses hasRoom inputOf inputEntry announced badSetup anyAbove anyTwice inserted sorted termsWith made hostRefused tested queueWire queueSize done bufferFull isFull nonceIssued request started synchronized counted running replied onSyncReply droppedTo acknowledged pendingQueued referenceFrame taken receivedIf receive announcedEach discarded packetOverflows statusesMerged informed inputsReceived inputTaken inputUnless onInput resent reportSent keptAlive interrupted timedOut acted clamped reportQueued roundTrip roundTripNoted onQualityReply advantageOf advantageOverflows localAdvantage advantageUpdated synchronizeStep ignored resumed heard onBody reacted messageStep actStep advantageStep takeStep statsOf filledPart hostSetup badLimits badSession madeWatch blankInput freshInputs inputStored playerInputAt eventAdded announce inputHandled handled handledAll framesToAdvance framesBy framesRefusalBy syncedAt frameInputsBy requestsBy requestsOf advanceRefusal fresh refused decided byHost hostActs hostTakes pollRefusal polled pollStep advanceStep framesBehindStep step valueOf
 paced-is = refl
 
 slowed-is : (slowed pacedAs .host .quality .«local_frame_advantage» ≡ bias32 + 3) × (slowed pacedAs .newest ≡ fr 2)
-unfolding kept has without xors framesOf unpack pack decodableLength decodable zeros padded dropTo lastTo room blankFrame highest newestOf foundIn atLine above numbered packetOf takenIn issued fits defaultStatus reported merged mergedAll defaultStatuses hasRoom inputOf inputEntry announced badSetup anyAbove anyTwice inserted sorted termsWith made hostRefused tested queueWire queueSize done bufferFull isFull nonceIssued request started synchronized counted running replied onSyncReply droppedTo acknowledged pendingQueued referenceFrame taken receivedIf receive announcedEach discarded packetOverflows statusesMerged informed inputsReceived inputTaken inputUnless onInput resent reportSent keptAlive interrupted timedOut acted clamped reportQueued roundTrip roundTripNoted onQualityReply advantageOf advantageOverflows localAdvantage advantageUpdated synchronizeStep ignored resumed heard onBody reacted messageStep actStep advantageStep takeStep statsOf filledPart hostSetup badLimits badSession madeWatch blankInput freshInputs inputStored playerInputAt lastOf eventAdded announce inputHandled handled handledAll framesToAdvance framesBy framesRefusalBy syncedAt frameInputsBy requestsBy requestsOf advanceRefusal fresh refused decided byHost hostActs hostTakes pollRefusal polled pollStep advanceStep framesBehindStep step valueOf
+unfolding kept has without xors framesOf unpack pack decodableLength decodable zeros padded dropTo lastTo room blankFrame highest newestOf foundIn atLine above numbered packetOf takenIn issued lastOf defaultStatus reported merged mergedAll defaultStatuses hasRoom inputOf inputEntry announced badSetup anyAbove anyTwice inserted sorted termsWith made hostRefused tested queueWire queueSize done bufferFull isFull nonceIssued request started synchronized counted running replied onSyncReply droppedTo acknowledged pendingQueued referenceFrame taken receivedIf receive announcedEach discarded packetOverflows statusesMerged informed inputsReceived inputTaken inputUnless onInput resent reportSent keptAlive interrupted timedOut acted clamped reportQueued roundTrip roundTripNoted onQualityReply advantageOf advantageOverflows localAdvantage advantageUpdated synchronizeStep ignored resumed heard onBody reacted messageStep actStep advantageStep takeStep statsOf filledPart hostSetup badLimits badSession madeWatch blankInput freshInputs inputStored playerInputAt eventAdded announce inputHandled handled handledAll framesToAdvance framesBy framesRefusalBy syncedAt frameInputsBy requestsBy requestsOf advanceRefusal fresh refused decided byHost hostActs hostTakes pollRefusal polled pollStep advanceStep framesBehindStep step valueOf
 slowed-is = (refl, refl)
 
 slower-is : (slower .host .quality .«local_frame_advantage» ≡ bias32 + 3) × (slower .newest ≡ fr 2)
@@ -385,7 +413,7 @@ overflows :
     × (slowly .newest ≡ fr 1)
     × (slowly .statuses ≡ stored .statuses)
     × (slowly .inputs ≡ stored .inputs)
-unfolding kept has without xors framesOf unpack pack decodableLength decodable zeros padded dropTo lastTo room blankFrame highest newestOf foundIn atLine above numbered packetOf takenIn issued fits defaultStatus reported merged mergedAll defaultStatuses hasRoom inputOf inputEntry announced badSetup anyAbove anyTwice inserted sorted termsWith made hostRefused tested queueWire queueSize done bufferFull isFull nonceIssued request started synchronized counted running replied onSyncReply droppedTo acknowledged pendingQueued referenceFrame taken receivedIf receive announcedEach discarded packetOverflows statusesMerged informed inputsReceived inputTaken inputUnless onInput resent reportSent keptAlive interrupted timedOut acted clamped reportQueued roundTrip roundTripNoted onQualityReply advantageOf advantageOverflows localAdvantage advantageUpdated synchronizeStep ignored resumed heard onBody reacted messageStep actStep advantageStep takeStep statsOf filledPart hostSetup badLimits badSession madeWatch blankInput freshInputs inputStored playerInputAt lastOf eventAdded announce inputHandled handled handledAll framesToAdvance framesBy framesRefusalBy syncedAt frameInputsBy requestsBy requestsOf advanceRefusal fresh refused decided byHost hostActs hostTakes pollRefusal polled pollStep advanceStep framesBehindStep step valueOf
+unfolding kept has without xors framesOf unpack pack decodableLength decodable zeros padded dropTo lastTo room blankFrame highest newestOf foundIn atLine above numbered packetOf takenIn issued lastOf defaultStatus reported merged mergedAll defaultStatuses hasRoom inputOf inputEntry announced badSetup anyAbove anyTwice inserted sorted termsWith made hostRefused tested queueWire queueSize done bufferFull isFull nonceIssued request started synchronized counted running replied onSyncReply droppedTo acknowledged pendingQueued referenceFrame taken receivedIf receive announcedEach discarded packetOverflows statusesMerged informed inputsReceived inputTaken inputUnless onInput resent reportSent keptAlive interrupted timedOut acted clamped reportQueued roundTrip roundTripNoted onQualityReply advantageOf advantageOverflows localAdvantage advantageUpdated synchronizeStep ignored resumed heard onBody reacted messageStep actStep advantageStep takeStep statsOf filledPart hostSetup badLimits badSession madeWatch blankInput freshInputs inputStored playerInputAt eventAdded announce inputHandled handled handledAll framesToAdvance framesBy framesRefusalBy syncedAt frameInputsBy requestsBy requestsOf advanceRefusal fresh refused decided byHost hostActs hostTakes pollRefusal polled pollStep advanceStep framesBehindStep step valueOf
 overflows = (refl, refl, refl, refl, refl, refl, slower-is .0, slower-is .1, refl, refl, refl)
 
 -- ---- the poll's refusals
@@ -406,5 +434,5 @@ polls :
     × (step (pollAt 60000 65536) crowded .answer ≡ 0)
     × (step (pollAt 60000 65536) crowded .after .host .events ≡ [])
     × (step (pollAt 60000 65536) crowded .after .events ≡ by3 SessionEvent.NetworkResumed ∷ by3 (SessionEvent.NetworkInterrupted 50000) ∷ [])
-unfolding kept has without xors framesOf unpack pack decodableLength decodable zeros padded dropTo lastTo room blankFrame highest newestOf foundIn atLine above numbered packetOf takenIn issued fits defaultStatus reported merged mergedAll defaultStatuses hasRoom inputOf inputEntry announced badSetup anyAbove anyTwice inserted sorted termsWith made hostRefused tested queueWire queueSize done bufferFull isFull nonceIssued request started synchronized counted running replied onSyncReply droppedTo acknowledged pendingQueued referenceFrame taken receivedIf receive announcedEach discarded packetOverflows statusesMerged informed inputsReceived inputTaken inputUnless onInput resent reportSent keptAlive interrupted timedOut acted clamped reportQueued roundTrip roundTripNoted onQualityReply advantageOf advantageOverflows localAdvantage advantageUpdated synchronizeStep ignored resumed heard onBody reacted messageStep actStep advantageStep takeStep statsOf filledPart hostSetup badLimits badSession madeWatch blankInput freshInputs inputStored playerInputAt lastOf eventAdded announce inputHandled handled handledAll framesToAdvance framesBy framesRefusalBy syncedAt frameInputsBy requestsBy requestsOf advanceRefusal fresh refused decided byHost hostActs hostTakes pollRefusal polled pollStep advanceStep framesBehindStep step valueOf
+unfolding kept has without xors framesOf unpack pack decodableLength decodable zeros padded dropTo lastTo room blankFrame highest newestOf foundIn atLine above numbered packetOf takenIn issued lastOf defaultStatus reported merged mergedAll defaultStatuses hasRoom inputOf inputEntry announced badSetup anyAbove anyTwice inserted sorted termsWith made hostRefused tested queueWire queueSize done bufferFull isFull nonceIssued request started synchronized counted running replied onSyncReply droppedTo acknowledged pendingQueued referenceFrame taken receivedIf receive announcedEach discarded packetOverflows statusesMerged informed inputsReceived inputTaken inputUnless onInput resent reportSent keptAlive interrupted timedOut acted clamped reportQueued roundTrip roundTripNoted onQualityReply advantageOf advantageOverflows localAdvantage advantageUpdated synchronizeStep ignored resumed heard onBody reacted messageStep actStep advantageStep takeStep statsOf filledPart hostSetup badLimits badSession madeWatch blankInput freshInputs inputStored playerInputAt eventAdded announce inputHandled handled handledAll framesToAdvance framesBy framesRefusalBy syncedAt frameInputsBy requestsBy requestsOf advanceRefusal fresh refused decided byHost hostActs hostTakes pollRefusal polled pollStep advanceStep framesBehindStep step valueOf
 polls = (refl, refl, refl, refl, refl, refl, refl, refl, refl)

@@ -1,8 +1,8 @@
 -- What a session does with an event of its host.
 use mathlib.Core.List.{List, [], _∷_, _++_}
 use mathlib.Core.Path.{_≡_, refl}
-use Prim.Native.Nat.{ℕ, _-_, min}
-use lib.ListN.{length, drop}
+use Prim.Native.Nat.{ℕ, min}
+use Rattle.base.specs.Last.{lastOf}
 use Rattle.ceilings.specs.Ceilings.{mostSessionEvents}
 use Rattle.events.specs.declared.Entry.{Entry}
 use Rattle.events.specs.declared.Event.{Event}
@@ -16,10 +16,6 @@ use Rattle.spectator_rules.specs.Inputs.{inputStored}
 use Rattle.spectator_rules.specs.Watch.{Watch, withHost, withState, withInputs, withStatuses, withEvents, withNewest}
 
 -- ---- announcing
-
--- the last n of some
-unfoldable pub lastOf {ℓ} : {A : Type ℓ} → ℕ → List A → List A
-lastOf n l = drop (length l - n) l
 
 -- one more event at the end; beyond M the oldest are dropped (S-15). A store of 128 stands for an M above that (not reachable)
 unfoldable pub eventAdded : (most : ℕ) → SessionEntry → List SessionEntry → List SessionEntry

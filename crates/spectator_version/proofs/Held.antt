@@ -1,10 +1,10 @@
 -- What a poll keeps. For every state: the setup of the session's endpoint and the number of its statuses. From a session whose parts are values: that they are.
 use mathlib.Core.List.{List, [], _∷_, _++_}
 use mathlib.Core.Path.{_≡_, refl, _∙_}
-use Prim.Native.Nat.{ℕ, zero, suc, _-_, min}
+use Prim.Native.Nat.{ℕ, zero, suc, min}
 use native.Mathlib.Omega.{arith}
 use lib.Dec.{eqb}
-use lib.ListN.{length, take, drop}
+use lib.ListN.{length, take}
 use Rattle.base.specs.Little.{Bytes}
 use Rattle.ceilings.specs.Ceilings.{mostSessionEvents}
 use Rattle.events.specs.Events.{heldEvents}
@@ -22,7 +22,7 @@ use Rattle.endpoint_invariant.specs.Each.{Each}
 use Rattle.endpoint_invariant.specs.Typed.{IsU32, IsU64, TypedPlace}
 use Rattle.endpoint_invariant.specs.Sound.{Sound}
 use Rattle.endpoint_invariant.proofs.Choices.{by-pick}
-use Rattle.endpoint_invariant.proofs.Eaches.{each-append, each-also}
+use Rattle.endpoint_invariant.proofs.Eaches.{each-append, each-last, each-also}
 use Rattle.endpoint_invariant.proofs.Leaves.{by-cases}
 use Rattle.endpoint_invariant.proofs.Sound.{step-sound}
 use Rattle.endpoint_invariant.proofs.Staying.{step-setup, step-players}
@@ -38,7 +38,7 @@ use Rattle.spectator_rules.specs.declared.SessionEvent.the-variants as SessionE
 use Rattle.spectator_rules.specs.declared.SessionState.the-variants.{Running}
 use Rattle.spectator_rules.specs.Inputs.{placeOf, inputStored}
 use Rattle.spectator_rules.specs.Watch.{Watch, withHost, withState}
-use Rattle.spectator_rules.specs.Handling.{lastOf, eventAdded, announce, inputHandled, onEvent, handled, handledAll}
+use Rattle.spectator_rules.specs.Handling.{eventAdded, announce, inputHandled, onEvent, handled, handledAll}
 use Rattle.spectator_rules.specs.Call.{Call}
 use Rattle.spectator_rules.specs.Step.{Did, refused, decided, hostActs, hostTakes, pollRefusal, polled, pollStep, step}
 use Rattle.spectator_invariant.specs.Seated.{Seated}
@@ -120,16 +120,6 @@ unfolding Each
 each-take P zero l h = tt
 each-take P (suc n) [] h = tt
 each-take P (suc n) (x ∷ l) h = (h .0, each-take P n l (h .1))
-
-each-drop : {X : Type 0} (P : X → Type 0) (n : ℕ) (l : List X) → Each P l → Each P (drop n l)
-unfolding Each
-each-drop P zero l h = h
-each-drop P (suc n) [] h = h
-each-drop P (suc n) (x ∷ l) h = each-drop P n l (h .1)
-
-each-last : {X : Type 0} (P : X → Type 0) (n : ℕ) (l : List X) → Each P l → Each P (lastOf n l)
-unfolding lastOf
-each-last P n l h = each-drop P (length l - n) l h
 
 each-front : {X : Type 0} (P : X → Type 0) (l m : List X) → Each P (l ++ m) → Each P l
 unfolding Each

@@ -1,6 +1,7 @@
 //! Holds the refusals against the crate's own doing. A call refused by 5 is tried on a copy of
 //! the endpoint and must pass a ceiling there; one refused by 6 must overflow there (shown by the
-//! build with overflow checks); one that is done must stay within every ceiling.
+//! build with overflow checks); one that is done must stay within every ceiling. Nonces are no
+//! reason for 5: that a copy would hold 257 of them excuses no refusal.
 
 use std::cell::RefCell;
 use std::collections::BTreeMap;
@@ -87,7 +88,7 @@ fn within(world: &World, r: &Record, queued_before: usize) {
 }
 
 /// What the crate would hold after this call.
-fn attempt(world: &World, r: &Record, message: Option<&Message>) -> Option<[usize; 5]> {
+fn attempt(world: &World, r: &Record, message: Option<&Message>) -> Option<[usize; 4]> {
     let readings = Readings { now: Some(r.now), epoch: Some(r.epoch), nonce: Some(r.nonce), magic: None };
     let copy = match r.object {
         SPECTATOR => attempt_host(world, r, message, readings)?,
@@ -141,14 +142,13 @@ fn attempt_host(
 
 fn refused_full(world: &World, r: &Record, done: &Done) {
     let before = host(world, r.object).expect("present");
-    let Some([events, pending, nonces, checksums, queued]) = attempt(world, r, done.message.as_ref()) else {
+    let Some([events, pending, checksums, queued]) = attempt(world, r, done.message.as_ref()) else {
         assert_eq!(r.call, Call::TakeMessages);
         return;
     };
     let grows = queued > before.queued.len() || (r.object == SPECTATOR && r.call == Call::Act);
     let passes = events > EVENTS_MAX
         || pending > PENDING_MAX
-        || nonces > NONCES_MAX
         || checksums > CHECKSUMS_MAX
         || (grows && queued > r.buffer as usize);
     assert!(passes, "refused by 5, but the crate stays within every ceiling");

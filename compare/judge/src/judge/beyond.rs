@@ -4,6 +4,7 @@
 use std::panic::{catch_unwind, AssertUnwindSafe};
 
 use super::audit::{last_panic, overflow_checks};
+use super::config::Cfg;
 use super::end::{inputs, End, Readings};
 use super::gen::good_setups::plain;
 use super::gen::message::with_magic;
@@ -12,7 +13,7 @@ use super::watcher::Watcher;
 use crate::network::messages::{
     ChecksumReport, ConnectionStatus, Input, InputAck, Message, MessageBody, QualityReply, SyncReply,
 };
-use crate::network::protocol::Event;
+use crate::network::protocol::{Event, UdpProtocol};
 
 struct Case {
     /// What is given, and what the rules answer.
@@ -61,6 +62,21 @@ fn connected() -> End {
         p.take_events();
     });
     end
+}
+
+fn request_time(at: u32) -> u64 {
+    NOW + 201 * u64::from(at)
+}
+
+/// The crate after requests 0 to 256, each with its number for a nonce. The last is made on a copy, where nothing is
+/// forgotten.
+fn asking() -> UdpProtocol<Cfg> {
+    let mut end = fresh();
+    end.run(readings(NOW, 0), |p| p.synchronize());
+    for at in 1..=255 {
+        end.run(readings(request_time(at), at), |p| p.act(&statuses(2)));
+    }
+    end.try_on_copy(readings(request_time(256), 256), |p| p.act(&statuses(2)))
 }
 
 fn send(end: &mut End, frame: i32, bytes: &[u8], count: usize) {
@@ -139,7 +155,7 @@ fn input_bytes(count: u64, payload: usize) -> Vec<u8> {
     bytes
 }
 
-const CASES: [Case; 32] = [
+const CASES: [Case; 33] = [
     Case {
         given: "packet, start i32 max, two frames, none received yet",
         answer: "6",
@@ -276,15 +292,18 @@ const CASES: [Case; 32] = [
     },
     Case {
         given: "the 257th outstanding nonce",
-        answer: "5",
+        answer: "0, 256 outstanding: the oldest is forgotten",
+        run: || format!("{} outstanding", asking().outstanding_nonces().len()),
+    },
+    Case {
+        given: "the same, then a reply to the first of them",
+        answer: "0, heard, and nothing else",
         run: || {
-            let mut end = fresh();
-            end.run(readings(NOW, 0), |p| p.synchronize());
-            for at in 1..=256u32 {
-                let late = NOW + 201 * u64::from(at);
-                end.run(readings(late, at), |p| p.act(&statuses(2)));
-            }
-            format!("{} outstanding", end.snapshot().nonces.len())
+            let mut protocol = asking();
+            let body = MessageBody::SyncReply(SyncReply { random_reply: 0 });
+            readings(request_time(256), 257).set();
+            protocol.handle_message(&with_magic(9, body));
+            format!("announces {:?}", protocol.take_events())
         },
     },
     Case { given: "a KeepAlive and one byte more", answer: "13", run: || show(&[1, 0, 7, 0, 0, 0, 0], "it") },
@@ -340,15 +359,16 @@ const CASES: [Case; 32] = [
     },
     Case {
         given: "spectator, 257th outstanding nonce in a poll",
-        answer: "5, old events stay",
+        answer: "0, 256 outstanding: the oldest is forgotten",
         run: || {
             let mut watcher = Watcher::new(&plain(), NOW);
             watcher.run(readings(NOW, 0), |s| s.host_mut().synchronize());
-            for at in 1..=256u32 {
-                let late = NOW + 201 * u64::from(at);
-                watcher.run(readings(late, at), |s| s.poll_remote_clients());
+            for at in 1..=255 {
+                watcher.run(readings(request_time(at), at), |s| s.poll_remote_clients());
             }
-            format!("{} outstanding", watcher.snapshot().host.nonces.len())
+            readings(request_time(256), 256).set();
+            watcher.session.poll_remote_clients();
+            format!("{} outstanding", watcher.session.host().outstanding_nonces().len())
         },
     },
     Case {

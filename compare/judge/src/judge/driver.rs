@@ -414,13 +414,7 @@ fn epoch_reading(r: &Record) -> Readings {
 }
 
 pub(crate) fn acting(r: &Record) -> Acting {
-    Acting {
-        statuses: usize::from(r.status_count),
-        now: r.now,
-        epoch: r.epoch,
-        nonce: r.nonce,
-        buffer: r.buffer as usize,
-    }
+    Acting { statuses: usize::from(r.status_count), now: r.now, epoch: r.epoch, buffer: r.buffer as usize }
 }
 
 fn part(given: &mut Vec<u8>, bytes: &[u8]) {

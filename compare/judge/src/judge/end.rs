@@ -1,9 +1,10 @@
 //! One endpoint of the crate: `UdpProtocol` with the values that stand outside it.
 
-use std::collections::{HashMap, HashSet};
+use std::collections::HashMap;
 use std::time::Duration;
 
 use super::config::{set_input_size, Bytes, Cfg};
+use super::nonces::Nonces;
 use super::record::Setup;
 use super::snapshot::Snapshot;
 use super::socket::Catch;
@@ -47,19 +48,10 @@ pub(crate) fn protocol(setup: &Setup, handles: Vec<usize>, local_players: usize)
     )
 }
 
-/// Keeps `order` the order of latest issue of the nonces that the crate holds.
-pub fn reorder(order: &mut Vec<u32>, held: &HashSet<u32>, issued: Option<u32>) {
-    if let Some(nonce) = issued {
-        order.retain(|n| *n != nonce);
-        order.push(nonce);
-    }
-    order.retain(|n| held.contains(n));
-}
-
 pub(crate) struct End {
     pub protocol: UdpProtocol<Cfg>,
     pub input_size: usize,
-    nonces: Vec<u32>,
+    nonces: Nonces,
 }
 
 impl End {
@@ -70,7 +62,7 @@ impl End {
         let handles = setup.handles[..setup.handle_count as usize].iter();
         let handles = handles.map(|h| *h as usize).collect();
         let protocol = protocol(setup, handles, setup.local_players as usize);
-        Self { protocol, input_size, nonces: Vec::new() }
+        Self { protocol, input_size, nonces: Nonces::default() }
     }
 
     /// Runs one call of the crate with these readings.
@@ -79,7 +71,7 @@ impl End {
         readings.set();
         let result = call(&mut self.protocol);
         let issued = readings.nonce.filter(|_| rand::nonce_drawn());
-        reorder(&mut self.nonces, self.protocol.outstanding_nonces(), issued);
+        self.nonces.follow(&mut self.protocol, issued);
         result
     }
 

@@ -10,7 +10,7 @@ use crate::network::protocol::Event;
 use crate::{DesyncDetection, GgrsEvent};
 
 /// Every mark that can be met.
-pub const ALL: [&str; 112] = [
+pub const ALL: [&str; 119] = [
     "handshake: reply counted, 1 to 4",
     "handshake: fifth reply",
     "handshake: fifth reply with magic 0, filter stays off",
@@ -18,7 +18,14 @@ pub const ALL: [&str; 112] = [
     "handshake: reply outside Synchronizing",
     "handshake: equal nonce issued again",
     "handshake: equal nonce at a full store",
-    "handshake: full nonce store, 5",
+    "handshake: 257th nonce forgets the oldest",
+    "handshake: act refused by 8 with 256 nonces",
+    "handshake: act refused by 3 with 256 nonces",
+    "handshake: act refused by 5 with 256 nonces",
+    "handshake: forgotten nonce issued again",
+    "handshake: reply to a forgotten nonce",
+    "handshake: reply counted with 256 nonces",
+    "handshake: reply counted, the next nonce outstanding",
     "handshake: retry due at 201, not at 200",
     "handshake: no retry at exactly 200",
     "handshake: counted reply refused by 5",
@@ -126,7 +133,7 @@ pub const ALL: [&str; 112] = [
 ];
 
 /// Every mark of the spectator.
-pub const SPECTATOR_ALL: [&str; 20] = [
+pub const SPECTATOR_ALL: [&str; 25] = [
     "spectator: one frame",
     "spectator: catch-up of several",
     "spectator: catch-up capped by B - 1",
@@ -139,7 +146,12 @@ pub const SPECTATOR_ALL: [&str; 20] = [
     "spectator: oldest event dropped at M",
     "spectator: advantage refused by 6 in a poll",
     "spectator: newest - current leaves i32",
-    "spectator: poll 5 by nonces",
+    "spectator: equal nonce at a full store",
+    "spectator: 257th nonce forgets the oldest",
+    "spectator: 257th nonce, and old events handled",
+    "spectator: poll refused by 8 with 256 nonces",
+    "spectator: poll refused by 5 with 256 nonces",
+    "spectator: reply to a forgotten nonce",
     "spectator: poll 5 by the buffer, nothing due",
     "spectator: poll with 640 host events",
     "spectator: message 5 with 640 host events",
@@ -273,25 +285,7 @@ fn message_marks(m: &mut Marks, c: &Seen, body: &MessageBody) {
     let choked = c.refused(refusals::FULL) && c.before.resumes();
     m.when(choked && c.before.events.len() == refusals::EVENTS_MAX, "message: resumed refused by 5");
     match body {
-        MessageBody::SyncReply(reply) => {
-            let syncing = c.before.phase == Phase::Synchronizing;
-            let known = c.before.outstanding(reply.random_reply);
-            m.when(
-                c.went()
-                    && c.after.sync_remaining < c.before.sync_remaining
-                    && c.after.phase == Phase::Synchronizing,
-                "handshake: reply counted, 1 to 4",
-            );
-            let fifth = c.went() && syncing && c.after.phase == Phase::Running;
-            m.when(fifth, "handshake: fifth reply");
-            m.when(
-                fifth && c.after.remote_magic == 0,
-                "handshake: fifth reply with magic 0, filter stays off",
-            );
-            m.when(c.went() && syncing && !known, "handshake: reply with a nonce not outstanding");
-            m.when(c.went() && !syncing && known, "handshake: reply outside Synchronizing");
-            m.when(c.refused(refusals::FULL) && syncing && known, "handshake: counted reply refused by 5");
-        }
+        MessageBody::SyncReply(body) => sync_reply(m, c, body.random_reply),
         MessageBody::Input(body) => input(m, c, body),
         MessageBody::InputAck(_) => {
             let (had, has) = (c.before.pending.len(), c.after.pending.len());
@@ -307,6 +301,25 @@ fn message_marks(m: &mut Marks, c: &Seen, body: &MessageBody) {
         MessageBody::ChecksumReport(body) => checksum(m, c, body),
         _ => (),
     }
+}
+
+fn sync_reply(m: &mut Marks, c: &Seen, nonce: u32) {
+    let syncing = c.before.phase == Phase::Synchronizing;
+    let known = c.before.outstanding(nonce);
+    let counted =
+        c.went() && c.after.sync_remaining < c.before.sync_remaining && c.after.phase == Phase::Synchronizing;
+    m.when(counted, "handshake: reply counted, 1 to 4");
+    m.when(counted && nonces_full(c.before), "handshake: reply counted with 256 nonces");
+    let next = c.r.nonce != nonce && c.before.outstanding(c.r.nonce);
+    m.when(counted && next, "handshake: reply counted, the next nonce outstanding");
+    let fifth = c.went() && syncing && c.after.phase == Phase::Running;
+    m.when(fifth, "handshake: fifth reply");
+    m.when(fifth && c.after.remote_magic == 0, "handshake: fifth reply with magic 0, filter stays off");
+    m.when(c.went() && syncing && !known, "handshake: reply with a nonce not outstanding");
+    let forgotten = c.before.forgotten.contains(&nonce);
+    m.when(c.went() && syncing && forgotten, "handshake: reply to a forgotten nonce");
+    m.when(c.went() && !syncing && known, "handshake: reply outside Synchronizing");
+    m.when(c.refused(refusals::FULL) && syncing && known, "handshake: counted reply refused by 5");
 }
 
 fn checksum(m: &mut Marks, c: &Seen, body: &ChecksumReport) {
@@ -414,7 +427,6 @@ fn taken(m: &mut Marks, c: &Seen, body: &Input) {
 fn act(m: &mut Marks, c: &Seen) {
     let s = c.before;
     let now = c.r.now;
-    let due = |last: u64| last.saturating_add(200) < now;
     match s.phase {
         Phase::Initializing => m.when(c.went(), "act: in Initializing"),
         Phase::Shutdown => m.when(c.went(), "act: in Shutdown"),
@@ -422,18 +434,39 @@ fn act(m: &mut Marks, c: &Seen) {
             m.when(c.after.phase == Phase::Shutdown, "act: shutdown");
             m.when(c.went() && now == s.clocks.shutdown, "act: no shutdown at the exact time");
         }
-        Phase::Synchronizing => {
-            let last = s.clocks.sync_request;
-            m.when(c.went() && now == last + 201, "handshake: retry due at 201, not at 200");
-            m.when(c.went() && now == last + 200, "handshake: no retry at exactly 200");
-            let again = c.went() && due(last) && s.outstanding(c.r.nonce);
-            m.when(again, "handshake: equal nonce issued again");
-            let full = s.nonces.len() == refusals::NONCES_MAX;
-            m.when(again && full, "handshake: equal nonce at a full store");
-            let room = s.queued.len() + 10 <= c.r.buffer as usize;
-            m.when(c.refused(refusals::FULL) && full && room, "handshake: full nonce store, 5");
-        }
+        Phase::Synchronizing => synchronizing(m, c),
         Phase::Running => running(m, c),
+    }
+}
+
+fn nonces_full(s: &Snapshot) -> bool {
+    s.nonces.len() == refusals::NONCES_MAX
+}
+
+fn request_due(s: &Snapshot, now: u64) -> bool {
+    s.phase == Phase::Synchronizing && s.clocks.sync_request.saturating_add(200) < now
+}
+
+/// A request is due, and 256 nonces other than its own are outstanding.
+fn crowded(s: &Snapshot, r: &Record) -> bool {
+    request_due(s, r.now) && nonces_full(s) && !s.outstanding(r.nonce)
+}
+
+fn synchronizing(m: &mut Marks, c: &Seen) {
+    let s = c.before;
+    let last = s.clocks.sync_request;
+    m.when(c.went() && c.r.now == last + 201, "handshake: retry due at 201, not at 200");
+    m.when(c.went() && c.r.now == last + 200, "handshake: no retry at exactly 200");
+    let asked = c.went() && request_due(s, c.r.now);
+    let again = asked && s.outstanding(c.r.nonce);
+    m.when(again, "handshake: equal nonce issued again");
+    m.when(again && nonces_full(s), "handshake: equal nonce at a full store");
+    m.when(asked && s.forgotten.contains(&c.r.nonce), "handshake: forgotten nonce issued again");
+    if crowded(s, c.r) {
+        m.when(asked, "handshake: 257th nonce forgets the oldest");
+        m.when(c.refused(refusals::BAD_CLOCK), "handshake: act refused by 8 with 256 nonces");
+        m.when(c.refused(refusals::BAD_LENGTH), "handshake: act refused by 3 with 256 nonces");
+        m.when(c.refused(refusals::FULL), "handshake: act refused by 5 with 256 nonces");
     }
 }
 
@@ -522,22 +555,33 @@ pub(crate) fn spectator(c: &Watched) -> Marks {
             m.when(refused(refusals::SPECTATOR_TOO_FAR_BEHIND), "spectator: 17");
             m.when(refused(refusals::OVERFLOW), "spectator: newest - current leaves i32");
         }
-        Call::Act if went => polled(&mut m, c),
-        Call::Act if refused(refusals::FULL) => {
+        Call::Act => {
+            let crowded = crowded(&before.host, c.r);
+            m.when(crowded && refused(refusals::BAD_CLOCK), "spectator: poll refused by 8 with 256 nonces");
+            m.when(crowded && refused(refusals::FULL), "spectator: poll refused by 5 with 256 nonces");
             let short = (c.r.buffer as usize) < before.host.queued.len();
-            let full = before.host.nonces.len() == refusals::NONCES_MAX;
-            let room = c.r.buffer as usize >= before.host.queued.len() + 10;
-            m.when(full && room, "spectator: poll 5 by nonces");
             let quiet = before.host.phase == Phase::Initializing;
-            m.when(short && quiet, "spectator: poll 5 by the buffer, nothing due");
+            m.when(refused(refusals::FULL) && short && quiet, "spectator: poll 5 by the buffer, nothing due");
+            if went {
+                polled(&mut m, c);
+            }
         }
         Call::Datagram | Call::Message | Call::Carry => {
             let full = before.host.events.len() == refusals::EVENTS_MAX;
             m.when(refused(refusals::FULL) && full, "spectator: message 5 with 640 host events");
+            let forgotten = before.host.phase == Phase::Synchronizing && answers_forgotten(c);
+            m.when(went && forgotten, "spectator: reply to a forgotten nonce");
         }
         _ => (),
     }
     m
+}
+
+fn answers_forgotten(c: &Watched) -> bool {
+    match c.done.message.as_ref().map(|message| &message.body) {
+        Some(MessageBody::SyncReply(body)) => c.before.host.forgotten.contains(&body.random_reply),
+        _ => false,
+    }
 }
 
 fn advanced(m: &mut Marks, c: &Watched, went: bool) {
@@ -572,6 +616,11 @@ fn advanced(m: &mut Marks, c: &Watched, went: bool) {
 
 fn polled(m: &mut Marks, c: &Watched) {
     let s = c.before;
+    let again = request_due(&s.host, c.r.now) && s.host.outstanding(c.r.nonce);
+    m.when(again && nonces_full(&s.host), "spectator: equal nonce at a full store");
+    let crowded = crowded(&s.host, c.r);
+    m.when(crowded, "spectator: 257th nonce forgets the oldest");
+    m.when(crowded && !s.host.events.is_empty(), "spectator: 257th nonce, and old events handled");
     m.when(s.host.events.len() == refusals::EVENTS_MAX, "spectator: poll with 640 host events");
     m.when(!s.host.queued.is_empty(), "spectator: poll takes queued messages");
     let announced = |want: fn(&GgrsEvent<super::config::Cfg>) -> bool| {

@@ -11,6 +11,7 @@ pub mod driver;
 pub mod end;
 pub mod gen;
 pub mod marks;
+pub mod nonces;
 pub mod reader;
 pub mod record;
 pub mod refusals;

@@ -79,12 +79,11 @@ struct Adds {
     events: usize,
     bytes: usize,
     pending: usize,
-    nonces: usize,
 }
 
 impl Adds {
     fn full(&self, s: &Snapshot, buffer: usize) -> bool {
-        self.too_many_events(s) || self.no_room(s, buffer) || self.stores_full(s)
+        self.too_many_events(s) || self.no_room(s, buffer) || self.too_many_pending(s)
     }
 
     fn too_many_events(&self, s: &Snapshot) -> bool {
@@ -96,8 +95,8 @@ impl Adds {
         self.bytes > 0 && s.queued.len() + self.bytes > buffer
     }
 
-    fn stores_full(&self, s: &Snapshot) -> bool {
-        s.pending.len() + self.pending > PENDING_MAX || s.nonces.len() + self.nonces > NONCES_MAX
+    fn too_many_pending(&self, s: &Snapshot) -> bool {
+        s.pending.len() + self.pending > PENDING_MAX
     }
 }
 
@@ -236,7 +235,6 @@ fn plain_adds(s: &Snapshot, body: &MessageBody) -> Adds {
 }
 
 /// Replies 1 to 4 bring an event and a new request, the fifth an event alone.
-/// The nonce spent leaves room for the new one, so the store never fills here.
 fn sync_reply_adds(s: &Snapshot, reply: &SyncReply) -> (usize, usize) {
     let counts = s.phase == Phase::Synchronizing && s.outstanding(reply.random_reply);
     match (counts, s.sync_remaining) {
@@ -303,7 +301,6 @@ pub(crate) struct Acting {
     pub statuses: usize,
     pub now: u64,
     pub epoch: u64,
-    pub nonce: u32,
     pub buffer: usize,
 }
 
@@ -316,16 +313,17 @@ pub(crate) fn act(s: &Snapshot, a: &Acting) -> Tested {
     tested(&[
         (bad_clock(a.now) || bad_clock(a.epoch), Refused(BAD_CLOCK)),
         (bad_status_count(s, a.statuses), Refused(BAD_LENGTH)),
-        (act_adds(s, a).full(s, a.buffer), Refused(FULL)),
+        (act_adds(s, a.now).full(s, a.buffer), Refused(FULL)),
     ])
 }
 
-fn act_adds(s: &Snapshot, a: &Acting) -> Adds {
+/// A request's nonce always has room: the oldest of 256 others is forgotten (E-70).
+fn act_adds(s: &Snapshot, now: u64) -> Adds {
     match s.phase {
-        Phase::Synchronizing if passed(s.clocks.sync_request, 200, a.now) => {
-            Adds { bytes: SYNC_SIZE, nonces: usize::from(!s.outstanding(a.nonce)), ..Adds::default() }
+        Phase::Synchronizing if passed(s.clocks.sync_request, 200, now) => {
+            Adds { bytes: SYNC_SIZE, ..Adds::default() }
         }
-        Phase::Running => running_adds(s, a.now),
+        Phase::Running => running_adds(s, now),
         _ => Adds::default(),
     }
 }
@@ -371,7 +369,6 @@ pub(crate) fn send_input(s: &Snapshot, a: &Sending) -> Tested {
         events: usize::from(pending == PENDING_MAX),
         bytes: input_size(a.statuses, pending * s.sending_width()),
         pending: 1,
-        nonces: 0,
     };
     tested(&[
         (bad_clock(a.now), Refused(BAD_CLOCK)),
@@ -448,12 +445,8 @@ pub(crate) fn take_messages(s: &Snapshot, buffer: usize) -> Tested {
 
 /// As the host's act, but events never count and what is queued is taken from the same buffer.
 pub(crate) fn poll(s: &SpectatorSnapshot, a: &Acting) -> Tested {
-    let adds = act_adds(&s.host, a);
-    let bytes = s.host.queued.len() + adds.bytes;
-    tested(&[
-        (bad_clock(a.now) || bad_clock(a.epoch), Refused(BAD_CLOCK)),
-        (bytes > a.buffer || adds.stores_full(&s.host), Refused(FULL)),
-    ])
+    let bytes = s.host.queued.len() + act_adds(&s.host, a.now).bytes;
+    tested(&[(bad_clock(a.now) || bad_clock(a.epoch), Refused(BAD_CLOCK)), (bytes > a.buffer, Refused(FULL))])
 }
 
 fn behind(s: &SpectatorSnapshot) -> i64 {

@@ -48,6 +48,8 @@ pub(crate) struct Snapshot {
     pub sync_remaining: u32,
     /// Outstanding nonces in order of latest issue.
     pub nonces: Vec<u32>,
+    /// Nonces that were forgotten: no part of the state, but marks ask for them.
+    pub forgotten: Vec<u32>,
     pub notify_sent: bool,
     pub event_sent: bool,
     pub remote_magic: u16,

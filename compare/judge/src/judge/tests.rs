@@ -1,11 +1,13 @@
-//! The formats undo themselves, and the digest is the common CRC-32.
+//! The formats undo themselves, the digest is the common CRC-32, and of 257 nonces the oldest is forgotten.
 
 use super::canon::crc32;
+use super::end::{End, Readings};
 use super::gen::good_setups::plain;
 use super::gen::message::{bodies, with_magic};
 use super::reader;
 use super::record::{Call, Record, Setup, RECORD, SETUP};
 use super::value;
+use crate::network::messages::ConnectionStatus;
 
 #[test]
 fn crc_of_the_nine_digits() {
@@ -45,4 +47,32 @@ fn every_kind_is_read_back_as_a_value_and_as_a_datagram() {
             assert_eq!(reader::fault(&datagram[..length]), 9);
         }
     }
+}
+
+/// What is outstanding after a synchronize with the first nonce and a request every 201 ms with those that follow.
+fn outstanding(nonces: impl IntoIterator<Item = u32>) -> Vec<u32> {
+    let mut end = End::new(&plain(), 0);
+    for (at, nonce) in (0..).zip(nonces) {
+        let readings = Readings { now: Some(201 * at), epoch: Some(0), nonce: Some(nonce), magic: None };
+        end.run(readings, |p| match at {
+            0 => p.synchronize(),
+            _ => p.act(&[ConnectionStatus::default(); 2]),
+        });
+    }
+    end.snapshot().nonces
+}
+
+#[test]
+fn of_257_nonces_the_oldest_is_forgotten() {
+    let from_to = |first: u32, last: u32| (first..=last).collect::<Vec<_>>();
+    assert_eq!(outstanding(1..=256), from_to(1, 256));
+    assert_eq!(outstanding(1..=257), from_to(2, 257));
+    assert_eq!(outstanding(1..=300), from_to(45, 300));
+}
+
+#[test]
+fn a_nonce_issued_again_counts_once_from_its_latest_issue() {
+    let held: Vec<u32> = (1..=6).chain(8..=256).chain([7]).collect();
+    assert_eq!(outstanding((1..=256).chain([7])), held);
+    assert_eq!(outstanding((1..=256).chain([7, 257])), [&held[1..], &[257]].concat());
 }

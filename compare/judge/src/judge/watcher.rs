@@ -1,7 +1,8 @@
 //! The spectator session of the crate with the values that stand outside it.
 
 use super::config::{set_input_size, Cfg};
-use super::end::{protocol, reorder, Readings};
+use super::end::{protocol, Readings};
+use super::nonces::Nonces;
 use super::record::Setup;
 use super::snapshot::SpectatorSnapshot;
 use super::socket::Catch;
@@ -13,7 +14,7 @@ pub(crate) struct Watcher {
     pub input_size: usize,
     slots: usize,
     session_events: usize,
-    nonces: Vec<u32>,
+    nonces: Nonces,
     socket: Catch,
 }
 
@@ -34,7 +35,7 @@ impl Watcher {
             setup.max_frames_behind as usize,
             setup.catchup_speed as usize,
         );
-        Self { session, input_size, slots, session_events, nonces: Vec::new(), socket }
+        Self { session, input_size, slots, session_events, nonces: Nonces::default(), socket }
     }
 
     fn enter(&self, readings: Readings) {
@@ -47,7 +48,7 @@ impl Watcher {
         self.enter(readings);
         let result = call(&mut self.session);
         let issued = readings.nonce.filter(|_| rand::nonce_drawn());
-        reorder(&mut self.nonces, self.session.host().outstanding_nonces(), issued);
+        self.nonces.follow(self.session.host_mut(), issued);
         result
     }
 

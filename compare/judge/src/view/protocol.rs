@@ -3,6 +3,7 @@
 
 use super::*;
 use crate::judge::config::Cfg;
+use crate::judge::nonces::Nonces;
 use crate::judge::refusals;
 use crate::judge::snapshot::{Clocks, Phase, Snapshot, Stored};
 
@@ -57,6 +58,11 @@ impl<T: Config> UdpProtocol<T> {
         &self.sync_random_requests
     }
 
+    /// Changes the set: by the rules the oldest of 257 is forgotten (E-70), and the crate never forgets.
+    pub(crate) fn forget_nonce(&mut self, nonce: u32) {
+        self.sync_random_requests.remove(&nonce);
+    }
+
     /// `poll` of ggrs takes the events too: this puts them back.
     pub(crate) fn act(&mut self, connect_status: &[ConnectionStatus]) {
         let events: Vec<_> = self.poll(connect_status).collect();
@@ -93,10 +99,10 @@ impl<T: Config> UdpProtocol<T> {
 }
 
 impl UdpProtocol<Cfg> {
-    /// The whole state. `nonces` is the order of latest issue, which the crate's set does not keep.
-    pub(crate) fn snapshot(&self, nonces: &[u32]) -> Snapshot {
-        assert_eq!(nonces.len(), self.sync_random_requests.len());
-        assert!(nonces.iter().all(|n| self.sync_random_requests.contains(n)));
+    /// The whole state. `nonces` has the order of latest issue, which the crate's set does not keep.
+    pub(crate) fn snapshot(&self, nonces: &Nonces) -> Snapshot {
+        assert_eq!(nonces.order().len(), self.sync_random_requests.len());
+        assert!(nonces.order().iter().all(|n| self.sync_random_requests.contains(n)));
         let mut history: Vec<Stored> = self.recv_inputs.values().map(stored).collect();
         history.sort_by_key(|s| s.frame);
         assert!(self.recv_inputs.iter().all(|(frame, input)| *frame == input.frame));
@@ -115,7 +121,8 @@ impl UdpProtocol<Cfg> {
             peer: self.peer_addr,
             desync: self.desync_detection,
             sync_remaining: self.sync_remaining_roundtrips,
-            nonces: nonces.to_vec(),
+            nonces: nonces.order().to_vec(),
+            forgotten: nonces.forgotten().to_vec(),
             notify_sent: self.disconnect_notify_sent,
             event_sent: self.disconnect_event_sent,
             remote_magic: self.remote_magic,
@@ -181,12 +188,11 @@ impl UdpProtocol<Cfg> {
         }
     }
 
-    /// Counts of what has a ceiling: events, pending inputs, nonces, checksums, queued bytes.
-    pub(crate) fn counts(&self) -> [usize; 5] {
+    /// Counts of what a call can find full: events, pending inputs, checksums, queued bytes.
+    pub(crate) fn counts(&self) -> [usize; 4] {
         [
             self.event_queue.len(),
             self.pending_output.len(),
-            self.sync_random_requests.len(),
             self.pending_checksums.len(),
             self.queued_bytes().len(),
         ]

@@ -2,6 +2,7 @@
 
 use super::*;
 use crate::judge::config::Cfg;
+use crate::judge::nonces::Nonces;
 use crate::judge::snapshot::{SpectatorSnapshot, Stored};
 
 impl SpectatorSession<Cfg> {
@@ -22,7 +23,7 @@ impl SpectatorSession<Cfg> {
         &self.host_connect_status
     }
 
-    pub(crate) fn snapshot(&self, nonces: &[u32]) -> SpectatorSnapshot {
+    pub(crate) fn snapshot(&self, nonces: &Nonces) -> SpectatorSnapshot {
         let slot = |slot: &Vec<PlayerInput<_>>| slot.iter().map(stored).collect();
         SpectatorSnapshot {
             running: self.state == SessionState::Running,

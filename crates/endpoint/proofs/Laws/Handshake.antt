@@ -1,13 +1,12 @@
 -- The ways out of a request, when it fits beside what a call announces, and the ways out of `synchronize`.
 use borrow.Author.Tests.{not-true, not-false}
-use mathlib.Core.Bool.{Bool, true, false, not, _&&_, _||_}
+use mathlib.Core.Bool.{Bool, true, false, not}
 use mathlib.Core.List.{List, [], _∷_, append-nil}
 use mathlib.Core.Path.{_≡_, refl, sym, _∙_}
 use native.Mathlib.Omega.{arith}
 use Prim.Native.Nat.{ℕ}
 use lib.ListN.{length}
 use Rattle.base.specs.Lay.{noRoom}
-use Rattle.base.proofs.Bools.{both}
 use Rattle.answer.specs.declared.Answer.{Answer}
 use Rattle.answer.specs.declared.Answer.the-variants.{Done, WrongState, Full, BadClock}
 use Rattle.codec.specs.Message.{tableSize}
@@ -16,9 +15,8 @@ use Rattle.timers.specs.declared.Clocks.{Clocks}
 use Rattle.timers.specs.Timers.{badClocks, sentAt, requestAt}
 use Rattle.quality.specs.declared.Quality.{Quality}
 use Rattle.quality.specs.Quality.{startedAt}
-use Rattle.nonces.specs.declared.Issued.{Issued}
 use Rattle.nonces.specs.declared.Nonces.{Nonces}
-use Rattle.nonces.specs.Nonces.{outstanding, fits, issued, IssuedAs}
+use Rattle.nonces.specs.Nonces.{outstanding, issued}
 use Rattle.events.specs.Events.{heldEvents, hasRoom}
 use Rattle.outbox.specs.declared.Queued.{Queued}
 use Rattle.outbox.specs.Outbox.{QueuedAs}
@@ -41,50 +39,30 @@ use Rattle.endpoint.proofs.Laws.Room.{full-buffer, room-one}
 pub false-true : false ≡ true → ⊥
 false-true n = let z : _≡_ {A = ℕ} 0 1 = cc in absurd (omega arith)
 
-module _ (c : Clocks) (magic now nonce : ℕ) (buffer : List ℕ) (at : ℕ) where
-  abbrev Asks : Bool → Requested → List ℕ → Type 0
-  Asks issued = RequestedAs issued c magic now nonce buffer at
+module _ (c : Clocks) (magic now nonce : ℕ) (buffer : List ℕ) (at : ℕ) (q : Queued) (buffer′ : List ℕ) (eq : QueuedAs buffer at (requestWire magic nonce) q buffer′) where
+  abbrev Asks : Requested → Type 0
+  Asks r = RequestedAs c magic now nonce buffer at r buffer′
 
-  abbrev Refused : Requested
-  Refused = record { ok = false; clocks = c; end = at }
+  pub ask-full : q .ok ≡ false → Asks (record { ok = false; clocks = c; end = at })
+  ask-full k = record { ok = rw (← eq .ok, k); clocks = λ n. cc; queued = λ n. absurd (false-true n); same = λ _. rw k at (eq .lent) }
 
-  pub ask-choked : (issued : Bool) → issued ≡ false → Asks issued Refused buffer
-  ask-choked issued k = record { ok = rw k; clocks = λ n. cc; queued = λ n. absurd (false-true n); same = λ _. refl }
-
-  module _ (issued : Bool) (fit : issued ≡ true) (q : Queued) (buffer′ : List ℕ) (eq : QueuedAs buffer at (requestWire magic nonce) q buffer′) where
-    pub ask-full : q .ok ≡ false → Asks issued Refused buffer′
-    ask-full k = record { ok = rw (fit, ← eq .ok, k); clocks = λ n. cc; queued = λ n. absurd (false-true n); same = λ _. rw k at (eq .lent) }
-
-    pub ask-done : (d : Clocks) → q .ok ≡ true → d ≡ sentAt now (requestAt now c) → Asks issued (record { ok = true; clocks = d; end = q .end }) buffer′
-    ask-done d k ed =
-        record {
-          ok = rw (fit, ← eq .ok, k);
-          clocks = λ _. ed;
-          queued = λ _. record { ok = sym k ∙ eq .ok; end = rw k at (eq .end); lent = rw k at (eq .lent); fits = λ _. eq .fits k };
-          same = λ n. cc;
-        }
-
--- the nonces after a request that is made
-pub nonces-after : {s : Nonces} {c : Clocks} {magic now nonce : ℕ} {buffer : List ℕ} {at : ℕ} {r : Requested} {buffer′ : List ℕ} (i : Issued)
-    → IssuedAs s nonce i → RequestedAs (i .ok) c magic now nonce buffer at r buffer′ → r .ok ≡ true → outstanding (i .nonces) ≡ issued nonce (outstanding s)
-nonces-after i ei er k = rw (sym (ei .ok) ∙ both (i .ok) _ (sym (er .ok) ∙ k) .0) at (ei .view)
+  pub ask-done : (d : Clocks) → q .ok ≡ true → d ≡ sentAt now (requestAt now c) → Asks (record { ok = true; clocks = d; end = q .end })
+  ask-done d k ed =
+      record {
+        ok = rw (← eq .ok, k);
+        clocks = λ _. ed;
+        queued = λ _. record { ok = sym k ∙ eq .ok; end = rw k at (eq .end); lent = rw k at (eq .lent); fits = λ _. eq .fits k };
+        same = λ n. cc;
+      }
 
 -- f: what a call does that queues a request and nothing else
-module _ (buffer : List ℕ) (magic nonce : ℕ) (l : List ℕ) (f : Effect) (o : f .out ≡ requestWire magic nonce ∷ []) (ok : Bool) where
-  module _ (e : ok ≡ fits nonce l && not (noRoom buffer (f .state .queued) (tableSize (requestWire magic nonce)))) where
-    pub request-full : ok ≡ false → not (fits nonce l) || isFull (length buffer) f ≡ true
-    request-full k = go (fits nonce l) (sym e ∙ k)
-      where
-        go : (b : Bool) → b && not (noRoom buffer (f .state .queued) (tableSize (requestWire magic nonce))) ≡ false → not b || isFull (length buffer) f ≡ true
-        go true h = full-buffer buffer f _ (omega arith) o (not-false _ h)
-        go false h = refl
+module _ (buffer : List ℕ) (magic nonce : ℕ) (f : Effect) (o : f .out ≡ requestWire magic nonce ∷ []) (ok : Bool)
+    (e : ok ≡ not (noRoom buffer (f .state .queued) (tableSize (requestWire magic nonce)))) where
+  pub request-full : ok ≡ false → isFull (length buffer) f ≡ true
+  request-full k = full-buffer buffer f _ (omega arith) o (not-false _ (sym e ∙ k))
 
-    pub request-fits : ok ≡ true → hasRoom (f .state .events) (length (f .events)) ≡ true → not (fits nonce l) || isFull (length buffer) f ≡ false
-    request-fits k room = go (fits nonce l) (sym e ∙ k)
-      where
-        go : (b : Bool) → b && not (noRoom buffer (f .state .queued) (tableSize (requestWire magic nonce))) ≡ true → not b || isFull (length buffer) f ≡ false
-        go true h = room-one buffer f _ (omega arith) o room (not-true _ h)
-        go false h = cc
+  pub request-fits : ok ≡ true → hasRoom (f .state .events) (length (f .events)) ≡ true → isFull (length buffer) f ≡ false
+  request-fits k room = room-one buffer f _ (omega arith) o room (not-true _ (sym e ∙ k))
 
 module _ (e : Endpoint) (buffer : List ℕ) (now epoch nonce : ℕ) where
   abbrev Starts : Endpoint → Answer → List ℕ → Type 0
@@ -102,20 +80,18 @@ module _ (e : Endpoint) (buffer : List ℕ) (now epoch nonce : ℕ) where
     unfolding step synchronizeStep tested seen
     synchronize-state h = refused-did e WrongState _ (rw (good, h)) buffer
 
-    module _ (first : isInitializing (e .sync .phase) ≡ true) (i : Issued) (ei : IssuedAs (e .nonces) nonce i) (r : Requested) (buffer′ : List ℕ) (er : RequestedAs (i .ok) (e .clocks) (e .setup .magic) now nonce buffer (e .queued) r buffer′) where
+    module _ (first : isInitializing (e .sync .phase) ≡ true) (r : Requested) (buffer′ : List ℕ) (er : RequestedAs (e .clocks) (e .setup .magic) now nonce buffer (e .queued) r buffer′) where
       pub synchronize-full : r .ok ≡ false → Starts e Full buffer′
       unfolding step synchronizeStep synchronized started request nonceIssued queueWire tested seen termsWith
-      synchronize-full k =
-          rw (er .same k) (refused-did e Full _
-          (rw (good, first, request-full buffer (e .setup .magic) nonce (outstanding (e .nonces)) Starting refl (r .ok) (rw (ei .ok) at (er .ok)) k)) buffer)
+      synchronize-full k = rw (er .same k) (refused-did e Full _ (rw (good, first, request-full buffer (e .setup .magic) nonce Starting refl (r .ok) (er .ok) k)) buffer)
 
-      pub synchronize-done : r .ok ≡ true → hasRoom (heldEvents (e .events)) 0 ≡ true → (q : Quality) → q ≡ startedAt epoch (e .quality)
-          → Starts (remade e (e .pending) (e .acked) (e .history) (record { phase = Synchronizing; remaining = 5; «remote_magic» = e .sync .«remote_magic» }) (i .nonces) (r .clocks) (e .flags) q (e .statuses) (e .checksums) (e .events) (r .end)) Done buffer′
+      pub synchronize-done : r .ok ≡ true → hasRoom (heldEvents (e .events)) 0 ≡ true → (v : Nonces) → outstanding v ≡ issued nonce (outstanding (e .nonces)) → (q : Quality) → q ≡ startedAt epoch (e .quality)
+          → Starts (remade e (e .pending) (e .acked) (e .history) (record { phase = Synchronizing; remaining = 5; «remote_magic» = e .sync .«remote_magic» }) v (r .clocks) (e .flags) q (e .statuses) (e .checksums) (e .events) (r .end)) Done buffer′
       unfolding step synchronizeStep synchronized started request nonceIssued queueWire tested seen termsWith
-      synchronize-done k room q eq =
+      synchronize-done k room v ev q eq =
           queued-did e _ (record { setup = refl; count = refl }) Starting _
-          (rw (good, first, request-fits buffer (e .setup .magic) nonce (outstanding (e .nonces)) Starting refl (r .ok) (rw (ei .ok) at (er .ok)) k room))
-          _ refl buffer buffer′ _ (er .queued k) refl refl (rw (nonces-after i ei er k, er .clocks k, eq, append-nil))
+          (rw (good, first, request-fits buffer (e .setup .magic) nonce Starting refl (r .ok) (er .ok) k room))
+          _ refl buffer buffer′ _ (er .queued k) refl refl (rw (ev, er .clocks k, eq, append-nil))
 
   pub synchronize-settled : (r s : Ended) (b c : List ℕ) → DidAs e (step (Call.synchronize now epoch nonce (length buffer)) (seen e)) buffer r b
       → DidAs e (step (Call.synchronize now epoch nonce (length buffer)) (seen e)) buffer s c

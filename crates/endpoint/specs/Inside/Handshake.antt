@@ -1,5 +1,5 @@
 -- What a sync request comes to, and a reply that counts.
-use mathlib.Core.Bool.{Bool, true, false, not, _&&_}
+use mathlib.Core.Bool.{Bool, true, false, not}
 use mathlib.Core.List.{List}
 use mathlib.Core.Path.{_≡_}
 use Prim.Native.Nat.{ℕ, _-_, _<_, _≤_}
@@ -22,9 +22,9 @@ use Rattle.endpoint.specs.declared.handshake.Counted.{Counted}
 abbrev pub requestWire : (magic nonce : ℕ) → Wire
 requestWire magic nonce = bodyOnly magic (SyncRequest nonce)
 
--- it fits where what goes with it does, and its bytes do
-pub record RequestedAs (roomy : Bool) (c : Clocks) (magic now nonce : ℕ) (buffer : List ℕ) (at : ℕ) (r : Requested) (buffer′ : List ℕ) : Type 0 where
-  pub ok : r .ok ≡ roomy && not (noRoom buffer at (tableSize (requestWire magic nonce)))
+-- it is done where its bytes fit
+pub record RequestedAs (c : Clocks) (magic now nonce : ℕ) (buffer : List ℕ) (at : ℕ) (r : Requested) (buffer′ : List ℕ) : Type 0 where
+  pub ok : r .ok ≡ not (noRoom buffer at (tableSize (requestWire magic nonce)))
   pub clocks : r .ok ≡ true → r .clocks ≡ sentAt now (requestAt now c)
   pub queued : r .ok ≡ true → QueuedAs buffer at (requestWire magic nonce) (record { ok = true; end = r .end }) buffer′
   pub same : r .ok ≡ false → buffer′ ≡ buffer
@@ -33,8 +33,9 @@ pub record RequestedAs (roomy : Bool) (c : Clocks) (magic now nonce : ℕ) (buff
 abbrev pub progressOf : (remaining : ℕ) → Event
 progressOf remaining = pick (ltb 0 remaining) (Synchronizing 5 (5 - remaining)) Synchronized
 
--- with replies to come the next request; else it is over, and the filter asks for the magic of this reply
+-- where what is announced of it has room: with replies to come the next request; else it is over, and the filter asks for the magic of this reply
 pub record CountedAs (roomy : Bool) (s : Sync) (remaining remoteMagic : ℕ) (c : Clocks) (magic now nonce : ℕ) (buffer : List ℕ) (at : ℕ) (r : Counted) (buffer′ : List ℕ) : Type 0 where
-  pub sync : r .sync ≡ pick (ltb 0 remaining) (record { phase = s .phase; remaining = remaining; «remote_magic» = s .«remote_magic» }) (record { phase = Running; remaining = remaining; «remote_magic» = remoteMagic })
-  pub more : 0 < remaining → RequestedAs roomy (heardAt now c) magic now nonce buffer at (record { clocks = r .clocks; end = r .end; ok = r .ok }) buffer′
-  pub over : remaining ≤ 0 → (r .clocks ≡ heardAt now c) × (r .end ≡ at) × (r .ok ≡ roomy) × (buffer′ ≡ buffer)
+  pub crowded : roomy ≡ false → (r .ok ≡ false) × (buffer′ ≡ buffer)
+  pub sync : roomy ≡ true → r .sync ≡ pick (ltb 0 remaining) (record { phase = s .phase; remaining = remaining; «remote_magic» = s .«remote_magic» }) (record { phase = Running; remaining = remaining; «remote_magic» = remoteMagic })
+  pub more : roomy ≡ true → 0 < remaining → RequestedAs (heardAt now c) magic now nonce buffer at (record { clocks = r .clocks; end = r .end; ok = r .ok }) buffer′
+  pub over : roomy ≡ true → remaining ≤ 0 → (r .clocks ≡ heardAt now c) × (r .end ≡ at) × (r .ok ≡ true) × (buffer′ ≡ buffer)

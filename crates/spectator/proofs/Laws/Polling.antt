@@ -25,7 +25,7 @@ use Rattle.endpoint_rules.specs.Seen.{Seen, isShutdown, withEvents, withQueued}
 use Rattle.endpoint_rules.specs.Did.{Did as HostDid, Effect, begin, done, refused as hostRefused, tested}
 use Rattle.endpoint_rules.specs.Did.Verdict.{refuse}
 use Rattle.endpoint_rules.specs.Room.{eventsFull, bufferFull, isFull}
-use Rattle.endpoint_rules.specs.Act.{acted, requestChoked}
+use Rattle.endpoint_rules.specs.Act.{acted}
 use Rattle.timers.specs.Timers.{badClocks}
 use Rattle.endpoint_rules.specs.Call.{Call as HostCall, Question as HostQuestion}
 use Rattle.endpoint_rules.specs.Sending.{newest, badStatuses}
@@ -186,22 +186,20 @@ none-left buffer queued bytes h l =
 
 module _ (buffer : ℕ) (s : Seen) (e : Effect) where
   -- an act that is not refused is done, and what it queues has room
-  not-refused : (a b x f : Bool) → tested ((a, refuse 8) ∷ (b, refuse 3) ∷ (x || f, refuse 5) ∷ []) s (done e) .answer ≡ 0 → (tested ((a, refuse 8) ∷ (b, refuse 3) ∷ (x || f, refuse 5) ∷ []) s (done e) ≡ done e) × (f ≡ false)
+  not-refused : (a b f : Bool) → tested ((a, refuse 8) ∷ (b, refuse 3) ∷ (f, refuse 5) ∷ []) s (done e) .answer ≡ 0 → (tested ((a, refuse 8) ∷ (b, refuse 3) ∷ (f, refuse 5) ∷ []) s (done e) ≡ done e) × (f ≡ false)
   unfolding tested hostRefused
-  not-refused true b x f h = absurd (omega arith)
-  not-refused false true x f h = absurd (omega arith)
-  not-refused false false true f h = absurd (omega arith)
-  not-refused false false false true h = absurd (omega arith)
-  not-refused false false false false h = (refl, refl)
+  not-refused true b f h = absurd (omega arith)
+  not-refused false true f h = absurd (omega arith)
+  not-refused false false true h = absurd (omega arith)
+  not-refused false false false h = (refl, refl)
 
   -- one that is refused queues nothing
-  none-queued : (a b x f : Bool) → (tested ((a, refuse 8) ∷ (b, refuse 3) ∷ (x || f, refuse 5) ∷ []) s (done e) .answer ≡ 0 → ⊥) → tested ((a, refuse 8) ∷ (b, refuse 3) ∷ (x || f, refuse 5) ∷ []) s (done e) .out ≡ []
+  none-queued : (a b f : Bool) → (tested ((a, refuse 8) ∷ (b, refuse 3) ∷ (f, refuse 5) ∷ []) s (done e) .answer ≡ 0 → ⊥) → tested ((a, refuse 8) ∷ (b, refuse 3) ∷ (f, refuse 5) ∷ []) s (done e) .out ≡ []
   unfolding tested hostRefused done
-  none-queued true b x f n = refl
-  none-queued false true x f n = refl
-  none-queued false false true f n = refl
-  none-queued false false false true n = refl
-  none-queued false false false false n = absurd (n refl)
+  none-queued true b f n = refl
+  none-queued false true f n = refl
+  none-queued false false true n = refl
+  none-queued false false false n = absurd (n refl)
 
 or-right : (a b : Bool) → a || b ≡ false → b ≡ false
 or-right true b h = absurd (let z : _≡_ {A = ℕ} 0 1 = cc in omega arith)
@@ -231,11 +229,11 @@ module _ (now epoch nonce : ℕ) (buffer : ℕ) (w : Watch) where
   -- an act that is refused queues nothing, nor one behind which taking is refused
   act-refused : (Acts .answer ≡ 0 → ⊥) → Acts .out ≡ []
   unfolding hostActs actStep
-  act-refused n = none-queued buffer Apart Effects (badClocks now epoch) (badStatuses (length (w .statuses)) Apart) (requestChoked (w .host .phase) now nonce Apart) (isFull buffer Effects) n
+  act-refused n = none-queued buffer Apart Effects (badClocks now epoch) (badStatuses (length (w .statuses)) Apart) (isFull buffer Effects) n
 
   act-done : Acts .answer ≡ 0 → (Acts ≡ done Effects) × (isFull buffer Effects ≡ false)
   unfolding hostActs actStep
-  act-done h = not-refused buffer Apart Effects (badClocks now epoch) (badStatuses (length (w .statuses)) Apart) (requestChoked (w .host .phase) now nonce Apart) (isFull buffer Effects) h
+  act-done h = not-refused buffer Apart Effects (badClocks now epoch) (badStatuses (length (w .statuses)) Apart) (isFull buffer Effects) h
 
   room : isFull buffer Effects ≡ false → bufferFull buffer (Effects .state .queued) (queueSize (Effects .out)) ≡ false
   unfolding isFull

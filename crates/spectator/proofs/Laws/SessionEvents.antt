@@ -6,8 +6,9 @@ use native.Mathlib.Nat.{sub-zero}
 use native.Mathlib.Omega.{arith}
 use lib.ListN.{length, drop, length-append}
 use lib.Seq.{drop-length, drop-append-le}
+use Rattle.base.specs.Last.{lastOf}
 use Rattle.spectator_rules.specs.declared.SessionEntry.{SessionEntry}
-use Rattle.spectator_rules.specs.Handling.{lastOf, eventAdded}
+use Rattle.spectator_rules.specs.Handling.{eventAdded}
 
 module _ (most : ℕ) (x : SessionEntry) (l : List SessionEntry) where
   pub announced-room : length l < min most 128 → l ++ x ∷ [] ≡ eventAdded most x l

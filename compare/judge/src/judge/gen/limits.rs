@@ -3,7 +3,7 @@
 
 use super::good_setups::{any, plain};
 use super::message::with_magic;
-use super::moves::{fill_events, fill_nonces, look, plain_input};
+use super::moves::{act_record, answer, ask, ask_with, fill_events, fill_nonces, look, plain_input};
 use super::script::{Gen, A, B};
 use crate::judge::record::{Call, Record, Setup, BUFFER};
 use crate::judge::refusals::{CLOCK_MAX, EVENTS_MAX, PENDING_MAX};
@@ -13,34 +13,107 @@ use crate::network::messages::{
     ChecksumReport, Input, InputAck, MessageBody, QualityReply, QualityReport, SyncReply, SyncRequest,
 };
 
-/// 256 outstanding, then one more, then one of them again; then a reply makes room.
+/// The magic of whoever answers requests.
+const MAGIC: u16 = 5;
+
+/// 256 outstanding, then one of them again, then others, each of which forgets the oldest; replies to what was
+/// forgotten and to what is left.
 pub(crate) fn nonces(g: &mut Gen) {
     let setup = any(g);
     g.make(A, &setup);
     g.call(Call::Synchronize, A);
     fill_nonces(g, A);
     g.pass(201);
-    g.act(A);
-    let mut again = g.record(Call::Act, A);
-    again.status_count = g.host(A).num_players as u8;
-    again.nonce = g.host(A).nonces[7];
-    g.issue(again);
+    refused_requests(g);
+    let again = g.host(A).nonces[7];
+    ask_with(g, A, again);
     for wait in [200, 1] {
         g.pass(wait);
-        g.act(A);
+        let mut r = act_record(g, A);
+        r.buffer = g.host(A).queued.len() as u32 + 10;
+        g.issue(r);
     }
-    let old = g.host(A).nonces[3];
-    for _ in 0..2 {
-        let body = MessageBody::SyncReply(SyncReply { random_reply: old });
-        g.hand(A, &with_magic(5, body));
+    old_nonces_again(g);
+    let more = g.rng.pick(&[0, 3, 44, 300]);
+    for _ in 0..more {
+        crowded_request(g);
     }
+    replies_when_full(g);
     g.call(Call::TakeMessages, A);
     while g.phase(A) == Phase::Synchronizing {
-        g.reply(A, 5);
+        g.reply(A, MAGIC);
     }
     let late = g.host(A).nonces[0];
-    let body = MessageBody::SyncReply(SyncReply { random_reply: late });
-    g.hand(A, &with_magic(5, body));
+    answer(g, A, late, MAGIC);
+}
+
+/// A request that is due is refused by 8, by 3 and by 5: that forgets nothing.
+fn refused_requests(g: &mut Gen) {
+    let mut r = act_record(g, A);
+    r.now = CLOCK_MAX + 1;
+    g.issue(r);
+    let mut r = act_record(g, A);
+    r.status_count += 1;
+    g.issue(r);
+    let mut r = act_record(g, A);
+    r.buffer = g.host(A).queued.len() as u32 + 9;
+    g.issue(r);
+}
+
+/// The oldest is issued again, so the next request forgets the second. One that was forgotten is answered, issued
+/// again, and answered once more.
+fn old_nonces_again(g: &mut Gen) {
+    let oldest = g.host(A).nonces[0];
+    ask_with(g, A, oldest);
+    ask(g, A);
+    let forgotten = g.host(A).forgotten[0];
+    answer(g, A, forgotten, MAGIC);
+    ask_with(g, A, forgotten);
+    answer(g, A, forgotten, MAGIC);
+}
+
+/// A request with a new nonce, one that is outstanding or one that was forgotten; now and then it is not due yet or is
+/// refused.
+fn crowded_request(g: &mut Gen) {
+    let wait = g.rng.pick(&[200, 201, 201, 201, 900]);
+    g.pass(wait);
+    let mut r = act_record(g, A);
+    let (held, forgotten) = (g.host(A).nonces.clone(), g.host(A).forgotten.clone());
+    match g.rng.below(10) {
+        0 => r.nonce = held[0],
+        1 => r.nonce = g.rng.pick(&held),
+        2 => r.nonce = g.rng.pick(&forgotten),
+        3 => r.buffer = g.host(A).queued.len() as u32 + g.rng.below(11) as u32,
+        4 => r.epoch = g.rng.pick(&[CLOCK_MAX, CLOCK_MAX + 1]),
+        5 => r.status_count = g.rng.below(5) as u8,
+        _ => (),
+    }
+    g.issue(r);
+    if g.rng.chance(20) {
+        let nonce = g.rng.pick(&forgotten);
+        answer(g, A, nonce, MAGIC);
+    }
+    if g.host(A).queued.len() > 300 {
+        g.call(Call::TakeMessages, A);
+    }
+}
+
+/// A reply that counts spends its nonce first, so the next one forgets none. Where the next one is outstanding too, 255
+/// are left, and only the second request after it forgets one.
+fn replies_when_full(g: &mut Gen) {
+    let spent = g.host(A).nonces[3];
+    for _ in 0..2 {
+        answer(g, A, spent, MAGIC);
+    }
+    let (spent, next) = (g.host(A).nonces[9], g.host(A).nonces[5]);
+    let mut r = message_record(g, MessageBody::SyncReply(SyncReply { random_reply: spent }));
+    r.nonce = next;
+    g.issue(r);
+    for _ in 0..2 {
+        ask(g, A);
+    }
+    let forgotten = *g.host(A).forgotten.last().expect("the store was full");
+    answer(g, A, forgotten, MAGIC);
 }
 
 /// 129 pending, the 130th, acknowledgements of some and of all, and a resend of the lot.

@@ -1,9 +1,11 @@
-//! What several scenarios do: let time pass, make a good Input, look at everything, fill up the events or the nonces.
+//! What several scenarios do: let time pass, make a good Input, look at everything, ask and answer, fill up the events
+//! or the nonces.
 
+use super::message::with_magic;
 use super::script::Gen;
 use crate::judge::record::{Call, Record, SPECTATOR};
 use crate::judge::refusals::{CLOCK_MAX, NONCES_MAX};
-use crate::network::messages::{ConnectionStatus, Input, Message, MessageBody};
+use crate::network::messages::{ConnectionStatus, Input, Message, MessageBody, SyncReply};
 
 /// Lets time pass: a little, or up to one of the endpoint's own thresholds.
 pub(crate) fn tick(g: &mut Gen, own: u8) {
@@ -87,10 +89,38 @@ pub(crate) fn fill_events(g: &mut Gen, own: u8, count: usize) {
 /// Asks again and again, until 256 nonces are outstanding.
 pub(crate) fn fill_nonces(g: &mut Gen, own: u8) {
     while g.host(own).nonces.len() < NONCES_MAX {
-        g.pass(201);
-        g.act(own);
-        if g.host(own).queued.len() > 300 {
-            g.call(Call::TakeMessages, own);
-        }
+        ask(g, own);
     }
+}
+
+/// One request more, with a nonce that is drawn.
+pub(crate) fn ask(g: &mut Gen, own: u8) {
+    g.pass(201);
+    g.act(own);
+    if g.host(own).queued.len() > 300 {
+        g.call(Call::TakeMessages, own);
+    }
+}
+
+/// One request more, with this nonce.
+pub(crate) fn ask_with(g: &mut Gen, own: u8, nonce: u32) {
+    g.pass(201);
+    let mut r = act_record(g, own);
+    r.nonce = nonce;
+    g.issue(r);
+}
+
+/// act with a right status count, or the spectator's poll.
+pub(crate) fn act_record(g: &mut Gen, own: u8) -> Record {
+    let mut r = g.record(Call::Act, own);
+    if own != SPECTATOR {
+        r.status_count = g.host(own).num_players as u8;
+    }
+    r
+}
+
+/// A SyncReply to this nonce, whose header has this magic.
+pub(crate) fn answer(g: &mut Gen, own: u8, nonce: u32, magic: u16) {
+    let body = MessageBody::SyncReply(SyncReply { random_reply: nonce });
+    g.hand(own, &with_magic(magic, body));
 }

@@ -3,7 +3,7 @@
 use super::arbitrary::any_message;
 use super::good_setups::{any, plain};
 use super::message::{bodies, with_magic};
-use super::moves::{fill_nonces, look, plain_input, tick};
+use super::moves::{answer, ask_with, fill_nonces, look, plain_input, tick};
 use super::net::Net;
 use super::script::{Gen, A};
 use crate::judge::record::{Call, Record, Setup, SPECTATOR};
@@ -130,7 +130,7 @@ fn watch_steps(g: &mut Gen, base: i32, count: usize) {
 
 pub(crate) fn limits(g: &mut Gen) {
     refusals(g);
-    choked_handshake(g);
+    crowded_handshake(g);
     full_host_events(g);
     catching_up(g);
     gone_players(g);
@@ -185,8 +185,9 @@ fn value_without_room(g: &mut Gen) {
     g.issue(r);
 }
 
-/// 256 outstanding nonces: a poll whose request is due is refused, and old events stay.
-fn choked_handshake(g: &mut Gen) {
+/// 256 outstanding nonces: a poll whose request is due forgets the oldest and handles old events, unless it is refused.
+/// The host answers late, and the handshake still comes to its end.
+fn crowded_handshake(g: &mut Gen) {
     g.make(SPECTATOR, &plain());
     queue_before_start(g);
     g.call(Call::Synchronize, SPECTATOR);
@@ -194,9 +195,37 @@ fn choked_handshake(g: &mut Gen) {
     let message = plain_input(g, SPECTATOR, 0, 2);
     g.hand(SPECTATOR, &message);
     g.pass(201);
+    refused_polls(g);
     g.act(SPECTATOR);
-    g.reply(SPECTATOR, 2);
+    for at in [0, 100] {
+        let again = g.host(SPECTATOR).nonces[at];
+        ask_with(g, SPECTATOR, again);
+    }
+    let more = g.rng.range(1, 40);
+    for _ in 0..more {
+        g.pass(201);
+        g.act(SPECTATOR);
+    }
+    let forgotten = g.host(SPECTATOR).forgotten.clone();
+    for nonce in [forgotten[0], forgotten[forgotten.len() - 1], g.host(SPECTATOR).nonces[0]] {
+        answer(g, SPECTATOR, nonce, 2);
+        g.act(SPECTATOR);
+    }
+    while g.phase(SPECTATOR) == Phase::Synchronizing {
+        g.reply(SPECTATOR, 2);
+    }
     g.act(SPECTATOR);
+    g.call(Call::Advance, SPECTATOR);
+}
+
+/// A poll whose request is due, with a clock above its ceiling and without the room for the request.
+fn refused_polls(g: &mut Gen) {
+    let mut r = g.record(Call::Act, SPECTATOR);
+    r.epoch = CLOCK_MAX + 1;
+    g.issue(r);
+    let mut r = g.record(Call::Act, SPECTATOR);
+    r.buffer = g.host(SPECTATOR).queued.len() as u32 + 9;
+    g.issue(r);
 }
 
 /// A poll takes what is queued: a buffer shorter than that is 5 though nothing is due.

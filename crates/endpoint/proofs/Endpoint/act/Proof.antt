@@ -47,9 +47,6 @@ enum-told c = search needs
 passed-requires : tie.Need-passed-requires
 passed-requires c κs = search needs
 
-issue-requires : tie.Need-issue-requires
-issue-requires c κs = search needs
-
 request-requires : tie.Need-request-requires
 request-requires c κs = search needs
 
@@ -58,23 +55,40 @@ same-length c = search needs
 
 returns-3 : tie.Need-returns-3
 returns-3 c =
-    let a = c .before .before .before .before .before .before .before .before .before .before .before .before .before .before .before .before .before .before .before .before .args in
-    let asked = c .before .before .before .before .request in
-    let issued = c .before .before .before .before .before .before .issue in
-    act-synchronizing (a .self) (a .out .now) (a .statuses) (a .now) (a .epoch) (a .nonce) (good-clocks (c .before .before .before .before .before .before .before .before .before .before .before .before .before .before .before)) (c .before .before .before .before .before .before .before .before .before .before .before .before .if3 .left) (c .before .before .before .before .before .before .before .before .before .enum-told .given .1) _ _
-    (synchronizing-full (a .self) (a .out .now) (a .now) (a .nonce) (sym (c .before .before .before .before .before .before .before .before .passed .ensures) ∙ c .before .before .before .before .before .before .before .if4 .taken) (issued .result) (issued .ensures) (asked .result) _ (asked .ensures) (not-true _ (c .if5 .taken)))
+    let after-request : tie.After-request = search in
+    let then4 : tie.Then4 = search in
+    let after-passed : tie.After-passed = search in
+    let after-enum-told : tie.After-enum-told = search in
+    let else3 : tie.Else3 = search in
+    let else2 : tie.Else2 = search in
+    let start : tie.Start = search in
+    let a = start .args in
+    let asked = after-request .request in
+    act-synchronizing (a .self) (a .out .now) (a .statuses) (a .now) (a .epoch) (a .nonce) (good-clocks else2) (else3 .if3 .left) (after-enum-told .enum-told .given .1) _ _
+    (synchronizing-full (a .self) (a .out .now) (a .now) (a .nonce) (sym (after-passed .passed .ensures) ∙ then4 .if4 .taken) (asked .result) _ (asked .ensures) (not-true _ (c .if5 .taken)))
+
+issue-requires : tie.Need-issue-requires
+issue-requires c κs = search needs
 
 same-length-2 : tie.Need-same-length-2
 same-length-2 c = search needs
 
 returns-4 : tie.Need-returns-4
 returns-4 c =
-    let s = c .before .before .before .before .before .before .before .before .before .before .before .before .before .before .before .before .before .before .before .before .before .before in
-    let a = s .args in
-    let asked = c .before .before .before .before .before .before .request in
-    let issued = c .before .before .before .before .before .before .before .before .issue in
-    act-synchronizing (a .self) (a .out .now) (a .statuses) (a .now) (a .epoch) (a .nonce) (good-clocks (c .before .before .before .before .before .before .before .before .before .before .before .before .before .before .before .before .before)) (c .before .before .before .before .before .before .before .before .before .before .before .before .before .before .if3 .left) (c .before .before .before .before .before .before .before .before .before .before .before .enum-told .given .1) _ _
-    (synchronizing-done (a .self) (a .out .now) (a .now) (a .nonce) (sym (c .before .before .before .before .before .before .before .before .before .before .passed .ensures) ∙ c .before .before .before .before .before .before .before .before .before .if4 .taken) (issued .result) (issued .ensures) (asked .result) _ (asked .ensures) (no-event-fits (a .self) _ (s .good .0)) (not-false _ (c .before .before .if5 .left)))
+    let after-issue : tie.After-issue = search in
+    let else5 : tie.Else5 = search in
+    let after-request : tie.After-request = search in
+    let then4 : tie.Then4 = search in
+    let after-passed : tie.After-passed = search in
+    let after-enum-told : tie.After-enum-told = search in
+    let else3 : tie.Else3 = search in
+    let else2 : tie.Else2 = search in
+    let start : tie.Start = search in
+    let a = start .args in
+    let asked = after-request .request in
+    act-synchronizing (a .self) (a .out .now) (a .statuses) (a .now) (a .epoch) (a .nonce) (good-clocks else2) (else3 .if3 .left) (after-enum-told .enum-told .given .1) _ _
+    (synchronizing-done (a .self) (a .out .now) (a .now) (a .nonce) (sym (after-passed .passed .ensures) ∙ then4 .if4 .taken) (asked .result) _ (asked .ensures)
+    (no-event-fits (a .self) _ (start .good .0)) (not-false _ (else5 .if5 .left)) (after-issue .issue .result) (after-issue .issue .ensures))
 
 returns-5 : tie.Need-returns-5
 returns-5 c =
@@ -254,10 +268,10 @@ act-spec =
     returns-2
     enum-told
     passed-requires
-    issue-requires
     request-requires
     same-length
     returns-3
+    issue-requires
     same-length-2
     returns-4
     returns-5

@@ -41,9 +41,6 @@ returns-2 c =
     let a = start-of else2 .args in
     synchronize-state (a .self) (a .out .now) (a .now) (a .epoch) (a .nonce) (timely else2) (not-initializing (a .self .sync .phase) (c .match .keys2))
 
-issue-requires : tie.Need-issue-requires
-issue-requires c κs = search needs
-
 request-requires : tie.Need-request-requires
 request-requires c κs = search needs
 
@@ -53,33 +50,35 @@ same-length c = search needs
 returns-3 : tie.Need-returns-3
 returns-3 c =
     let after-request : tie.After-request = search in
-    let after-issue : tie.After-issue = search in
     let after-enum-told : tie.After-enum-told = search in
     let else2 : tie.Else2 = search in
     let a = start-of else2 .args in
     let asked = after-request .request in
     synchronize-full (a .self) (a .out .now) (a .now) (a .epoch) (a .nonce) (timely else2) (ap isInitializing (after-enum-told .enum-told .given .1))
-    (after-issue .issue .result) (after-issue .issue .ensures) (asked .result) (asked .last .1 .1 .1 .1 .1 .0) (asked .ensures) (not-true _ (c .if3 .taken))
+    (asked .result) (asked .last .1 .1 .1 .1 .0) (asked .ensures) (not-true _ (c .if3 .taken))
 
 started-requires : tie.Need-started-requires
 started-requires c κs = search needs
+
+issue-requires : tie.Need-issue-requires
+issue-requires c κs = search needs
 
 same-length-2 : tie.Need-same-length-2
 same-length-2 c = search needs
 
 returns-4 : tie.Need-returns-4
 returns-4 c =
+    let after-started : tie.After-started = search in
     let else3 : tie.Else3 = search in
     let after-request : tie.After-request = search in
-    let after-issue : tie.After-issue = search in
     let after-enum-told : tie.After-enum-told = search in
     let else2 : tie.Else2 = search in
     let start = start-of else2 in
     let a = start .args in
     let asked = after-request .request in
     synchronize-done (a .self) (a .out .now) (a .now) (a .epoch) (a .nonce) (timely else2) (ap isInitializing (after-enum-told .enum-told .given .1))
-    (after-issue .issue .result) (after-issue .issue .ensures) (asked .result) (asked .last .1 .1 .1 .1 .1 .0) (asked .ensures) (not-false _ (else3 .if3 .left))
-    (no-event-fits (a .self) _ (start .good .0)) (c .started .result) (c .started .ensures)
+    (asked .result) (asked .last .1 .1 .1 .1 .0) (asked .ensures) (not-false _ (else3 .if3 .left))
+    (no-event-fits (a .self) _ (start .good .0)) (c .issue .result) (c .issue .ensures) (after-started .started .result) (after-started .started .ensures)
 
 pub synchronize-spec : {M : Type 1} → statement M
 synchronize-spec =
@@ -90,10 +89,10 @@ synchronize-spec =
     returns
     enum-told
     returns-2
-    issue-requires
     request-requires
     same-length
     returns-3
     started-requires
+    issue-requires
     same-length-2
     returns-4)

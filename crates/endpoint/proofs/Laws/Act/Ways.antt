@@ -18,8 +18,8 @@ use Rattle.status.specs.declared.list.Statuses.{Statuses}
 use Rattle.status.specs.Statuses.{heldStatuses}
 use Rattle.pending.specs.Pending.{waiting}
 use Rattle.history.specs.History.{received, newestOf}
-use Rattle.nonces.specs.declared.Issued.{Issued}
-use Rattle.nonces.specs.Nonces.{outstanding, IssuedAs}
+use Rattle.nonces.specs.declared.Nonces.{Nonces}
+use Rattle.nonces.specs.Nonces.{outstanding, issued}
 use Rattle.timers.specs.declared.Clocks.{Clocks}
 use Rattle.timers.specs.Timers.{badClocks, passed}
 use Rattle.events.specs.declared.Entry.{Entry}
@@ -38,8 +38,8 @@ use Rattle.endpoint_rules.proofs.Phase.{the-type}
 use Rattle.endpoint_rules.specs.Seen.{Seen, withPhase}
 use Rattle.endpoint_rules.specs.Did.{Did, Effect, begin, change, queueWire, tested, done}
 use Rattle.endpoint_rules.specs.Room.{bufferFull}
-use Rattle.endpoint_rules.specs.Handshake.{Reaction, nonceIssued, request}
-use Rattle.endpoint_rules.specs.Act.{acted, requestChoked}
+use Rattle.endpoint_rules.specs.Handshake.{Reaction, plainly, nonceIssued, request}
+use Rattle.endpoint_rules.specs.Act.{acted}
 use Rattle.endpoint_rules.specs.Call.{Call}
 use Rattle.endpoint_rules.specs.Step.{reacted, actStep, step}
 use Rattle.endpoint.specs.declared.Endpoint.{Endpoint}
@@ -54,19 +54,13 @@ use Rattle.endpoint.proofs.Laws.Ends.{inPhase, remade, grown, refused-d
 use Rattle.endpoint.proofs.Laws.Settled.{did-settled}
 use Rattle.endpoint.proofs.Laws.Room.{full-events, room-none, full-bytes, room-bytes, reacted-full, reacted-done}
 use Rattle.endpoint.proofs.Laws.Message.Unqueued.{unqueued}
-use Rattle.endpoint.proofs.Laws.Handshake.{request-full, request-fits, nonces-after}
+use Rattle.endpoint.proofs.Laws.Handshake.{request-full, request-fits}
 use Rattle.endpoint.proofs.Laws.Act.Batch.{empty, none-sent, written-none, written-one, written-then}
 use Rattle.endpoint.proofs.Laws.Act.Due.{ran, running-is}
 
 -- act by phase, as a reaction: past the tests for 8 and 3 it is refused for room alone
 unfoldable pub acts : Phase → (now epoch nonce : ℕ) → List ConnectionStatus → Seen → Reaction
-acts p now epoch nonce statuses s =
-    record {
-      tooLong = false;
-      overflows = false;
-      storeFull = requestChoked p now nonce s;
-      effect = acted p now epoch nonce statuses (begin s);
-    }
+acts p now epoch nonce statuses s = plainly (acted p now epoch nonce statuses (begin s))
 
 -- ---- Running
 
@@ -209,26 +203,24 @@ module _ (e : Endpoint) (buffer : List ℕ) (now nonce : ℕ) where
 
   pub synchronizing-idle : hasRoom (heldEvents (e .events)) 0 ≡ true → passed (e .clocks .«last_sync_request_time») 200 now ≡ false → Asking Done e buffer
   unfolding acts acted seen
-  synchronizing-idle room h = unqueued e Ask (rw h) buffer _ (quiet-done e room Ask refl refl (rw h) e (record { setup = refl; count = refl }) (rw h) (rw h) (rw h) (rw h))
+  synchronizing-idle room h = unqueued e Ask (rw h) buffer _ (quiet-done e room Ask refl refl refl e (record { setup = refl; count = refl }) (rw h) (rw h) (rw h) (rw h))
 
-  module _ (due : passed (e .clocks .«last_sync_request_time») 200 now ≡ true) (i : Issued) (ei : IssuedAs (e .nonces) nonce i) (r : Requested) (buffer′ : List ℕ)
-      (er : RequestedAs (i .ok) (e .clocks) (e .setup .magic) now nonce buffer (e .queued) r buffer′) where
+  module _ (due : passed (e .clocks .«last_sync_request_time») 200 now ≡ true) (r : Requested) (buffer′ : List ℕ)
+      (er : RequestedAs (e .clocks) (e .setup .magic) now nonce buffer (e .queued) r buffer′) where
     abbrev Asked : Effect
     Asked = request now nonce (begin (seen e))
 
     pub synchronizing-full : r .ok ≡ false → Asking Full e buffer′
     unfolding reacted tested acts acted request nonceIssued queueWire seen termsWith
-    synchronizing-full k =
-        rw (er .same k) (refused-did e Full _
-        (rw (due, request-full buffer (e .setup .magic) nonce (outstanding (e .nonces)) Asked refl (r .ok) (rw (ei .ok) at (er .ok)) k)) buffer)
+    synchronizing-full k = rw (er .same k) (refused-did e Full _ (rw (due, request-full buffer (e .setup .magic) nonce Asked refl (r .ok) (er .ok) k)) buffer)
 
-    pub synchronizing-done : hasRoom (heldEvents (e .events)) 0 ≡ true → r .ok ≡ true
-        → Asking Done (remade e (e .pending) (e .acked) (e .history) (e .sync) (i .nonces) (r .clocks) (e .flags) (e .quality) (e .statuses) (e .checksums) (e .events) (r .end)) buffer′
+    pub synchronizing-done : hasRoom (heldEvents (e .events)) 0 ≡ true → r .ok ≡ true → (v : Nonces) → outstanding v ≡ issued nonce (outstanding (e .nonces))
+        → Asking Done (remade e (e .pending) (e .acked) (e .history) (e .sync) v (r .clocks) (e .flags) (e .quality) (e .statuses) (e .checksums) (e .events) (r .end)) buffer′
     unfolding reacted tested acts acted request nonceIssued queueWire seen termsWith
-    synchronizing-done room k =
+    synchronizing-done room k v ev =
         queued-did e _ (record { setup = refl; count = refl }) Asked _
-        (rw (due, request-fits buffer (e .setup .magic) nonce (outstanding (e .nonces)) Asked refl (r .ok) (rw (ei .ok) at (er .ok)) k room))
-        _ refl buffer buffer′ _ (er .queued k) refl refl (rw (nonces-after i ei er k, er .clocks k, append-nil))
+        (rw (due, request-fits buffer (e .setup .magic) nonce Asked refl (r .ok) (er .ok) k room))
+        _ refl buffer buffer′ _ (er .queued k) refl refl (rw (ev, er .clocks k, append-nil))
 
 module _ (e : Endpoint) (now : ℕ) (room : hasRoom (heldEvents (e .events)) 0 ≡ true) where
   abbrev Wait : Reaction

@@ -1,21 +1,18 @@
 -- The ways out of a SyncReply: one that does not count, one of the first that count, the last.
 use borrow.Author.Tests.{lt-ltb, le-ltb}
-use mathlib.Core.Bool.{Bool, true, false, not, _&&_}
+use mathlib.Core.Bool.{Bool, true, false, _&&_}
 use mathlib.Core.List.{List, [], _∷_}
-use mathlib.Core.Path.{_≡_, refl, _∙_, ap}
+use mathlib.Core.Path.{_≡_, refl, ap}
 use Prim.Native.Nat.{ℕ, _-_, _<_, _≤_}
 use lib.Dec.{ltb}
 use lib.ListN.{length}
-use Rattle.base.specs.Lay.{noRoom}
 use Rattle.answer.specs.declared.Answer.{Answer}
 use Rattle.answer.specs.declared.Answer.the-variants.{Done, Full}
-use Rattle.codec.specs.Message.{tableSize}
 use Rattle.setup.specs.Setup.{termsWith}
 use Rattle.timers.specs.declared.Clocks.{Clocks}
 use Rattle.timers.specs.Timers.{heardAt}
 use Rattle.nonces.specs.declared.Nonces.{Nonces}
-use Rattle.nonces.specs.declared.Issued.{Issued}
-use Rattle.nonces.specs.Nonces.{outstanding, isOutstanding, spent, fits, IssuedAs}
+use Rattle.nonces.specs.Nonces.{outstanding, isOutstanding, spent, issued}
 use Rattle.events.specs.declared.Pushed.{Pushed}
 use Rattle.events.specs.declared.Event.the-variants as Event
 use Rattle.events.specs.Events.{heldEvents, hasRoom, withoutInput, PushedAs}
@@ -29,12 +26,12 @@ use Rattle.endpoint.specs.declared.Endpoint.{Endpoint}
 use Rattle.endpoint.specs.declared.Ended.{Ended}
 use Rattle.endpoint.specs.declared.handshake.Requested.{Requested}
 use Rattle.endpoint.specs.Endpoint.{seen, DidAs, DoneAs}
-use Rattle.endpoint.specs.Inside.Handshake.{requestWire, RequestedAs}
+use Rattle.endpoint.specs.Inside.Handshake.{RequestedAs}
 use Rattle.endpoint.proofs.Laws.Ends.{remade, refused-did, refused-done, queued-did, done-done}
 use Rattle.endpoint.proofs.Laws.Room.{full-events, room-none, reacted-full, reacted-done}
 use Rattle.endpoint.proofs.Laws.Message.Hearing.{not-resumes}
 use Rattle.endpoint.proofs.Laws.Message.Unqueued.{unqueued}
-use Rattle.endpoint.proofs.Laws.Handshake.{request-full, request-fits, nonces-after}
+use Rattle.endpoint.proofs.Laws.Handshake.{request-full, request-fits}
 
 module _ (e : Endpoint) (now nonce magic reply : ℕ) where
   -- by whether more are to come
@@ -51,41 +48,35 @@ module _ (e : Endpoint) (now nonce magic reply : ℕ) where
     unfolding replied counted running seen
     last-unannounced = refused-done e Full _ (reacted-full 0 (seen e) (Counting false) refl refl (full-events [] (Counting false .effect) crowded))
 
-  -- v: the nonces without the reply's
-  module _ (v : Nonces) (ev : outstanding v ≡ spent reply (outstanding (e .nonces))) (left : ℕ) (el : left ≡ e .sync .remaining - 1) where
+  -- v: the nonces after it
+  module _ (v : Nonces) (left : ℕ) (el : left ≡ e .sync .remaining - 1) where
     module _ (buffer : List ℕ) where
       abbrev Early : Endpoint → Answer → List ℕ → Type 0
       Early n a buffer′ = DidAs e (reacted (length buffer) (seen e) (Counting true)) buffer (record { answer = a; endpoint = n }) buffer′
 
-      module _ (d : Clocks) (ed : d ≡ heardAt now (e .clocks)) (i : Issued) (ei : IssuedAs v nonce i) (r : Requested) (buffer′ : List ℕ)
-          (er : RequestedAs (i .ok) d (e .setup .magic) now nonce buffer (e .queued) r buffer′) where
-        fit : r .ok ≡ fits nonce (spent reply (outstanding (e .nonces))) && not (noRoom buffer (e .queued) (tableSize (requestWire (e .setup .magic) nonce)))
-        fit = er .ok ∙ rw (ei .ok, ev)
-
+      module _ (r : Requested) (buffer′ : List ℕ) (er : RequestedAs (heardAt now (e .clocks)) (e .setup .magic) now nonce buffer (e .queued) r buffer′) where
         pub early-choked : r .ok ≡ false → Early e Full buffer′
         unfolding reacted tested replied request counted nonceIssued queueWire seen termsWith
-        early-choked k =
-            rw (er .same k) (refused-did e Full _
-            (rw (request-full buffer (e .setup .magic) nonce (spent reply (outstanding (e .nonces))) (Counting true .effect) refl (r .ok) fit k)) buffer)
+        early-choked k = rw (er .same k) (refused-did e Full _ (rw (request-full buffer (e .setup .magic) nonce (Counting true .effect) refl (r .ok) (er .ok) k)) buffer)
 
-        pub early-done : (p : Pushed) → hasRoom (heldEvents (e .events)) 1 ≡ true
+        pub early-done : outstanding v ≡ issued nonce (spent reply (outstanding (e .nonces))) → (p : Pushed) → hasRoom (heldEvents (e .events)) 1 ≡ true
             → PushedAs (e .events) (hasRoom (heldEvents (e .events)) 1) (withoutInput (Event.Synchronizing 5 (5 - left)) ∷ []) p → r .ok ≡ true
-            → Early (remade e (e .pending) (e .acked) (e .history) (record { phase = e .sync .phase; remaining = left; «remote_magic» = e .sync .«remote_magic» }) (i .nonces) (r .clocks) (e .flags) (e .quality) (e .statuses) (e .checksums) (p .events) (r .end)) Done buffer′
+            → Early (remade e (e .pending) (e .acked) (e .history) (record { phase = e .sync .phase; remaining = left; «remote_magic» = e .sync .«remote_magic» }) v (r .clocks) (e .flags) (e .quality) (e .statuses) (e .checksums) (p .events) (r .end)) Done buffer′
         unfolding reacted tested replied request counted nonceIssued queueWire seen termsWith
-        early-done p room ep k =
+        early-done ev p room ep k =
             queued-did e _ (record { setup = refl; count = refl }) (Counting true .effect) _
-            (rw (request-fits buffer (e .setup .magic) nonce (spent reply (outstanding (e .nonces))) (Counting true .effect) refl (r .ok) fit k room))
+            (rw (request-fits buffer (e .setup .magic) nonce (Counting true .effect) refl (r .ok) (er .ok) k room))
             _ refl buffer buffer′ _ (er .queued k) refl refl
-            (rw (nonces-after i ei er k, ev, er .clocks k, ed, rw room at (ep .view), el))
+            (rw (ev, er .clocks k, rw room at (ep .view), el))
 
     abbrev Last : Endpoint → Type 0
     Last n = DoneAs e (reacted 0 (seen e) (Counting false)) (record { answer = Done; endpoint = n })
 
-    pub last-done : (d : Clocks) (p : Pushed) → hasRoom (heldEvents (e .events)) 1 ≡ true → d ≡ heardAt now (e .clocks)
+    pub last-done : outstanding v ≡ spent reply (outstanding (e .nonces)) → (d : Clocks) (p : Pushed) → hasRoom (heldEvents (e .events)) 1 ≡ true → d ≡ heardAt now (e .clocks)
         → PushedAs (e .events) (hasRoom (heldEvents (e .events)) 1) (withoutInput Event.Synchronized ∷ []) p
         → Last (remade e (e .pending) (e .acked) (e .history) (record { phase = Running; remaining = left; «remote_magic» = magic }) v d (e .flags) (e .quality) (e .statuses) (e .checksums) (p .events) (e .queued))
     unfolding replied counted running seen
-    last-done d p room ed ep =
+    last-done ev d p room ed ep =
         done-done e _ (record { setup = refl; count = refl }) (Counting false .effect) _ (reacted-done 0 (seen e) (Counting false) refl refl refl (room-none [] (Counting false .effect) refl room)) refl
         (rw (ev, el, ed, rw room at (ep .view)))
 

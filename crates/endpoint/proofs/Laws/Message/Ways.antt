@@ -1,5 +1,5 @@
 -- The ways out of `message` that are no Input's, and the end of a message that falls through: by what the calls in them gave.
-use borrow.Author.Tests.{not-true, ltb-true, ltb-false, lt-ltb, le-ltb}
+use borrow.Author.Tests.{ltb-true, ltb-false, lt-ltb, le-ltb}
 use mathlib.Core.Bool.{Bool, true, false, not, _&&_, _||_}
 use mathlib.Core.List.{List, [], _∷_}
 use mathlib.Core.Path.{_≡_, refl, sym, _∙_, ap}
@@ -7,22 +7,19 @@ use native.Mathlib.Omega.{arith}
 use Prim.Native.Nat.{ℕ, _-_, _<_, _≤_}
 use lib.Dec.{ltb, leb}
 use lib.ListN.{length}
-use lib.Seq.{take-length}
 use Rattle.answer.specs.declared.Answer.{Answer}
 use Rattle.answer.specs.declared.Answer.the-variants.{Done, Full, Overflow}
 use Rattle.base.specs.Pick.{pick}
-use Rattle.base.proofs.Bools.{both, neither}
+use Rattle.base.proofs.Bools.{neither}
 use Rattle.codec.specs.Message.{reportList, kindOf}
 use Rattle.codec.specs.declared.Wide.{Wide}
 use Rattle.codec.specs.declared.Message.{Message}
 use Rattle.codec.specs.declared.MessageBody.the-variants.{SyncReply, Input, InputAck, ChecksumReport}
-use Rattle.nonces.specs.declared.Issued.{Issued}
 use Rattle.nonces.specs.declared.Spent.{Spent}
-use Rattle.nonces.specs.declared.Nonces.{Nonces}
-use Rattle.nonces.specs.Nonces.{outstanding, isOutstanding, spent, renewed, IssuedAs, SpentAs}
+use Rattle.nonces.specs.Nonces.{outstanding, isOutstanding, spent, issued, renewed, SpentAs}
 use Rattle.setup.specs.Setup.{intervalOf}
 use Rattle.timers.specs.declared.Clocks.{Clocks}
-use Rattle.timers.specs.Timers.{badClock, sentAt, heardAt}
+use Rattle.timers.specs.Timers.{badClock, heardAt}
 use Rattle.pending.specs.declared.Dropped.{Dropped}
 use Rattle.pending.specs.Pending.{DroppedAs}
 use Rattle.checksums.specs.declared.Reported.{Reported}
@@ -46,7 +43,7 @@ use Rattle.endpoint.specs.declared.message.packet.Opened.{Opened}
 use Rattle.endpoint.specs.declared.message.reaction.Reacted.{Reacted}
 use Rattle.endpoint.specs.Endpoint.{seen, DidAs, DoneAs}
 use Rattle.endpoint.specs.Inside.Admission.{WeighedAs}
-use Rattle.endpoint.specs.Inside.Handshake.{RequestedAs, progressOf, CountedAs}
+use Rattle.endpoint.specs.Inside.Handshake.{progressOf, CountedAs}
 use Rattle.endpoint.specs.Inside.Hearing.{resumedFlags}
 use Rattle.endpoint.specs.Inside.Packet.{OpenedAs}
 use Rattle.endpoint.specs.Inside.Reaction.{ReactedAs}
@@ -99,26 +96,9 @@ module _ (e : Endpoint) (from : ℕ) (m : Message) (p : List ℕ) (now epoch non
       unannounced true h k = early (ltb-true 1 (e .sync .remaining) h) _ buffer (early-unannounced e now nonce (m .magic) reply k buffer)
       unannounced false h k = last (ltb-false 1 (e .sync .remaining) h) _ (last-unannounced e now nonce (m .magic) reply k)
 
-      -- the nonces without the reply's, by themselves
-      abbrev without : Nonces
-      without = record { list = spent reply (outstanding (e .nonces)); used = length (spent reply (outstanding (e .nonces))) }
-
-      without-is : outstanding without ≡ spent reply (outstanding (e .nonces))
-      unfolding outstanding
-      without-is = take-length (spent reply (outstanding (e .nonces)))
-
-      -- with the next one
-      abbrev next : Issued
-      next = record { nonces = y .nonces; ok = true }
-
-      next-issued : 0 < l → IssuedAs without nonce next
+      next-issued : 0 < l → outstanding (y .nonces) ≡ issued nonce (spent reply (outstanding (e .nonces)))
       unfolding renewed
-      next-issued more =
-          record {
-            ok = rw (without-is, ey .room counts);
-            view = rw (without-is, ey .room counts) (ey .view ∙ rw (outstood, lt-ltb 0 l more));
-            same = λ z. cc;
-          }
+      next-issued more = ey .view ∙ rw (outstood, lt-ltb 0 l more)
 
       none-issued : l ≤ 0 → outstanding (y .nonces) ≡ spent reply (outstanding (e .nonces))
       unfolding renewed
@@ -130,19 +110,13 @@ module _ (e : Endpoint) (from : ℕ) (m : Message) (p : List ℕ) (now epoch non
         abbrev Gone : Requested
         Gone = record { clocks = g .clocks; end = g .end; ok = g .ok }
 
-        asked : 0 < l → f ≡ false → RequestedAs true (heardAt now (e .clocks)) (e .setup .magic) now nonce buffer (e .queued) Gone b′
-        asked more roomy = rw roomy at (eg .more more)
-
-        unannounced-so : f ≡ true → Ends e Full buffer
-        unannounced-so k = unannounced (ltb 1 (e .sync .remaining)) refl (one-crowds (e .events) n en (sym ef ∙ k))
-
         choked : (more crowded : Bool) → ltb 0 l ≡ more → f ≡ crowded → g .ok ≡ false → Ends e Full b′
+        choked more true h crowded k =
+            rw (eg .crowded (ap not crowded) .1) (unannounced (ltb 1 (e .sync .remaining)) refl (one-crowds (e .events) n en (sym ef ∙ crowded)))
         choked true false h roomy k =
             let more = ltb-true 0 l h in
-            early (omega (arith, more, el)) _ b′ (early-choked e now nonce (m .magic) reply without without-is l el buffer _ refl next (next-issued more) Gone b′ (asked more roomy) k)
-        choked true true h crowded k = rw (eg .more (ltb-true 0 l h) .same k) (unannounced-so crowded)
-        choked false false h roomy k = absurd (false-true (sym k ∙ eg .over (ltb-false 0 l h) .2 ∙ ap not roomy))
-        choked false true h crowded k = rw (eg .over (ltb-false 0 l h) .3) (unannounced-so crowded)
+            early (omega (arith, more, el)) _ b′ (early-choked e now nonce (m .magic) reply (y .nonces) l el buffer Gone b′ (eg .more (ap not roomy) more) k)
+        choked false false h roomy k = absurd (false-true (sym k ∙ eg .over (ap not roomy) (ltb-false 0 l h) .2))
 
         pub reply-choked : g .ok ≡ false → Ends e Full b′
         reply-choked = choked (ltb 0 l) f refl refl
@@ -152,23 +126,27 @@ module _ (e : Endpoint) (from : ℕ) (m : Message) (p : List ℕ) (now epoch non
           room : f ≡ false → hasRoom (heldEvents (e .events)) 1 ≡ true
           room roomy = one-fits (e .events) n en (sym ef ∙ roomy)
 
-          counted : (more : Bool) → ltb 0 l ≡ more → g .ok ≡ true
+          counted : (more : Bool) → ltb 0 l ≡ more → f ≡ false → g .ok ≡ true
               → Ends (remade e (e .pending) (e .acked) (e .history) (pick more (record { phase = e .sync .phase; remaining = l; «remote_magic» = e .sync .«remote_magic» }) (record { phase = Running; remaining = l; «remote_magic» = m .magic })) (y .nonces) (g .clocks) (e .flags) (e .quality) (e .statuses) (e .checksums) (q .events) (g .end)) Done b′
-          counted true h k =
+          counted true h roomy k =
               let more = ltb-true 0 l h in
-              let roomy = not-true f (both (not f) _ (sym (eg .more more .ok) ∙ k) .0) in
               early (omega (arith, more, el)) _ b′
-              (early-done e now nonce (m .magic) reply without without-is l el buffer _ refl next (next-issued more) Gone b′ (asked more roomy) q (room roomy) (rw (ex, h) at eq) k)
-          counted false h k =
+              (early-done e now nonce (m .magic) reply (y .nonces) l el buffer Gone b′ (eg .more (ap not roomy) more) (next-issued more) q (room roomy) (rw (ex, h) at eq) k)
+          counted false h roomy k =
               let none = ltb-false 0 l h in
-              let over = eg .over none in
+              let over = eg .over (ap not roomy) none in
               rw (over .1, over .3)
               (last (omega (arith, none, el)) _
-              (last-done e now nonce (m .magic) reply (y .nonces) (none-issued none) l el (g .clocks) q (room (not-true f (sym (over .2) ∙ k))) (over .0) (rw (ex, h) at eq)))
+              (last-done e now nonce (m .magic) reply (y .nonces) l el (none-issued none) (g .clocks) q (room roomy) (over .0) (rw (ex, h) at eq)))
 
           pub reply-counted : g .ok ≡ true
               → Ends (remade e (e .pending) (e .acked) (e .history) (g .sync) (y .nonces) (g .clocks) (e .flags) (e .quality) (e .statuses) (e .checksums) (q .events) (g .end)) Done b′
-          reply-counted k = rw (eg .sync) (counted (ltb 0 l) refl k)
+          reply-counted k = go f refl
+            where
+              go : (crowded : Bool) → f ≡ crowded
+                  → Ends (remade e (e .pending) (e .acked) (e .history) (g .sync) (y .nonces) (g .clocks) (e .flags) (e .quality) (e .statuses) (e .checksums) (q .events) (g .end)) Done b′
+              go true crowded = absurd (false-true (sym (eg .crowded (ap not crowded) .0) ∙ k))
+              go false roomy = rw (eg .sync (ap not roomy)) (counted (ltb 0 l) refl roomy k)
 
   -- an Input that is discarded
   pub input-passes : (d : Bool) (start ack : ℕ) → m .body ≡ Input d start ack → (o : Opened) → OpenedAs (e .history) (e .setup) d start (m .reports .count) (length p) o
