@@ -1,6 +1,6 @@
 -- Laws of keyed elements (specs/Keyed.antt), over the element type and its key: the loops of a store that search its view, and what holds of the list before and after.
 use borrow.Author.Tests.{eq-eqb, ne-eqb, eqb-true, eqb-false, lt-ltb}
-use mathlib.Core.Bool.{Bool, true, false, not, _&&_}
+use mathlib.Core.Bool.{Bool, true, false, not, _&&_, and-true}
 use mathlib.Core.List.{List, [], _∷_, _++_}
 use mathlib.Core.Path.{_≡_, refl, sym, _∙_, ap}
 use Prim.Native.Nat.{compare·suc-suc, ℕ, zero, suc, _+_, _<_, _≤_}
@@ -161,7 +161,7 @@ module _ {X : Type 0} (key : X → ℕ) where
   -- no key stands twice, so one is held behind the first i exactly where it is held and is not among these
   pub drop-has : (k i : ℕ) (l : List X) → Distinct key l → has key k (drop i l) ≡ has key k l && not (has key k (take i l))
   unfolding has Distinct
-  drop-has k zero l d = elim (has key k l) as (λ b. b ≡ b && true) [ true ↦ refl | false ↦ refl ]
+  drop-has k zero l d = sym (and-true (has key k l))
   drop-has k (suc i) [] d = refl
   drop-has k (suc i) (x ∷ xs) d =
       elim (eqb k (key x)) as (λ b. eqb k (key x) ≡ b → has key k (drop i xs) ≡ pick b true (has key k xs) && not (pick b true (has key k (take i xs))))

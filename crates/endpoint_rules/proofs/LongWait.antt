@@ -2,12 +2,14 @@
 use borrow.Author.Tests.{ne-eqb}
 use mathlib.Core.Bool.{false}
 use mathlib.Core.List.{List, [], _∷_, _++_, map}
+use mathlib.Core.Logic.{⊎-elim}
 use mathlib.Core.Path.{_≡_, refl, _∙_, ap}
 use native.Mathlib.Omega.{arith}
-use Prim.Native.Nat.{ℕ, zero, suc, _+_, _*_, _^_, _<_, _≤_}
+use Prim.Native.Nat.{ℕ, zero, suc, _+_, _-_, _*_, _^_, _<_, _≤_, min}
 use lib.ListN.{length}
 use Rattle.base.specs.Keyed.{kept, has, without}
 use Rattle.base.specs.Last.{lastOf}
+use Rattle.base.proofs.Digits.{below-or-not}
 use Rattle.base.proofs.Removal.{without-none}
 use Rattle.nonces.specs.Nonces.{isOutstanding, spent, issued, following}
 use Rattle.nonces.proofs.Laws.{issued-all, issued-forgets}
@@ -49,15 +51,26 @@ following-end : (first n nonce : ℕ) → nonce ≡ first + n → following firs
 following-end first zero nonce h = let e : nonce ≡ first = omega arith in rw e
 following-end first (suc n) nonce h = ap (λ (l : List ℕ). first ∷ l) (following-end (suc first) n nonce (omega arith))
 
-next-kept : (first n nonce : ℕ) → nonce ≡ first + n → n ≤ 255 → issued nonce (following first n) ≡ following first (suc n)
-next-kept first n nonce h few =
-    let same = following-spent first n nonce (omega arith) in
-    issued-all nonce (following first n) (rw same (omega (arith, following-length first n))) ∙ rw same (following-end first n nonce h)
+-- up to 256 none is forgotten, and then the first
+next-issued : (first n nonce : ℕ) → nonce ≡ first + n → n ≤ 256 → issued nonce (following first n) ≡ following (first + (suc n - 256)) (min (suc n) 256)
+next-issued first n nonce h few = ⊎-elim kept-all forgets-first (below-or-not n 256)
+  where
+    same : spent nonce (following first n) ≡ following first n
+    same = following-spent first n nonce (omega arith)
 
-next-forgets : (first nonce : ℕ) → nonce ≡ first + 256 → issued nonce (following first 256) ≡ following (suc first) 256
-next-forgets first nonce h =
-    issued-forgets nonce (following first 256) first (following (suc first) 255) (following-spent first 256 nonce (omega arith)) (following-length (suc first) 255)
-    ∙ following-end (suc first) 255 nonce (omega arith)
+    kept-all : n < 256 → issued nonce (following first n) ≡ following (first + (suc n - 256)) (min (suc n) 256)
+    kept-all k =
+        let a : first + (suc n - 256) ≡ first = omega arith in
+        let b : min (suc n) 256 ≡ suc n = omega arith in
+        rw (a, b) (issued-all nonce (following first n) (rw same (omega (arith, following-length first n))) ∙ rw same (following-end first n nonce h))
+
+    forgets-first : 256 ≤ n → issued nonce (following first n) ≡ following (first + (suc n - 256)) (min (suc n) 256)
+    forgets-first k =
+        let full : n ≡ 256 = omega arith in
+        let a : first + (suc n - 256) ≡ suc first = omega arith in
+        let b : min (suc n) 256 ≡ 256 = omega arith in
+        rw (a, b, full)
+        (issued-forgets nonce (following first 256) first (following (suc first) 255) (rw full at same) (following-length (suc first) 255) ∙ following-end (suc first) 255 nonce (omega arith))
 
 -- made at clock 0
 abbrev early : Seen
@@ -96,37 +109,25 @@ module _ (first n last queued : ℕ) (soon : last < 2 ^ 32) (room : queued + 10 
   asks l e =
       rw (act-requests 2 (defaultStatus ∷ defaultStatus ∷ []) (last + 201) (epochAt (last + 201)) (first + n) 65536 (asked first n last queued) (omega arith) (omega arith) refl refl (omega arith) (omega arith) (omega arith), e)
 
--- ---- many acts. Up to 256 nonces none is forgotten; then each forgets the oldest
-
-up-to-256 : (m first n last queued : ℕ) → n + m ≤ 256 → last + 201 * m < 2 ^ 32 → queued + 10 * m ≤ 65536
-    → after (asking (last + 201) (first + n) m) (asked first n last queued) ≡ asked first (n + m) (last + 201 * m) (queued + 10 * m)
-up-to-256 zero first n last queued h soon room =
-    let a : n + 0 ≡ n = omega arith in
-    let b : last + 201 * 0 ≡ last = omega arith in
-    let c : queued + 10 * 0 ≡ queued = omega arith in
-    rw (a, b, c)
-up-to-256 (suc m) first n last queued h soon room =
-    let a : n + suc m ≡ suc n + m = omega arith in
-    let b : last + 201 * suc m ≡ last + 201 + 201 * m = omega arith in
-    let c : queued + 10 * suc m ≡ queued + 10 + 10 * m = omega arith in
-    let d : suc (first + n) ≡ first + suc n = omega arith in
-    ap (after (asking (last + 201 + 201) (suc (first + n)) m)) (asks first n last queued (omega arith) (omega arith) (following first (suc n)) (next-kept first n (first + n) refl (omega arith)))
-    ∙ rw (a, b, c, d) (up-to-256 m first (suc n) (last + 201) (queued + 10) (omega arith) (omega arith) (omega arith))
-
-from-256-on : (m first last queued : ℕ) → last + 201 * m < 2 ^ 32 → queued + 10 * m ≤ 65536
-    → after (asking (last + 201) (first + 256) m) (asked first 256 last queued) ≡ asked (first + m) 256 (last + 201 * m) (queued + 10 * m)
-from-256-on zero first last queued soon room =
-    let a : first + 0 ≡ first = omega arith in
-    let b : last + 201 * 0 ≡ last = omega arith in
-    let c : queued + 10 * 0 ≡ queued = omega arith in
-    rw (a, b, c)
-from-256-on (suc m) first last queued soon room =
-    let a : first + suc m ≡ suc first + m = omega arith in
-    let b : last + 201 * suc m ≡ last + 201 + 201 * m = omega arith in
-    let c : queued + 10 * suc m ≡ queued + 10 + 10 * m = omega arith in
-    let d : suc (first + 256) ≡ suc first + 256 = omega arith in
-    ap (after (asking (last + 201 + 201) (suc (first + 256)) m)) (asks first 256 last queued (omega arith) (omega arith) (following (suc first) 256) (next-forgets first (first + 256) refl))
-    ∙ rw (a, b, c, d) (from-256-on m (suc first) (last + 201) (queued + 10) (omega arith) (omega arith))
+-- ---- m acts: the nonces go on to follow each other, the last 256 of them at the most
+many-acts : (m first n last queued : ℕ) → n ≤ 256 → last + 201 * m < 2 ^ 32 → queued + 10 * m ≤ 65536
+    → after (asking (last + 201) (first + n) m) (asked first n last queued) ≡ asked (first + (n + m - 256)) (min (n + m) 256) (last + 201 * m) (queued + 10 * m)
+many-acts zero first n last queued few soon room =
+    let a : first + (n + 0 - 256) ≡ first = omega arith in
+    let b : min (n + 0) 256 ≡ n = omega arith in
+    let c : last + 201 * 0 ≡ last = omega arith in
+    let d : queued + 10 * 0 ≡ queued = omega arith in
+    rw (a, b, c, d)
+many-acts (suc m) first n last queued few soon room =
+    let f = first + (suc n - 256) in
+    let k = min (suc n) 256 in
+    let a : first + (n + suc m - 256) ≡ f + (k + m - 256) = omega arith in
+    let b : min (n + suc m) 256 ≡ min (k + m) 256 = omega arith in
+    let c : last + 201 * suc m ≡ last + 201 + 201 * m = omega arith in
+    let d : queued + 10 * suc m ≡ queued + 10 + 10 * m = omega arith in
+    let e : suc (first + n) ≡ f + k = omega arith in
+    ap (after (asking (last + 201 + 201) (suc (first + n)) m)) (asks first n last queued (omega arith) (omega arith) (following f k) (next-issued first n (first + n) refl few))
+    ∙ rw (a, b, c, d, e) (many-acts m f k (last + 201) (queued + 10) (omega arith) (omega arith) (omega arith))
 
 -- ---- the minute
 
@@ -134,13 +135,15 @@ begun : after (Call.synchronize 0 70000 1 65536 ∷ []) early ≡ asked 1 1 0 10
 unfolding kept without issued lastOf hasRoom termsWith made tested queueWire queueSize done bufferFull isFull nonceIssued request started synchronized fresh synchronizeStep step
 begun = refl
 
--- the 256th request goes out at 51,255, and 1 to 256 are outstanding
-at-256 : after (asking 201 2 255) (after (Call.synchronize 0 70000 1 65536 ∷ []) early) ≡ asked 1 256 51255 2560
-at-256 = rw begun (up-to-256 255 1 1 0 10 (omega arith) (omega arith) (omega arith))
+abbrev minuteOf : (acts : ℕ) → Seen
+minuteOf acts = after (asking 201 2 acts) (after (Call.synchronize 0 70000 1 65536 ∷ []) early)
 
--- 44 acts later, at 60,099, the 300th stands, and 45 to 300 are outstanding
-at-300 : after (asking 51456 257 44) (after (asking 201 2 255) (after (Call.synchronize 0 70000 1 65536 ∷ []) early)) ≡ asked 45 256 60099 3000
-at-300 = rw at-256 (from-256-on 44 1 51255 2560 (omega arith) (omega arith))
+-- the 256th request goes out at 51,255, and 1 to 256 are outstanding; at 60,099 the 300th stands, and 45 to 300 are outstanding
+at-256 : minuteOf 255 ≡ asked 1 256 51255 2560
+at-256 = rw begun (many-acts 255 1 1 0 10 (omega arith) (omega arith) (omega arith))
+
+at-300 : minuteOf 299 ≡ asked 45 256 60099 3000
+at-300 = rw begun (many-acts 299 1 1 0 10 (omega arith) (omega arith) (omega arith))
 
 -- a reply from the peer at a clock, with a nonce for the next request
 abbrev replying : (reply now nonce : ℕ) → Call

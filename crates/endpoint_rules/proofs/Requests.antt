@@ -1,7 +1,7 @@
 -- Requests and replies, for every number of nonces outstanding: a request that is due goes out (E-46, E-70), no refusal comes from nonces (E-70), and a reply whose
 -- nonce is not outstanding, be it forgotten, spent or never issued, is at most heard (E-7, E-71).
 use borrow.Author.Tests.{lt-ltb, le-ltb, lt-leb, le-leb, eq-eqb}
-use mathlib.Core.Bool.{Bool, true, false, _&&_}
+use mathlib.Core.Bool.{Bool, true, false, _&&_, and-false}
 use mathlib.Core.List.{List, [], _∷_, append-nil}
 use mathlib.Core.Path.{_≡_, refl, _∙_, ap}
 use native.Mathlib.Omega.{arith}
@@ -135,7 +135,7 @@ module _ (from count magic reply now epoch nonce buffer : ℕ) (s : Seen) (none 
   Replying = messageStep from count (bodyOnly magic (SyncReply reply)) now epoch nonce buffer s
 
   counts-not : counts reply s ≡ false
-  counts-not = rw none (elim (isSynchronizing (s .phase)) as (λ b. b && false ≡ false) [ true ↦ refl | false ↦ refl ])
+  counts-not = rw none (and-false (isSynchronizing (s .phase)))
 
   only-heard : onSyncReply now nonce magic reply (heard now s) ≡ plainly (heard now s)
   unfolding onSyncReply replied

@@ -1,6 +1,6 @@
 -- Laws of the nonces outstanding, on their list: which are outstanding after an issue, which one is forgotten, no nonce twice, lengths.
 use borrow.Author.Tests.{lt-ltb, le-ltb, eq-eqb, ne-eqb}
-use mathlib.Core.Bool.{true, false, not, _&&_}
+use mathlib.Core.Bool.{true, false, not, _&&_, and-false}
 use mathlib.Core.List.{List, [], _∷_, _++_, append-assoc}
 use mathlib.Core.Path.{_≡_, refl, sym, _∙_, ap}
 use Prim.Native.Nat.{ℕ, _+_, _-_, _≤_}
@@ -96,7 +96,7 @@ module _ (nonce : ℕ) (l : List ℕ) where
 
   -- so what is forgotten is not outstanding any more
   pub forgotten-gone : Distinct (λ x. x) l → (j : ℕ) → (j ≡ nonce → ⊥) → isOutstanding j (forgotten nonce l) ≡ true → isOutstanding j (issued nonce l) ≡ false
-  forgotten-gone d j n e = issued-others d j n ∙ rw e (elim (isOutstanding j l) as (λ b. b && false ≡ false) [ true ↦ refl | false ↦ refl ])
+  forgotten-gone d j n e = issued-others d j n ∙ rw e (and-false (isOutstanding j l))
 
   -- no nonce stands twice
   pub issued-distinct : Distinct (λ x. x) l → Distinct (λ x. x) (issued nonce l)

@@ -1,11 +1,10 @@
 -- A poll while the handshake goes on, for every number of nonces outstanding: a request that is due goes out (E-70), and no event of its endpoint is left waiting.
 use borrow.Author.Tests.{le-ltb}
-use mathlib.Core.Bool.{Bool, true, false, not, _&&_}
+use mathlib.Core.Bool.{Bool, true, false, not, and-false}
 use mathlib.Core.List.{List, [], _∷_, _++_}
 use mathlib.Core.Path.{_≡_, refl, _∙_, ap}
 use native.Mathlib.Omega.{arith}
 use Prim.Native.Nat.{ℕ, _+_, _^_, _<_, _≤_}
-use lib.Dec.{eqb}
 use lib.ListN.{length}
 use Rattle.base.specs.Pick.{pick}
 use Rattle.nonces.specs.Nonces.{issued}
@@ -94,10 +93,7 @@ module _ (now epoch nonce buffer : ℕ) (w : Watch) (tn : now < 2 ^ 62) (te : ep
   -- what it has queued then fits the buffer, so its messages are taken
   takes : hostTakes buffer Acts ≡ changed (withQueued 0 (Acts .after))
   unfolding hostTakes takeStep tested
-  takes =
-      rw (le-ltb buffer (Acts .after .queued) (rw (acts .queued) room))
-      (elim (not (isShutdown (Acts .after .phase))) as (λ b. pick (eqb (pick (b && false) 1 0) 0) (changed (withQueued 0 (Acts .after))) (hostRefused 5 (Acts .after)) ≡ changed (withQueued 0 (Acts .after)))
-      [ true ↦ refl | false ↦ refl ])
+  takes = rw (le-ltb buffer (Acts .after .queued) (rw (acts .queued) room), and-false (not (isShutdown (Acts .after .phase))))
 
   polls : pollStep now epoch nonce buffer w ≡ polled now epoch nonce buffer w
   unfolding pollStep decided pollRefusal

@@ -1,7 +1,7 @@
 -- `act` tests clocks and count, and does what its phase brings.
 use mathlib.Core.Bool.{false}
 use mathlib.Core.Logic.{⊎-elim}
-use mathlib.Core.Path.{_≡_, sym, _∙_}
+use mathlib.Core.Path.{_≡_, sym, _∙_, ap, subst, subst₂}
 use native.Mathlib.Omega.{arith}
 use Prim.Native.Nat.{_≤_}
 use lib.ListN.{length}
@@ -28,6 +28,19 @@ returns c =
     act-clocks (a .self) (a .out .now) (a .statuses) (a .now) (a .epoch) (a .nonce)
     (⊎-elim (λ w. rw (← c .before .is-bad .ensures, w .taken)) (λ w. rw (← c .before .is-bad .ensures, w .0 .left, ← w .1 .ensures, w .2 .taken)) (c .if1 .came))
 
+-- the points that the statements below speak of, each from a later one
+abbrev start-of : tie.Else2 → tie.Start
+start-of c = c .before .before .before .before .before
+
+abbrev checked-of : tie.After-due-at → tie.Else2
+checked-of c = c .before .before .before .before .before .before .before .before
+
+abbrev due-of : tie.After-sends → tie.After-due-at
+due-of c = c .before .before .before .before
+
+abbrev sends-of : tie.Joined9 → tie.After-sends
+sends-of c = c .before .before .before .before .before .before
+
 good-clocks : (c : tie.Else2) → badClocks (c .before .before .before .before .before .args .now) (c .before .before .before .before .before .args .epoch) ≡ false
 good-clocks c = rw (← c .before .before .before .is-bad .ensures, c .before .before .if1 .left, ← c .before .is-bad2 .ensures, c .if2 .left)
 
@@ -36,7 +49,8 @@ cast-if3 c = search needs
 
 returns-2 : tie.Need-returns-2
 returns-2 c =
-    let a = c .before .before .before .before .before .before .before .before .args in
+    let start : tie.Start = search in
+    let a = start .args in
     act-count (a .self) (a .out .now) (a .statuses) (a .now) (a .epoch) (a .nonce) (good-clocks (c .before .before .before)) (c .if3 .taken)
 
 -- ---- Synchronizing
@@ -92,10 +106,12 @@ returns-4 c =
 
 returns-5 : tie.Need-returns-5
 returns-5 c =
-    let s = c .before .before .before .before .before .before .before .before .before .before .before .before .before in
-    let a = s .args in
-    act-synchronizing (a .self) (a .out .now) (a .statuses) (a .now) (a .epoch) (a .nonce) (good-clocks (c .before .before .before .before .before .before .before .before)) (c .before .before .before .before .before .if3 .left) (c .before .before .enum-told .given .1) _ _
-    (synchronizing-idle (a .self) (a .out .now) (a .now) (a .nonce) (no-event-fits (a .self) _ (s .good .0)) (sym (c .before .passed .ensures) ∙ c .if4 .left))
+    let else3 : tie.Else3 = search in
+    let else2 : tie.Else2 = search in
+    let start : tie.Start = search in
+    let a = start .args in
+    act-synchronizing (a .self) (a .out .now) (a .statuses) (a .now) (a .epoch) (a .nonce) (good-clocks else2) (else3 .if3 .left) (c .before .before .enum-told .given .1) _ _
+    (synchronizing-idle (a .self) (a .out .now) (a .now) (a .nonce) (no-event-fits (a .self) _ (start .good .0)) (sym (c .before .passed .ensures) ∙ c .if4 .left))
 
 -- ---- Running
 
@@ -117,8 +133,8 @@ count-requires-2 c κs = search needs
 few : (c : tie.After-count2) → c .count2 .result ≤ 640
 unfolding heldEvents
 few c =
-    let s = c .before .before .before .before .before .before .before .before .before .before .before .before .before .before .before in
-    omega (arith, c .count2 .ensures, entries-long (s .args .self) _ (s .good .0), view-le (s .args .self .events .used) (s .args .self .events .entries))
+    let start : tie.Start = search in
+    omega (arith, c .count2 .ensures, entries-long (start .args .self) _ (start .good .0), view-le (start .args .self .events .used) (start .args .self .events .entries))
 
 add-if6 : tie.Need-add-if6
 add-if6 c =
@@ -127,10 +143,14 @@ add-if6 c =
 
 returns-6 : tie.Need-returns-6
 returns-6 c =
-    let a = c .before .before .before .before .before .before .before .before .before .before .before .before .before .before .before .before .args in
+    let after-enum-told2 : tie.After-enum-told2 = search in
+    let else3 : tie.Else3 = search in
+    let else2 : tie.Else2 = search in
+    let start : tie.Start = search in
+    let a = start .args in
     let count = c .before .before .before .before .count in
     let due = c .before .before .before .due-at in
-    act-running (a .self) (a .out .now) (a .statuses) (a .now) (a .epoch) (a .nonce) (good-clocks (c .before .before .before .before .before .before .before .before .before .before .before)) (c .before .before .before .before .before .before .before .before .if3 .left) (c .before .before .before .before .before .enum-told2 .given .1) _ _
+    act-running (a .self) (a .out .now) (a .statuses) (a .now) (a .epoch) (a .nonce) (good-clocks else2) (else3 .if3 .left) (after-enum-told2 .enum-told2 .given .1) _ _
     (running-unannounced (a .self) (a .out .now) (a .statuses) (a .now) (a .epoch) (due .result) (count .result) (count .ensures) (due .ensures)
     (announced-full (a .self) (a .out .now) (a .statuses) (a .now) (a .epoch) (due .result) (c .before .count2 .result) (c .before .before .event-count .result) (c .before .count2 .ensures) (c .before .before .event-count .ensures) (c .if6 .taken)))
 
@@ -148,15 +168,21 @@ buffer-full-requires c κs = search needs
 
 returns-7 : tie.Need-returns-7
 returns-7 c =
-    let a = c .before .before .before .before .before .before .before .before .before .before .before .before .before .before .before .before .before .before .before .before .before .before .args in
-    let count = c .before .before .before .before .before .before .before .before .before .before .count in
-    let due = c .before .before .before .before .before .before .before .before .before .due-at in
+    let after-due-at : tie.After-due-at = search in
+    let after-count : tie.After-count = search in
+    let after-enum-told2 : tie.After-enum-told2 = search in
+    let else3 : tie.Else3 = search in
+    let else2 : tie.Else2 = search in
+    let start : tie.Start = search in
+    let a = start .args in
+    let count = after-count .count in
+    let due = after-due-at .due-at in
     let full = c .before .buffer-full in
     let size = c .before .before .size in
     let wide = c .before .before .before .sending-width in
-    act-running (a .self) (a .out .now) (a .statuses) (a .now) (a .epoch) (a .nonce) (good-clocks (c .before .before .before .before .before .before .before .before .before .before .before .before .before .before .before .before .before)) (c .before .before .before .before .before .before .before .before .before .before .before .before .before .before .if3 .left) (c .before .before .before .before .before .before .before .before .before .before .before .enum-told2 .given .1) _ _
+    act-running (a .self) (a .out .now) (a .statuses) (a .now) (a .epoch) (a .nonce) (good-clocks else2) (else3 .if3 .left) (after-enum-told2 .enum-told2 .given .1) _ _
     (running-full (a .self) (a .out .now) (a .statuses) (a .now) (a .epoch) (due .result) (count .result) (count .ensures) (due .ensures)
-    (size-is (a .self) (a .out .now) (a .statuses) (a .now) (a .epoch) (due .result) (wide .result) (size .result) (full .result) (wide .ensures) (acked-long (a .self) _ (c .before .before .before .before .before .before .before .before .before .before .before .before .before .before .before .before .before .before .before .before .before .before .good .0)) (size .ensures) (full .ensures) ∙ c .if8 .taken))
+    (size-is (a .self) (a .out .now) (a .statuses) (a .now) (a .epoch) (due .result) (wide .result) (size .result) (full .result) (wide .ensures) (acked-long (a .self) _ (start .good .0)) (size .ensures) (full .ensures) ∙ c .if8 .taken))
 
 newest-requires : tie.Need-newest-requires
 newest-requires c κs = search needs
@@ -165,49 +191,60 @@ pending-input-requires : tie.Need-pending-input-requires
 pending-input-requires c κs = search needs
 
 -- the pending inputs are queued, where they are due
-resent : (c : tie.Joined9) → Resent (c .before .before .before .before .before .before .before .before .before .before .before .before .before .before .before .before .before .before .before .before .before .before .before .args .self) (c .before .before .before .before .before .before .before .before .before .before .before .before .before .before .before .before .before .before .before .before .before .before .before .args .out .now) (c .before .before .before .before .before .before .before .before .before .before .before .before .before .before .before .before .before .before .before .before .before .before .before .args .statuses) (c .before .before .before .before .before .before .before .before .before .before .before .before .before .before .before .before .before .before .before .before .before .before .before .args .now) (c .before .before .before .before .before .before .before .before .before .before .before .before .before .before .before .before .before .before .before .before .before .before .before .args .epoch) (c .before .before .before .before .before .before .before .before .before .before .due-at .result) (c .before .before .before .before .sending-width .result) (c .if9 .self) (c .if9 .out)
+resent : (c : tie.Joined9) →
+    let a = start-of (checked-of (due-of (sends-of c))) .args in
+    Resent (a .self) (a .out .now) (a .statuses) (a .now) (a .epoch) (due-of (sends-of c) .due-at .result) (c .before .before .before .before .sending-width .result) (c .if9 .self) (c .if9 .out)
 resent c =
-    let a = c .before .before .before .before .before .before .before .before .before .before .before .before .before .before .before .before .before .before .before .before .before .before .before .args in
-    let d = c .before .before .before .before .before .before .before .before .before .before .due-at .result in
+    let a = start-of (checked-of (due-of (sends-of c))) .args in
+    let d = due-of (sends-of c) .due-at .result in
     let width = c .before .before .before .before .sending-width .result in
     ⊎-elim {0, 0, 0}
-    (λ w. rw (w .6, w .7) (resent-some (a .self) (a .out .now) (a .statuses) (a .now) (a .epoch) d width (w .0 .taken) (w .2 .result) (w .2 .ensures) (w .3 .result) _ (w .3 .ensures)))
-    (λ w. rw (w .1, w .2) (resent-none (a .self) (a .out .now) (a .statuses) (a .now) (a .epoch) d width (w .0 .left)))
+    (λ w. subst₂ (Resent (a .self) (a .out .now) (a .statuses) (a .now) (a .epoch) d width) (sym (w .6)) (sym (w .7)) (resent-some (a .self) (a .out .now) (a .statuses) (a .now) (a .epoch) d width (w .0 .taken) (w .2 .result) (w .2 .ensures) (w .3 .result) _ (w .3 .ensures)))
+    (λ w. subst₂ (Resent (a .self) (a .out .now) (a .statuses) (a .now) (a .epoch) d width) (sym (w .1)) (sym (w .2)) (resent-none (a .self) (a .out .now) (a .statuses) (a .now) (a .epoch) d width (w .0 .left)))
     (c .if9 .came)
 
-long-resent : (c : tie.Joined9) → length (c .if9 .out) ≡ length (c .before .before .before .before .before .before .before .before .before .before .before .before .before .before .before .before .before .before .before .before .before .before .before .args .out .now)
-long-resent c = ⊎-elim {0, 0, 0} (λ w. rw (w .7) (w .3 .kept .0)) (λ w. rw (w .2)) (c .if9 .came)
+long-resent : (c : tie.Joined9) →
+    let a = start-of (checked-of (due-of (sends-of c))) .args in
+    length (c .if9 .out) ≡ length (a .out .now)
+long-resent c = ⊎-elim {0, 0, 0} (λ w. ap length (w .7) ∙ w .3 .kept .0) (λ w. ap length (w .2)) (c .if9 .came)
 
 write-reports-requires : tie.Need-write-reports-requires
 write-reports-requires c κs = search needs
 
 -- what is due is queued
-packed : (c : tie.Joined7) → Packed (c .before .before .before .before .before .before .before .before .before .before .before .before .before .before .before .before .before .before .args .self) (c .before .before .before .before .before .before .before .before .before .before .before .before .before .before .before .before .before .before .args .out .now) (c .before .before .before .before .before .before .before .before .before .before .before .before .before .before .before .before .before .before .args .statuses) (c .before .before .before .before .before .before .before .before .before .before .before .before .before .before .before .before .before .before .args .now) (c .before .before .before .before .before .before .before .before .before .before .before .before .before .before .before .before .before .before .args .epoch) (c .before .before .before .before .before .due-at .result) (c .if7 .self) (c .if7 .out)
+packed : (c : tie.Joined7) →
+    let a = start-of (checked-of (due-of (c .before))) .args in
+    Packed (a .self) (a .out .now) (a .statuses) (a .now) (a .epoch) (due-of (c .before) .due-at .result) (c .if7 .self) (c .if7 .out)
 packed c =
-    let s = c .before .before .before .before .before .before .before .before .before .before .before .before .before .before .before .before .before .before in
+    let s = start-of (checked-of (due-of (c .before))) in
     let a = s .args in
-    let d = c .before .before .before .before .before .due-at .result in
+    let d = due-of (c .before) .due-at .result in
     ⊎-elim {0, 0, 0}
-    (λ w. rw (w .10, w .11) (packed-some (a .self) (a .out .now) (a .statuses) (a .now) (a .epoch) d (w .1 .result) (w .2 .result) (w .3 .result) (w .1 .ensures) (acked-long (a .self) _ (s .good .0)) (w .2 .ensures) (w .3 .ensures) (w .5 .self) (w .5 .out) (resent (record { before = record { before = record { before = record { before = record { before = record { before = c .before; if7 = w .0 }; sending-width = w .1 }; size = w .2 }; buffer-full = w .3 }; if8 = w .4 }; if9 = w .5 })) (w .7 .result) _ (w .7 .ensures) (w .4 .left)))
-    (λ w. rw (w .1, w .2) (packed-none (a .self) (a .out .now) (a .statuses) (a .now) (a .epoch) d (sym (c .before .sends .ensures) ∙ w .0 .left)))
+    (λ w. subst₂ (Packed (a .self) (a .out .now) (a .statuses) (a .now) (a .epoch) d) (sym (w .10)) (sym (w .11)) (packed-some (a .self) (a .out .now) (a .statuses) (a .now) (a .epoch) d (w .1 .result) (w .2 .result) (w .3 .result) (w .1 .ensures) (acked-long (a .self) _ (s .good .0)) (w .2 .ensures) (w .3 .ensures) (w .5 .self) (w .5 .out) (resent (record { before = record { before = record { before = record { before = record { before = record { before = c .before; if7 = w .0 }; sending-width = w .1 }; size = w .2 }; buffer-full = w .3 }; if8 = w .4 }; if9 = w .5 })) (w .7 .result) _ (w .7 .ensures) (w .4 .left)))
+    (λ w. subst₂ (Packed (a .self) (a .out .now) (a .statuses) (a .now) (a .epoch) d) (sym (w .1)) (sym (w .2)) (packed-none (a .self) (a .out .now) (a .statuses) (a .now) (a .epoch) d (sym (c .before .sends .ensures) ∙ w .0 .left)))
     (c .if7 .came)
 
-long : (c : tie.Joined7) → length (c .if7 .out) ≡ length (c .before .before .before .before .before .before .before .before .before .before .before .before .before .before .before .before .before .before .args .out .now)
-long c = ⊎-elim {0, 0, 0} (λ w. rw (w .11) (w .7 .kept .1 .0 ∙ long-resent (record { before = record { before = record { before = record { before = record { before = record { before = c .before; if7 = w .0 }; sending-width = w .1 }; size = w .2 }; buffer-full = w .3 }; if8 = w .4 }; if9 = w .5 }))) (λ w. rw (w .2)) (c .if7 .came)
+long : (c : tie.Joined7) →
+    let a = start-of (checked-of (due-of (c .before))) .args in
+    length (c .if7 .out) ≡ length (a .out .now)
+long c = ⊎-elim {0, 0, 0} (λ w. ap length (w .11) ∙ (w .7 .kept .1 .0 ∙ long-resent (record { before = record { before = record { before = record { before = record { before = record { before = c .before; if7 = w .0 }; sending-width = w .1 }; size = w .2 }; buffer-full = w .3 }; if8 = w .4 }; if9 = w .5 }))) (λ w. ap length (w .2)) (c .if7 .came)
 
 announce-requires : tie.Need-announce-requires
 announce-requires c κs = search needs
 
 -- and announced
-announced : (c : tie.Joined10) → Announced (c .before .before .before .before .before .before .before .before .before .before .before .before .before .before .before .before .before .before .before .args .self) (c .before .before .before .before .before .before .before .before .before .before .before .before .before .before .before .before .before .before .before .args .out .now) (c .before .before .before .before .before .before .before .before .before .before .before .before .before .before .before .before .before .before .before .args .statuses) (c .before .before .before .before .before .before .before .before .before .before .before .before .before .before .before .before .before .before .before .args .now) (c .before .before .before .before .before .before .before .before .before .before .before .before .before .before .before .before .before .before .before .args .epoch) (c .before .before .before .before .before .before .due-at .result) (c .before .if7 .self) (c .if10 .self)
+announced : (c : tie.Joined10) →
+    let a = start-of (checked-of (due-of (c .before .before))) .args in
+    Announced (a .self) (a .out .now) (a .statuses) (a .now) (a .epoch) (due-of (c .before .before) .due-at .result) (c .before .if7 .self) (c .if10 .self)
 announced c =
-    let a = c .before .before .before .before .before .before .before .before .before .before .before .before .before .before .before .before .before .before .before .args in
-    let d = c .before .before .before .before .before .before .due-at .result in
+    let after-event-count : tie.After-event-count = search in
+    let a = start-of (checked-of (due-of (c .before .before))) .args in
+    let d = due-of (c .before .before) .due-at .result in
     let n = c .before .before .before .before .count2 in
-    let m = c .before .before .before .before .before .event-count in
+    let m = after-event-count .event-count in
     ⊎-elim {0, 0, 0}
-    (λ w. rw (w .3) (announced-some (a .self) (a .out .now) (a .statuses) (a .now) (a .epoch) d (n .result) (m .result) (n .ensures) (m .ensures) (c .before .if7 .self) (packed (c .before) .0) (c .before .before .before .if6 .left) (w .1 .result) (w .1 .ensures)))
-    (λ w. rw (w .1) (announced-none (a .self) (a .out .now) (a .statuses) (a .now) (a .epoch) d (n .result) (m .result) (n .ensures) (m .ensures) (c .before .if7 .self) (packed (c .before) .0) (w .0 .left)))
+    (λ w. subst (Announced (a .self) (a .out .now) (a .statuses) (a .now) (a .epoch) d (c .before .if7 .self)) (sym (w .3)) (announced-some (a .self) (a .out .now) (a .statuses) (a .now) (a .epoch) d (n .result) (m .result) (n .ensures) (m .ensures) (c .before .if7 .self) (packed (c .before) .0) (c .before .before .before .if6 .left) (w .1 .result) (w .1 .ensures)))
+    (λ w. subst (Announced (a .self) (a .out .now) (a .statuses) (a .now) (a .epoch) d (c .before .if7 .self)) (sym (w .1)) (announced-none (a .self) (a .out .now) (a .statuses) (a .now) (a .epoch) d (n .result) (m .result) (n .ensures) (m .ensures) (c .before .if7 .self) (packed (c .before) .0) (w .0 .left)))
     (c .if10 .came)
 
 clocks-after-requires : tie.Need-clocks-after-requires
@@ -221,15 +258,24 @@ same-length-3 c = long (c .before .before .before)
 
 returns-8 : tie.Need-returns-8
 returns-8 c =
-    let a = c .before .before .before .before .before .before .before .before .before .before .before .before .before .before .before .before .before .before .before .before .before .args in
-    let count = c .before .before .before .before .before .before .before .before .before .count in
-    let due = c .before .before .before .before .before .before .before .before .due-at in
-    let n = c .before .before .before .before .before .before .count2 in
-    let m = c .before .before .before .before .before .before .before .event-count in
-    act-running (a .self) (a .out .now) (a .statuses) (a .now) (a .epoch) (a .nonce) (good-clocks (c .before .before .before .before .before .before .before .before .before .before .before .before .before .before .before .before)) (c .before .before .before .before .before .before .before .before .before .before .before .before .before .if3 .left) (c .before .before .before .before .before .before .before .before .before .before .enum-told2 .given .1) _ _
+    let else6 : tie.Else6 = search in
+    let after-count2 : tie.After-count2 = search in
+    let after-event-count : tie.After-event-count = search in
+    let after-due-at : tie.After-due-at = search in
+    let after-count : tie.After-count = search in
+    let after-enum-told2 : tie.After-enum-told2 = search in
+    let else3 : tie.Else3 = search in
+    let else2 : tie.Else2 = search in
+    let start : tie.Start = search in
+    let a = start .args in
+    let count = after-count .count in
+    let due = after-due-at .due-at in
+    let n = after-count2 .count2 in
+    let m = after-event-count .event-count in
+    act-running (a .self) (a .out .now) (a .statuses) (a .now) (a .epoch) (a .nonce) (good-clocks else2) (else3 .if3 .left) (after-enum-told2 .enum-told2 .given .1) _ _
     (running-done (a .self) (a .out .now) (a .statuses) (a .now) (a .epoch) (due .result) (count .result) (count .ensures) (due .ensures)
     (c .before .before .before .if7 .self) (c .before .before .if10 .self) (c .before .before .before .if7 .out) (c .before .clocks-after .result) (c .flags-after .result)
-    (announced-fits (a .self) (a .out .now) (a .statuses) (a .now) (a .epoch) (due .result) (n .result) (m .result) (n .ensures) (m .ensures) (c .before .before .before .before .before .if6 .left))
+    (announced-fits (a .self) (a .out .now) (a .statuses) (a .now) (a .epoch) (due .result) (n .result) (m .result) (n .ensures) (m .ensures) (else6 .if6 .left))
     (packed (c .before .before .before)) (announced (c .before .before)) (c .before .clocks-after .ensures) (c .flags-after .ensures))
 
 -- ---- Disconnected, and the phases in which nothing happens
@@ -239,23 +285,28 @@ enum-told-3 c = search needs
 
 returns-9 : tie.Need-returns-9
 returns-9 c =
-    let s = c .before .before .before .before .before .before .before .before .before .before .before .before .before in
-    let a = s .args in
-    act-disconnected (a .self) (a .out .now) (a .statuses) (a .now) (a .epoch) (a .nonce) (good-clocks (c .before .before .before .before .before .before .before .before)) (c .before .before .before .before .before .if3 .left) (c .before .before .enum-told3 .given .1) _
-    (disconnected-over (a .self) (a .now) (no-event-fits (a .self) _ (s .good .0)) (c .if11 .taken))
+    let else3 : tie.Else3 = search in
+    let else2 : tie.Else2 = search in
+    let start : tie.Start = search in
+    let a = start .args in
+    act-disconnected (a .self) (a .out .now) (a .statuses) (a .now) (a .epoch) (a .nonce) (good-clocks else2) (else3 .if3 .left) (c .before .before .enum-told3 .given .1) _
+    (disconnected-over (a .self) (a .now) (no-event-fits (a .self) _ (start .good .0)) (c .if11 .taken))
 
 returns-10 : tie.Need-returns-10
 returns-10 c =
-    let s = c .before .before .before .before .before .before .before .before .before .before .before .before .before in
-    let a = s .args in
-    act-disconnected (a .self) (a .out .now) (a .statuses) (a .now) (a .epoch) (a .nonce) (good-clocks (c .before .before .before .before .before .before .before .before)) (c .before .before .before .before .before .if3 .left) (c .before .before .enum-told3 .given .1) _
-    (disconnected-idle (a .self) (a .now) (no-event-fits (a .self) _ (s .good .0)) (c .if11 .left))
+    let else3 : tie.Else3 = search in
+    let else2 : tie.Else2 = search in
+    let start : tie.Start = search in
+    let a = start .args in
+    act-disconnected (a .self) (a .out .now) (a .statuses) (a .now) (a .epoch) (a .nonce) (good-clocks else2) (else3 .if3 .left) (c .before .before .enum-told3 .given .1) _
+    (disconnected-idle (a .self) (a .now) (no-event-fits (a .self) _ (start .good .0)) (c .if11 .left))
 
 returns-11 : tie.Need-returns-11
 returns-11 c =
-    let s = c .before .before .before .before .before .before .before .before .before .before in
-    let a = s .args in
-    act-idle (a .self) (a .out .now) (a .statuses) (a .now) (a .epoch) (a .nonce) (good-clocks (c .before .before .before .before .before)) (c .before .before .if3 .left) (no-event-fits (a .self) _ (s .good .0)) (c .match .keys4)
+    let else2 : tie.Else2 = search in
+    let start : tie.Start = search in
+    let a = start .args in
+    act-idle (a .self) (a .out .now) (a .statuses) (a .now) (a .epoch) (a .nonce) (good-clocks else2) (c .before .before .if3 .left) (no-event-fits (a .self) _ (start .good .0)) (c .match .keys4)
 
 pub act-spec : {M : Type 1} → statement M
 act-spec =
