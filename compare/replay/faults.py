@@ -1,6 +1,6 @@
 #!/usr/bin/env python3
 """faults.py [NAME..]: plants each fault of faults/ in a copy of our sources, builds `test_replay` of it without proof, and shows that the comparison finds
-the fault on the stored sample and on the scripts of the first 52 seeds. The prover refuses each of them; this shows that the comparison does too.
+the fault on the stored sample and on the scripts of the first 54 seeds. The prover refuses each of them; this shows that the comparison does too.
 faults.py --texts: only sees that each of them can be planted, at once.
 
 A fault is NAME.edits: what it breaks, then blocks in the format of compare/judge/patch/README.md, each after the `file` that it changes. Its old text must
@@ -19,7 +19,7 @@ from pathlib import Path
 HERE = Path(__file__).resolve().parent
 TOP = HERE.parent.parent
 JUDGE = os.environ.get("JUDGE") or TOP / "compare/judge/target/release/judge"
-SEEDS = 52
+SEEDS = 54
 BLOCK = re.compile(r"(?ms)^file (\S+)\n<<<<\n(.*?)\n====\n(.*?)\n>>>>$")
 
 

@@ -52,6 +52,12 @@ module _ {X : Type 0} where
         let n = kept-length xs in
         elim (p x) as (λ b. length (pick b (x ∷ kept p xs) (kept p xs)) ≤ suc (length xs)) [ true ↦ omega arith | false ↦ omega arith ]
 
+    -- all pass: so all are kept
+    pub kept-all : ((x : X) → p x ≡ true) → (l : List X) → kept p l ≡ l
+    unfolding kept
+    kept-all h [] = refl
+    kept-all h (x ∷ xs) = rw (h x, kept-all h xs)
+
     -- as many are kept as there were: so all
     pub kept-whole : (l : List X) → length l ≤ length (kept p l) → kept p l ≡ l
     unfolding kept

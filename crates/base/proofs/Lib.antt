@@ -12,5 +12,7 @@ pub mod Kept
 pub mod InPlace
 pub mod Padded
 pub mod Removal
+pub mod Counting
+pub mod Keys
 pub mod Settled
 pub mod Last

@@ -41,6 +41,10 @@ mostChecksums = 64
 abbrev pub cleanChecksums : ℕ
 cleanChecksums = 32
 
+-- the most checksums stored in firm mode
+abbrev pub mostFirmChecksums : ℕ
+mostFirmChecksums = 32
+
 -- events that wait to be taken
 abbrev pub mostEvents : ℕ
 mostEvents = 640

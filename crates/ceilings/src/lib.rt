@@ -30,6 +30,9 @@ pub const MOST_CHECKSUMS: usize = 64;
 
 pub const CLEAN_CHECKSUMS: usize = 32;
 
+// The most checksums stored in firm mode.
+pub const MOST_FIRM_CHECKSUMS: usize = 32;
+
 // Events that wait to be taken.
 pub const MOST_EVENTS: usize = 640;
 

@@ -1,6 +1,6 @@
 -- Laws of the checksums stored: what a report does to the list.
 use borrow.Author.Tests.{le-leb, leb-false}
-use mathlib.Core.Bool.{true, false}
+use mathlib.Core.Bool.{Bool, true, false}
 use mathlib.Core.List.{List}
 use mathlib.Core.Path.{_≡_, refl}
 use Prim.Native.Nat.{ℕ, _-_, _+_, _*_, _≤_}
@@ -13,13 +13,12 @@ use Rattle.base.proofs.Kept.{kept-length}
 use Rattle.base.proofs.Removal.{kept-distinct, kept-by-key, kept-first, put-has, put-first, put-distinct, put-length}
 use Rattle.checksums.specs.declared.Checksum.{Checksum}
 use Rattle.checksums.specs.Checksums.{checksumFrame, keptFrom, cleaned, overflows, othersFull, fullAfter, withReport}
+use Rattle.checksums.specs.Report.{reportedBy}
+use Rattle.checksums.proofs.Firm.{firm-within}
+use Rattle.checksums.proofs.Lines.{by-report}
 
--- the clean-up keeps frames distinct, adds none, and keeps or drops a frame by the line alone
+-- the clean-up adds no frame, and keeps or drops one by the line alone
 module _ (frame interval : ℕ) (l : List Checksum) where
-  pub cleaned-distinct : Distinct checksumFrame l → Distinct checksumFrame (cleaned frame interval l)
-  unfolding cleaned
-  cleaned-distinct d = elim (leb 32 (length l)) as (λ b. Distinct checksumFrame (pick b (keptFrom (frame - 31 * interval) l) l)) [ true ↦ kept-distinct checksumFrame _ l d | false ↦ d ]
-
   pub cleaned-length : length (cleaned frame interval l) ≤ length l
   unfolding cleaned
   cleaned-length = elim (leb 32 (length l)) as (λ b. length (pick b (keptFrom (frame - 31 * interval) l) l) ≤ length l) [ true ↦ kept-length _ l | false ↦ omega arith ]
@@ -36,21 +35,16 @@ module _ (frame interval : ℕ) (l : List Checksum) where
       elim (leb 32 (length l)) as (λ b. firstWith checksumFrame k d (pick b (keptFrom (frame - 31 * interval) l) l) ≡ firstWith checksumFrame k d l)
       [ true ↦ kept-first checksumFrame (leb (frame - 31 * interval)) k d l (le-leb _ _ h) | false ↦ refl ]
 
--- a report keeps frames distinct and the store within 64
-module _ (c : Checksum) (interval : ℕ) (l : List Checksum) where
-  pub report-distinct : Distinct checksumFrame l → Distinct checksumFrame (withReport c interval l)
-  unfolding withReport
-  report-distinct d =
-      elim (overflows (c .frame) interval l) as (λ o. Distinct checksumFrame (pick o l (pick (fullAfter (c .frame) interval l) l (put checksumFrame c (cleaned (c .frame) interval l))))) [
-        | true ↦ d
-        | false ↦
-            elim (fullAfter (c .frame) interval l) as (λ f. Distinct checksumFrame (pick f l (put checksumFrame c (cleaned (c .frame) interval l))))
-            [ true ↦ d | false ↦ put-distinct checksumFrame c (cleaned (c .frame) interval l) (cleaned-distinct (c .frame) interval l d) ]
-      ]
+-- a report keeps frames distinct
+pub report-distinct : (firm : Bool) (c : Checksum) (interval : ℕ) (l : List Checksum) → Distinct checksumFrame l → Distinct checksumFrame (reportedBy firm c interval l)
+report-distinct firm c interval l d =
+    by-report firm c interval l (Distinct checksumFrame) d (λ n. put-distinct checksumFrame c (keptFrom n l) (kept-distinct checksumFrame _ l d))
 
-  pub report-bound : length l ≤ 64 → length (withReport c interval l) ≤ 64
+-- by the crate's rule it keeps the store within 64
+module _ (c : Checksum) (interval : ℕ) (l : List Checksum) where
+  default-bound : length l ≤ 64 → length (withReport c interval l) ≤ 64
   unfolding withReport fullAfter othersFull
-  report-bound h =
+  default-bound h =
       let n = cleaned-length (c .frame) interval l in
       let p = put-length checksumFrame c (cleaned (c .frame) interval l) in
       elim (overflows (c .frame) interval l) as (λ o. length (pick o l (pick (pick o false (othersFull (c .frame) (cleaned (c .frame) interval l))) l (put checksumFrame c (cleaned (c .frame) interval l)))) ≤ 64) [
@@ -77,3 +71,8 @@ module _ (c : Checksum) (interval : ℕ) (l : List Checksum) where
 
     pub report-first : (k : ℕ) (d : Checksum) → firstWith checksumFrame k d (withReport c interval l) ≡ pick (eqb k (c .frame)) c (firstWith checksumFrame k d (cleaned (c .frame) interval l))
     report-first k d = rw report-is (put-first checksumFrame k d c (cleaned (c .frame) interval l))
+
+-- a report keeps the store within 64 in both modes; in firm mode 32 stay 32 (`firm-bound`)
+pub report-bound : (firm : Bool) (c : Checksum) (interval : ℕ) (l : List Checksum) → length l ≤ 64 → length (reportedBy firm c interval l) ≤ 64
+report-bound true c interval l = firm-within c l 64 (omega arith)
+report-bound false c interval l = default-bound c interval l

@@ -1,3 +1,11 @@
 pub mod Laws
+pub mod Smallest
+pub mod Firm
+pub mod Larger
+pub mod Members
+pub mod Order
+pub mod Largest
+pub mod Examples
+pub mod Lines
 pub mod Report
 pub mod Settled

@@ -1,4 +1,4 @@
--- The checksums reported, and what one more report does to them (E-35 to E-38; the crate's `on_checksum_report`).
+-- The checksums reported, and what one more report does to them by the crate's rule (E-35 to E-38; the crate's `on_checksum_report`).
 use mathlib.Core.Bool.{Bool, true, false}
 use mathlib.Core.List.{List, [], _∷_}
 use mathlib.Core.Path.{_≡_, refl}
@@ -11,9 +11,8 @@ use Rattle.base.specs.Keyed.{kept, has, firstWith, put}
 use Rattle.checksums.specs.declared.Checksum.{Checksum}
 use Rattle.checksums.specs.declared.Checksums.{Checksums}
 use Rattle.checksums.specs.declared.Found.{Found}
-use Rattle.checksums.specs.declared.Reported.{Reported}
 
--- the checksums stored, each at the place of its frame's first report; a count beyond the array is the array's length
+-- the checksums stored: a frame keeps its place while it is stored, a new one comes last; a count beyond the array is the array's length
 unfoldable pub stored : Checksums → List Checksum
 stored s = take (s .used) (s .entries)
 
@@ -71,10 +70,3 @@ late-example = refl
 line-example : keptFrom (400 - 31 * 10) (record { frame = 89; low = 1; high = 2 } ∷ record { frame = 90; low = 3; high = 4 } ∷ []) ≡ record { frame = 90; low = 3; high = 4 } ∷ []
 unfolding kept
 line-example = refl
-
-pub record ReportedAs (s : Checksums) (c : Checksum) (interval : ℕ) (r : Reported) : Type 0 where
-  pub overflow : r .overflow ≡ overflows (c .frame) interval (stored s)
-  pub full : r .full ≡ fullAfter (c .frame) interval (stored s)
-  pub view : stored (r .checksums) ≡ withReport c interval (stored s)
-  pub same-6 : r .overflow ≡ true → r .checksums ≡ s
-  pub same-5 : r .full ≡ true → r .checksums ≡ s

@@ -1,1 +1,5 @@
 pub mod Checksums
+pub mod Worked
+pub mod Firm
+pub mod Report
+pub mod Largest

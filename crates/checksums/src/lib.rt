@@ -1,13 +1,16 @@
-// The checksums that the other end reported, one for each frame: the crate's `pending_checksums`, with its clean-up. A checksum's 128 bits are
-// two halves.
+// The checksums that the other end reported, one for each frame: the crate's `pending_checksums`, with its clean-up, or in firm mode the 32 largest
+// frames. A checksum's 128 bits are two halves.
 ghost use mathlib.Core.Path.{_≡_};
 ghost use mathlib.Core.List.{[]};
 ghost use Prim.Native.Nat.{_-_, _*_};
 ghost use lib.ListN.{length, getD};
 ghost use Rattle.base.specs.Keyed.{place};
-ghost use Rattle.checksums.specs.Checksums.{stored, checksumFrame, keepLine, tooEarly, blankChecksum, FoundAs, ReportedAs};
+ghost use Rattle.checksums.specs.Checksums.{stored, checksumFrame, keepLine, tooEarly, blankChecksum, FoundAs};
+ghost use Rattle.checksums.specs.Firm.{firmLine};
+ghost use Rattle.checksums.specs.Report.{ReportedAs};
 use ceilings::CLEAN_CHECKSUMS;
 use ceilings::MOST_CHECKSUMS;
+use ceilings::MOST_FIRM_CHECKSUMS;
 
 pub struct Checksum {
     pub frame: u32,
@@ -34,10 +37,10 @@ pub struct Reported {
 }
 
 // The oldest frame to keep, 31 intervals before the arriving one, or the least frame. In u64 no interval overflows.
-fn oldest(frame: u32, interval: u32) -> u32
+fn oldest(frame: u32, interval: u32) -> u64
     ensures { λ r. ⌜ r ≡ frame - 31 * interval ⌝ }
 {
-    numbers::minus(frame as u64, 31 * (interval as u64)) as u32
+    numbers::minus(frame as u64, 31 * (interval as u64))
 }
 
 // The oldest frame to keep would lie below all frames: tested only where the clean-up needs it.
@@ -51,7 +54,7 @@ fn too_early(count: usize, frame: u32, interval: u32) -> bool
 }
 
 // The clean-up keeps from this frame on: with fewer than 32 stored, from the least, so all.
-fn keep_line(count: usize, frame: u32, interval: u32) -> u32
+fn keep_line(count: usize, frame: u32, interval: u32) -> u64
     ensures { λ r. ⌜ r ≡ keepLine count frame interval ⌝ }
 {
     if CLEAN_CHECKSUMS <= count {
@@ -59,6 +62,17 @@ fn keep_line(count: usize, frame: u32, interval: u32) -> u32
     } else {
         0
     }
+}
+
+// In firm mode, where 32 or more are stored and the frame is none of them, the smallest is dropped: those above it are kept. Else all are. In u64 the
+// greatest frame has a successor too.
+fn firm_line(count: usize, held: bool, smallest: u32) -> u64
+    ensures { λ r. ⌜ r ≡ firmLine count held smallest ⌝ }
+{
+    if held | (count < MOST_FIRM_CHECKSUMS) {
+        return 0;
+    }
+    (smallest as u64) + 1
 }
 
 impl Checksums {
@@ -124,45 +138,67 @@ impl Checksums {
         }
     }
 
-    // A report, as the crate takes it: the clean-up where 32 or more are stored, then the checksum put at its frame's place or at the end. Refused, it
-    // gives the store back. All is done in `self`: a function that took the store to clean it up would be given a copy.
-    pub fn report(mut self, frame: u32, low: u64, high: u64, interval: u32) -> Reported
-        ensures { λ r. ⌜ ReportedAs self (record { frame = frame; low = low; high = high }) interval r ⌝ }
+    // A report, as the crate takes it: the clean-up where 32 or more are stored, then the checksum put at its frame's place or at the end. In firm mode the
+    // smallest of 32 or more is dropped for a larger frame that is not stored yet, and a frame smaller than all of them is not stored. Refused, it gives
+    // the store back. All is done in `self`: a function that took the store to search it or to clean it up would be given a copy.
+    pub fn report(mut self, frame: u32, low: u64, high: u64, interval: u32, firm: bool) -> Reported
+        ensures { λ r. ⌜ ReportedAs self (record { frame = frame; low = low; high = high }) interval firm r ⌝ }
     {
         let n = self.count();
-        if too_early(n, frame, interval) {
+        if !firm & too_early(n, frame, interval) {
             return Reported {
                 checksums: self,
                 overflow: true,
                 full: false,
             };
         }
-        let line = keep_line(n, frame, interval);
-        // Each that stays is written behind those that stayed before it. `at` is the first place of the frame among them, or their count.
-        let mut kept = 0;
-        let mut at = 0;
-        let mut i = 0;
-        while i < n {
-            let x = self.entries[i];
-            if line <= x.frame {
-                self.entries[kept] = x;
-                if at == kept && frame != x.frame {
-                    at += 1;
+        // Only firm mode asks for the smallest frame, and whether this one is stored. Of an empty store `smallest` is no stored frame's; with fewer than 32
+        // it is not asked for.
+        let searched = numbers::count_if(firm, n);
+        let first = self.entries[0];
+        let mut smallest = first.frame;
+        let mut held = false;
+        let mut j = 0;
+        while j < searched {
+            let x = self.entries[j];
+            smallest = numbers::least_u32(smallest, x.frame);
+            held = held | (frame == x.frame);
+            j += 1;
+        }
+        let line = if firm {
+            firm_line(n, held, smallest)
+        } else {
+            keep_line(n, frame, interval)
+        };
+        // The line is above the frame in firm mode alone: where the frame is not stored, and is smaller than all that are. Then nothing changes. (A `return`
+        // there would make a program that merges the call into its own function copy the endpoint once more.)
+        if line <= (frame as u64) {
+            // Each that stays is written behind those that stayed before it. `at` is the first place of the frame among them, or their count.
+            let mut kept = 0;
+            let mut at = 0;
+            let mut i = 0;
+            while i < n {
+                let x = self.entries[i];
+                if line <= (x.frame as u64) {
+                    self.entries[kept] = x;
+                    if at == kept && frame != x.frame {
+                        at += 1;
+                    }
+                    kept += 1;
                 }
-                kept += 1;
+                i += 1;
             }
-            i += 1;
+            // Without room all 64 stayed: each was written where it stood, so the store is as it was.
+            if MOST_CHECKSUMS <= at {
+                return Reported {
+                    checksums: self,
+                    overflow: false,
+                    full: true,
+                };
+            }
+            self.entries[at] = Checksum { frame, low, high };
+            self.used = if at < kept { kept } else { at + 1 };
         }
-        // Without room all 64 stayed: each was written where it stood, so the store is as it was.
-        if MOST_CHECKSUMS <= at {
-            return Reported {
-                checksums: self,
-                overflow: false,
-                full: true,
-            };
-        }
-        self.entries[at] = Checksum { frame, low, high };
-        self.used = if at < kept { kept } else { at + 1 };
         Reported {
             checksums: self,
             overflow: false,

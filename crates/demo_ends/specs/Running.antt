@@ -3,6 +3,7 @@ use mathlib.Core.List.{[], _∷_}
 use Prim.Native.Nat.{ℕ}
 use Rattle.setup.specs.declared.Setup.{Setup}
 use Rattle.setup.specs.declared.DesyncDetection.the-variants.{On}
+use Rattle.setup.specs.Setup.{choicesWith}
 use Rattle.endpoint_rules.specs.declared.Phase.the-variants.{Running}
 use Rattle.endpoint_rules.specs.Seen.{Seen, withPhase, withSync}
 
@@ -20,7 +21,7 @@ twoPlayers magic peer player =
       fps = 60;
       magic = magic;
       «peer_addr» = peer;
-      choices = record { «desync_detection» = On 1 };
+      choices = choicesWith (On 1);
     }
 
 -- in Running, with no reply to come and the filter on the other end's magic; all else as it was

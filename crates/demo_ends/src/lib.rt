@@ -30,9 +30,7 @@ pub fn two_players(magic: u16, peer: u32, player: u32) -> Setup
         fps: 60,
         magic,
         peer_addr: peer,
-        choices: Choices {
-            desync_detection: DesyncDetection::On { interval: 1 },
-        },
+        choices: Choices::new(DesyncDetection::On { interval: 1 }),
     }
 }
 

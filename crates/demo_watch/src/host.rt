@@ -33,9 +33,7 @@ fn setup() -> Setup {
         fps: 60,
         magic: HOST as u16,
         peer_addr: BOX as u32,
-        choices: Choices {
-            desync_detection: DesyncDetection::Off,
-        },
+        choices: Choices::new(DesyncDetection::Off),
     }
 }
 

@@ -27,9 +27,7 @@ fn setup() -> SessionSetup {
         fps: 60,
         magic: BOX as u16,
         peer_addr: HOST as u32,
-        choices: Choices {
-            desync_detection: DesyncDetection::Off,
-        },
+        choices: Choices::new(DesyncDetection::Off),
         limits: Limits {
             slots: 60,
             session_events: 100,

@@ -251,6 +251,7 @@ impl Endpoint {
                     checksum.low,
                     checksum.high,
                     self.setup.interval(),
+                    self.setup.choices.firm_checksums,
                 );
                 let door = admission::weigh(false, reported.overflow, full | reported.full);
                 if door.shut {

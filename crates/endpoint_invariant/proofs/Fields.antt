@@ -1,8 +1,10 @@
 -- The plain fields stay sound: clocks, quality, statuses and checksums.
+use mathlib.Core.Bool.{Bool, true, false, false≢true}
 use mathlib.Core.List.{List, [], _∷_, map}
-use Prim.Native.Nat.{ℕ, suc, _+_, _-_, _*_, _^_, _<_, min}
+use mathlib.Core.Path.{_≡_}
+use Prim.Native.Nat.{ℕ, suc, _+_, _-_, _^_, _<_, _≤_, min}
 use native.Mathlib.Omega.{arith}
-use lib.Dec.{leb, eqb}
+use lib.Dec.{eqb}
 use lib.ListN.{length}
 use Rattle.status.specs.declared.ConnectionStatus.{ConnectionStatus}
 use Rattle.status.specs.Status.{defaultStatus, merged, reported}
@@ -10,7 +12,10 @@ use Rattle.status.specs.Statuses.{mergedAll, defaultStatuses}
 use Rattle.codec.specs.Message.{FitsReports}
 use Rattle.codec.specs.declared.StatusReport.{StatusReport}
 use Rattle.checksums.specs.declared.Checksum.{Checksum}
-use Rattle.checksums.specs.Checksums as Checksums
+use Rattle.checksums.specs.Checksums.{checksumFrame}
+use Rattle.checksums.specs.Report.{reportedBy}
+use Rattle.checksums.proofs.Firm.{firm-bound}
+use Rattle.checksums.proofs.Lines.{by-report}
 use Rattle.timers.specs.declared.Clocks.{Clocks}
 use Rattle.timers.specs.Timers.{madeAt, qualityAt, inputAt, sentAt, requestAt, heardAt, shutdownAt}
 use Rattle.quality.specs.declared.Quality.{Quality}
@@ -83,10 +88,10 @@ merged-statuses (x ∷ l) (r ∷ reports) h k =
 
 -- ---- checksums
 
-pub reported-checksums : (c : Checksum) (interval : ℕ) (l : List Checksum) → SoundChecksum c → Each SoundChecksum l → Each SoundChecksum (Checksums.withReport c interval l)
-unfolding Checksums.withReport Checksums.cleaned
-reported-checksums c interval l p h =
-    by-pick (Each SoundChecksum) (Checksums.overflows (c .frame) interval l) l _ (λ _. h) (λ _.
-    by-pick (Each SoundChecksum) (Checksums.fullAfter (c .frame) interval l) l _ (λ _. h) (λ _.
-    each-put SoundChecksum Checksums.checksumFrame c _ p
-    (by-pick (Each SoundChecksum) (leb 32 (length l)) (Checksums.keptFrom (c .frame - 31 * interval) l) l (λ _. each-kept SoundChecksum _ l h) (λ _. h))))
+pub reported-checksums : (firm : Bool) (c : Checksum) (interval : ℕ) (l : List Checksum) → SoundChecksum c → Each SoundChecksum l → Each SoundChecksum (reportedBy firm c interval l)
+reported-checksums firm c interval l p h =
+    by-report firm c interval l (Each SoundChecksum) h (λ n. each-put SoundChecksum checksumFrame c _ p (each-kept SoundChecksum _ l h))
+
+pub reported-firm : (firm : Bool) (c : Checksum) (interval : ℕ) (l : List Checksum) → (firm ≡ true → length l ≤ 32) → firm ≡ true → length (reportedBy firm c interval l) ≤ 32
+reported-firm true c interval l few e = firm-bound c l (few e)
+reported-firm false c interval l few e = absurd (false≢true e)

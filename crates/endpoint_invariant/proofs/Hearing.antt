@@ -22,14 +22,14 @@ use Rattle.endpoint_rules.specs.Did.{Effect, begin, change}
 use Rattle.endpoint_rules.specs.Sending.{acknowledged}
 use Rattle.endpoint_rules.specs.Receiving.{inputMessage, Reception, receive, withReceiver, discarded, statusesMerged, announces, disconnectAnnounced, informed, noted, acksQueued, inputsReceived, inputTaken, inputUnless, onInput, onInputAck}
 use Rattle.endpoint_rules.specs.Reports.{remoteAdvantage, roundTripNoted, onQualityReport, onQualityReply}
-use Rattle.endpoint_rules.specs.Checksum.{intervalIn, checksumOf, onChecksumReport}
+use Rattle.endpoint_rules.specs.Checksum.{intervalIn, firmIn, checksumOf, onChecksumReport}
 use Rattle.endpoint_rules.specs.Step.{resumes, resumed, heard, onBody}
 use Rattle.endpoint_invariant.specs.Each.{Each}
 use Rattle.endpoint_invariant.specs.Typed.{TypedWire}
 use Rattle.endpoint_invariant.specs.Sound.{Sound, SoundReceiver}
 use Rattle.endpoint_invariant.proofs.Choices.{by-pick}
 use Rattle.endpoint_invariant.proofs.Parts.{sender-part, receiver-part, clocks-part, flags-part, quality-part, statuses-part, checksums-part}
-use Rattle.endpoint_invariant.proofs.Fields.{heard-clock, input-clock, remote-quality, trip-quality, merged-statuses, reported-checksums}
+use Rattle.endpoint_invariant.proofs.Fields.{heard-clock, input-clock, remote-quality, trip-quality, merged-statuses, reported-checksums, reported-firm}
 use Rattle.endpoint_invariant.proofs.Senders.{dropped-sender}
 use Rattle.endpoint_invariant.proofs.Receivers.{SoundGot, received-sound}
 use Rattle.endpoint_invariant.proofs.Effects.{Good, begun, changed-good, announced-good, event-good, body-only-good}
@@ -120,9 +120,11 @@ module _ (now : ℕ) (small : now < 2 ^ 62) (e : Effect) (g : Good e) where
   checksum-good frame checksum f c =
       let x = checksumOf frame checksum in
       let l = e .state .checksums in
+      let firm = firmIn (e .state) in
+      let i = intervalIn (e .state) in
       changed-good e g _
-      (checksums-part (e .state) (g .state) _ (report-distinct x (intervalIn (e .state)) l (g .state .frames)) (report-bound x (intervalIn (e .state)) l (g .state .checksums .0))
-      (reported-checksums x (intervalIn (e .state)) l (f, c .0, c .1) (g .state .checksums .1)))
+      (checksums-part (e .state) (g .state) _ (report-distinct firm x i l (g .state .frames)) (report-bound firm x i l (g .state .checksums .0))
+      (reported-checksums firm x i l (f, c .0, c .1) (g .state .checksums .1)) (reported-firm firm x i l (g .state .firm)))
 
   pub body-good : (epoch nonce : ℕ) → epoch < 2 ^ 62 → nonce < 2 ^ 32 → (count : ℕ) (w : Wire) → TypedWire w → (b : MessageBody) → FitsBody b
       → onBody b count w now epoch nonce e .storeFull ≡ false → Good (onBody b count w now epoch nonce e .effect)

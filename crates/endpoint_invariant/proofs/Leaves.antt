@@ -1,4 +1,4 @@
--- The steps of every call leave the events and the queue to its end, and but for a reply's the replies still to come.
+-- The steps of every call leave the events and the queue to its end; all but a reply's leave the replies still to come, and all but a report's the checksums stored.
 use mathlib.Core.Bool.{Bool, true, false}
 use mathlib.Core.List.{List, [], _∷_}
 use mathlib.Core.Logic.{_⊎_, inl, inr}
@@ -8,8 +8,10 @@ use lib.Dec.{ltb, leb}
 use lib.ListN.{length}
 use Rattle.packing.specs.declared.input_bytes.InputBytes.{InputBytes}
 use Rattle.status.specs.declared.ConnectionStatus.{ConnectionStatus}
+use Rattle.checksums.specs.declared.Checksum.{Checksum}
 use Rattle.codec.specs.Message.{Wire}
 use Rattle.codec.specs.declared.StatusReport.{StatusReport}
+use Rattle.codec.specs.declared.Wide.{Wide}
 use Rattle.codec.specs.declared.MessageBody.{MessageBody}
 use Rattle.codec.specs.declared.MessageBody.the-variants.{SyncRequest, SyncReply, Input, InputAck, QualityReport, QualityReply, ChecksumReport, KeepAlive}
 use Rattle.events.specs.declared.Entry.{Entry}
@@ -25,8 +27,8 @@ use Rattle.endpoint_rules.specs.Reports.{reportQueued, remoteAdvantage, roundTr
 use Rattle.endpoint_rules.specs.Checksum.{onChecksumReport}
 use Rattle.endpoint_rules.specs.Step.{resumes, resumed, heard, onBody}
 
-abbrev pub left : Seen → List Entry × ℕ × ℕ
-left s = (s .events, s .queued, s .sync .remaining)
+abbrev pub left : Seen → List Entry × ℕ × ℕ × List Checksum
+left s = (s .events, s .queued, s .sync .remaining, s .checksums)
 
 abbrev pub Leaves : Effect → Effect → Type 0
 Leaves e f = left (f .state) ≡ left (e .state)
@@ -35,12 +37,15 @@ Leaves e f = left (f .state) ≡ left (e .state)
 abbrev pub booked : Seen → List Entry × ℕ
 booked s = (s .events, s .queued)
 
-module _ {p q : List Entry × ℕ × ℕ} (h : p ≡ q) where
+module _ {p q : List Entry × ℕ × ℕ × List Checksum} (h : p ≡ q) where
   pub books : _≡_ {A = List Entry × ℕ} (p .0, p .1) (q .0, q .1)
-  books = ap (λ (x : List Entry × ℕ × ℕ). (x .0, x .1)) h
+  books = ap (λ (x : List Entry × ℕ × ℕ × List Checksum). (x .0, x .1)) h
 
   pub counts : p .2 ≡ q .2
-  counts = ap (λ (x : List Entry × ℕ × ℕ). x .2) h
+  counts = ap (λ (x : List Entry × ℕ × ℕ × List Checksum). x .2) h
+
+  pub stores : p .3 ≡ q .3
+  stores = ap (λ (x : List Entry × ℕ × ℕ × List Checksum). x .3) h
 
 pub by-cases : (b : Bool) (P : Type 0) → (b ≡ true → P) → (b ≡ false → P) → P
 by-cases true P f g = f refl
@@ -103,11 +108,12 @@ pub heard-leaves : (now : ℕ) (s : Seen) → Leaves (begin s) (heard now s)
 unfolding heard resumed
 heard-leaves now s = by-cases (resumes s) (Leaves (begin s) (heard now s)) (λ h. rw h) (λ h. rw h)
 
-replied-books : (now nonce magic reply : ℕ) (c m : Bool) (e : Effect) → booked (replied now nonce magic reply c m e .effect .state) ≡ booked (e .state)
+replied-leaves : (now nonce magic reply : ℕ) (c m : Bool) (e : Effect)
+    → let s = replied now nonce magic reply c m e .effect .state in (booked s ≡ booked (e .state)) × (s .checksums ≡ e .state .checksums)
 unfolding replied request nonceIssued queueWire counted running
-replied-books now nonce magic reply false m e = refl
-replied-books now nonce magic reply true true e = refl
-replied-books now nonce magic reply true false e = refl
+replied-leaves now nonce magic reply false m e = (refl, refl)
+replied-leaves now nonce magic reply true true e = (refl, refl)
+replied-leaves now nonce magic reply true false e = (refl, refl)
 
 informed-leaves : (d : Bool) (reports : List StatusReport) (e : Effect) → Leaves e (informed d reports e)
 unfolding informed statusesMerged
@@ -136,22 +142,43 @@ input-leaves false now d start ack reports payload e = received-leaves now _ _ �
 abbrev pub Reply : MessageBody → Type 0
 Reply body = (reply : ℕ) × (body ≡ SyncReply reply)
 
-pub body-leaves : (body : MessageBody) (count : ℕ) (w : Wire) (now epoch nonce : ℕ) (e : Effect) → Reply body ⊎ Leaves e (onBody body count w now epoch nonce e .effect)
-unfolding onBody onSyncRequest onInput onInputAck acknowledged onQualityReport remoteAdvantage onQualityReply roundTripNoted onChecksumReport queueWire
-body-leaves (SyncRequest asked) count w now epoch nonce e = inr refl
+abbrev pub Report : MessageBody → Type 0
+Report body = (checksum : Wide) × (frame : ℕ) × (body ≡ ChecksumReport checksum frame)
+
+-- a report leaves all but the checksums
+pub report-leaves : (frame : ℕ) (checksum : Wide) (e : Effect)
+    → let s = onChecksumReport frame checksum e .effect .state in (booked s ≡ booked (e .state)) × (s .sync .remaining ≡ e .state .sync .remaining)
+unfolding onChecksumReport
+report-leaves frame checksum e = (refl, refl)
+
+pub body-leaves : (body : MessageBody) (count : ℕ) (w : Wire) (now epoch nonce : ℕ) (e : Effect)
+    → Reply body ⊎ (Report body ⊎ Leaves e (onBody body count w now epoch nonce e .effect))
+unfolding onBody onSyncRequest onInput onInputAck acknowledged onQualityReport remoteAdvantage onQualityReply roundTripNoted queueWire
+body-leaves (SyncRequest asked) count w now epoch nonce e = inr (inr refl)
 body-leaves (SyncReply reply) count w now epoch nonce e = inl (reply, refl)
-body-leaves (Input d start ack) count w now epoch nonce e = inr (input-leaves _ now d start ack (w .reports) (w .payload) e)
-body-leaves (InputAck ack) count w now epoch nonce e = inr refl
-body-leaves (QualityReport a p) count w now epoch nonce e = inr refl
-body-leaves (QualityReply p) count w now epoch nonce e = inr refl
-body-leaves (ChecksumReport x f) count w now epoch nonce e = inr refl
-body-leaves KeepAlive count w now epoch nonce e = inr refl
+body-leaves (Input d start ack) count w now epoch nonce e = inr (inr (input-leaves _ now d start ack (w .reports) (w .payload) e))
+body-leaves (InputAck ack) count w now epoch nonce e = inr (inr refl)
+body-leaves (QualityReport a p) count w now epoch nonce e = inr (inr refl)
+body-leaves (QualityReply p) count w now epoch nonce e = inr (inr refl)
+body-leaves (ChecksumReport x f) count w now epoch nonce e = inr (inl (x, f, refl))
+body-leaves KeepAlive count w now epoch nonce e = inr (inr refl)
+
+-- every other leaves the checksums
+pub body-stores : (body : MessageBody) (count : ℕ) (w : Wire) (now epoch nonce : ℕ) (e : Effect) → Report body ⊎ (onBody body count w now epoch nonce e .effect .state .checksums ≡ e .state .checksums)
+unfolding onBody onSyncReply
+body-stores body count w now epoch nonce e = go (body-leaves body count w now epoch nonce e)
+  where
+    go : Reply body ⊎ (Report body ⊎ Leaves e (onBody body count w now epoch nonce e .effect)) → Report body ⊎ (onBody body count w now epoch nonce e .effect .state .checksums ≡ e .state .checksums)
+    go (inl r) = inr (rw (r .1) (replied-leaves now nonce (w .magic) (r .0) _ _ e .1))
+    go (inr (inl r)) = inl r
+    go (inr (inr l)) = inr (stores l)
 
 pub message-books : (count : ℕ) (w : Wire) (now epoch nonce : ℕ) (s : Seen) → booked (onBody (w .body) count w now epoch nonce (heard now s) .effect .state) ≡ booked s
 unfolding onBody onSyncReply
 message-books count w now epoch nonce s = go (body-leaves (w .body) count w now epoch nonce (heard now s)) ∙ books (heard-leaves now s)
   where
-    go : Reply (w .body) ⊎ Leaves (heard now s) (onBody (w .body) count w now epoch nonce (heard now s) .effect)
+    go : Reply (w .body) ⊎ (Report (w .body) ⊎ Leaves (heard now s) (onBody (w .body) count w now epoch nonce (heard now s) .effect))
         → booked (onBody (w .body) count w now epoch nonce (heard now s) .effect .state) ≡ booked (heard now s .state)
-    go (inl r) = rw (r .1) (replied-books now nonce (w .magic) (r .0) _ _ (heard now s))
-    go (inr l) = books l
+    go (inl r) = rw (r .1) (replied-leaves now nonce (w .magic) (r .0) _ _ (heard now s) .0)
+    go (inr (inl r)) = rw (r .2) (report-leaves (r .1) (r .0) (heard now s) .0)
+    go (inr (inr l)) = books l

@@ -20,4 +20,6 @@ pub mod Telling
 pub mod Staying
 pub mod Announcements
 pub mod Runs
+pub mod FirmStore
+pub mod FirmExamples
 pub mod Examples

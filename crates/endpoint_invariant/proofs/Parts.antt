@@ -45,8 +45,9 @@ module _ (s : Seen) (h : Sound s) where
   pub statuses-part : (l : List ConnectionStatus) → length l ≡ s .setup .players → Each SoundStatus l → Sound (withStatuses l s)
   statuses-part l n p = search
 
-  pub checksums-part : (l : List Checksum) → Distinct (λ (x : Checksum). x .frame) l → length l ≤ 64 → Each SoundChecksum l → Sound (withChecksums l s)
-  checksums-part l d n p = search
+  pub checksums-part : (l : List Checksum) → Distinct (λ (x : Checksum). x .frame) l → length l ≤ 64 → Each SoundChecksum l
+      → (s .setup .choices .«firm_checksums» ≡ true → length l ≤ 32) → Sound (withChecksums l s)
+  checksums-part l d n p m = search
 
   pub events-part : (l : List Entry) → length l ≤ 640 → Sound (withEvents l s)
   events-part l n = search

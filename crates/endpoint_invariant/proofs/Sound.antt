@@ -70,6 +70,7 @@ fresh-sound g now t z =
       statuses = made-statuses (g .«num_players»);
       frames = tt;
       checksums = (omega arith, tt);
+      firm = λ _. omega arith;
       events = omega arith;
     }
 

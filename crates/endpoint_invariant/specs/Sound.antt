@@ -5,7 +5,7 @@ use mathlib.Core.Path.{_≡_}
 use mathlib.Core.Logic.{_⊎_}
 use Prim.Native.Nat.{ℕ, suc, _+_, _-_, _*_, _^_, _≤_, _<_}
 use lib.ListN.{length, drop, replicate}
-use Rattle.ceilings.specs.Ceilings.{mostWidth, mostPending, mostNonces, mostChecksums, mostEvents}
+use Rattle.ceilings.specs.Ceilings.{mostWidth, mostPending, mostNonces, mostChecksums, mostFirmChecksums, mostEvents}
 use Rattle.base.specs.Keyed.{Distinct}
 use Rattle.base.specs.Little.{Bytes}
 use Rattle.frame.specs.Bias.{bias32, bias16, nullFrame}
@@ -114,4 +114,6 @@ pub record Sound (s : Seen) : Type 0 where
   pub statuses : Each SoundStatus (s .statuses)
   pub frames : Distinct (λ (x : Checksum). x .frame) (s .checksums)
   pub checksums : (length (s .checksums) ≤ mostChecksums) × Each SoundChecksum (s .checksums)
+  -- in firm mode at most 32 (E-72)
+  pub firm : s .setup .choices .«firm_checksums» ≡ true → length (s .checksums) ≤ mostFirmChecksums
   pub events : length (s .events) ≤ mostEvents

@@ -23,9 +23,10 @@ use Rattle.events.specs.declared.Event.the-variants as Event
 use Rattle.events.specs.Events.{hasRoom, inputOf, inputEntry, announced, announcedEach}
 use Rattle.timers.specs.declared.Clocks.{Clocks}
 use Rattle.setup.specs.declared.Setup.{Setup}
+use Rattle.setup.specs.declared.Choices.{Choices}
 use Rattle.endpoint_rules.specs.declared.Phase.the-variants.{Disconnected, Shutdown}
 use Rattle.setup.specs.declared.DesyncDetection.the-variants.{Off}
-use Rattle.setup.specs.Setup.{badSetup, anyAbove, anyTwice, inserted, sorted, termsWith}
+use Rattle.setup.specs.Setup.{choicesWith, badSetup, anyAbove, anyTwice, inserted, sorted, termsWith}
 use Rattle.endpoint_rules.specs.Seen.{Seen, withClocks, made}
 use Rattle.outbox.specs.Outbox.{queueSize}
 use Rattle.endpoint_rules.specs.Did.{Did, refused, tested, queueWire, done}
@@ -44,8 +45,8 @@ use Rattle.endpoint_rules.specs.Step.{fresh, synchronizeStep, ignored, r
 -- ---- the two ends of the bouts
 
 -- two players, fps 60, peer 3
-abbrev pub setupOf : (handles : List ℕ) → (count locals size prediction magic : ℕ) → Setup
-setupOf handles count locals size prediction magic =
+abbrev pub setupChoosing : Choices → (handles : List ℕ) → (count locals size prediction magic : ℕ) → Setup
+setupChoosing choices handles count locals size prediction magic =
     record {
       «num_players» = 2;
       handles = record { list = handles; count = count };
@@ -57,8 +58,12 @@ setupOf handles count locals size prediction magic =
       fps = 60;
       magic = magic;
       «peer_addr» = 3;
-      choices = record { «desync_detection» = Off };
+      choices = choices;
     }
+
+-- the crate's rules, no checksums reported
+abbrev pub setupOf : (handles : List ℕ) → (count locals size prediction magic : ℕ) → Setup
+setupOf = setupChoosing (choicesWith Off)
 
 -- handle 1, max_prediction 2
 abbrev pub setupWith : (size : ℕ) → Setup

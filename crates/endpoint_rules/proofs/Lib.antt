@@ -5,4 +5,6 @@ pub mod Laws
 pub mod Datagrams
 pub mod Tested
 pub mod Requests
+pub mod ChecksumReports
+pub mod FirmBouts
 pub mod LongWait

@@ -135,6 +135,7 @@ begun : after (Call.synchronize 0 70000 1 65536 ∷ []) early ≡ asked 1 1 0 10
 unfolding kept without issued lastOf hasRoom termsWith made tested queueWire queueSize done bufferFull isFull nonceIssued request started synchronized fresh synchronizeStep step
 begun = refl
 
+-- the end after so many acts, one every 201 ms
 abbrev minuteOf : (acts : ℕ) → Seen
 minuteOf acts = after (asking 201 2 acts) (after (Call.synchronize 0 70000 1 65536 ∷ []) early)
 

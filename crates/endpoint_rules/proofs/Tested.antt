@@ -81,6 +81,16 @@ tested-answer (x ∷ ts) s t d e h = go (tested-answer ts s t d e h) (eqb (holdi
     go rest true = rest
     go rest false = stops (x .1)
 
+-- two calls with the same tests: R relates them where it relates each refusal and an ignored call to itself, and what goes on to what goes on
+pub tested-alike : (ts : List (Bool × Verdict)) (s : Seen) (d e : Did) (R : Did → Did → Type 0) → ((v : Verdict) → R (stopped v s) (stopped v s)) → R d e → R (tested ts s d) (tested ts s e)
+unfolding tested
+tested-alike [] s d e R stops h = h
+tested-alike (t ∷ ts) s d e R stops h = go (tested-alike ts s d e R stops h) (eqb (holding (t .0)) 0)
+  where
+    go : R (tested ts s d) (tested ts s e) → (b : Bool) → R (pick b (tested ts s d) (stopped (t .1) s)) (pick b (tested ts s e) (stopped (t .1) s))
+    go rest true = rest
+    go rest false = stops (t .1)
+
 -- ---- the reader's number
 
 pub by-decided : (n : ℕ) (s : Seen) (d : Did) (P : Did → Type 0) → (n ≡ 0 → P d) → ((n ≡ 0 → ⊥) → P (refused n s)) → P (decided n s d)

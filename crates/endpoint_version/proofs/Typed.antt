@@ -202,7 +202,7 @@ setup-means g h =
     = struct-means Handles.the-type (g .handles) (
     array-means u32-field IsU32 (number-means w32) mostPlayers (g .handles .list) (h .handles) (h .handle) ▸
     number-means w64 (g .handles .count) (h .count) ▸ tt) in
-    let choices : Means (Struct.row Choices.the-type) (g .choices) = struct-means Choices.the-type (g .choices) (desync-means (g .choices .«desync_detection») (h .desync) ▸ tt) in
+    let choices : Means (Struct.row Choices.the-type) (g .choices) = struct-means Choices.the-type (g .choices) (desync-means (g .choices .«desync_detection») (h .desync) ▸ flag-means (g .choices .«firm_checksums») ▸ tt) in
     struct-means Setup.the-type g (
     number-means w32 (g .«num_players») (h .players) ▸
     handles ▸

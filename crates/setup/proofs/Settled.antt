@@ -4,9 +4,14 @@ use mathlib.Core.Path.{_≡_}
 use Prim.Native.Nat.{ℕ}
 use lib.ListN.{length}
 use Rattle.base.proofs.Settled.{settled}
+use Rattle.setup.specs.declared.Choices.{Choices}
+use Rattle.setup.specs.declared.DesyncDetection.{DesyncDetection}
 use Rattle.setup.specs.declared.Handles.{Handles}
 use Rattle.setup.specs.declared.Setup.{Setup}
-use Rattle.setup.specs.Setup.{badSetup, sorted, handleList, termsOf, termsWith, SortedAs, receivingWidth, sendingWidth, intervalOf}
+use Rattle.setup.specs.Setup.{choicesWith, badSetup, sorted, handleList, termsOf, termsWith, SortedAs, receivingWidth, sendingWidth, intervalOf}
+
+pub new-settled : (d : DesyncDetection) (r s : Choices) → r ≡ choicesWith d → s ≡ choicesWith d → r ≡ s
+new-settled d = settled (λ r. r) (choicesWith d)
 
 pub count-settled : (h : Handles) (r s : ℕ) → r ≡ length (handleList h) → s ≡ length (handleList h) → r ≡ s
 count-settled h = settled (λ r. r) (length (handleList h))

@@ -15,6 +15,14 @@ use Rattle.setup.specs.declared.Choices.{Choices}
 use Rattle.setup.specs.declared.DesyncDetection.{DesyncDetection}
 use Rattle.setup.specs.declared.DesyncDetection.the-variants.{Off, On}
 
+-- the crate's rule in all but the detection of desyncs; a choice that is to be another is then set, by a function such as the next one
+abbrev pub choicesWith : DesyncDetection → Choices
+choicesWith detection = record { «desync_detection» = detection; «firm_checksums» = false }
+
+-- with a store of checksums that has a firm size
+abbrev pub withFirmChecksums : Choices → Choices
+withFirmChecksums c = record { «desync_detection» = c .«desync_detection»; «firm_checksums» = true }
+
 -- what an endpoint keeps of its setup; nothing changes it
 pub record Terms : Type 0 where
   pub players : ℕ
@@ -192,7 +200,7 @@ within-example
       fps = 60;
       magic = 4660;
       «peer_addr» = 7;
-      choices = record { «desync_detection» = Off };
+      choices = choicesWith Off;
     })
     ≡ false
 unfolding badSetup anyTwice anyAbove has

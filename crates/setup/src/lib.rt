@@ -1,21 +1,26 @@
 // The setup of an endpoint: what is given to `new`, whether it keeps the ceilings, and what an endpoint reads of it.
 ghost use mathlib.Core.Path.{_≡_};
-ghost use Rattle.setup.specs.Setup.{termsOf, SortedAs, badSetup, badDesync, intervalOf, receivingWidth, sendingWidth};
+ghost use Rattle.setup.specs.Setup.{termsOf, SortedAs, badSetup, badDesync, choicesWith, intervalOf, receivingWidth, sendingWidth};
 
 mod list;
 
 // Whether the ends report checksums of their frames to each other, to find out where their games differ. ggrs: `DesyncDetection`.
 pub enum DesyncDetection {
-    // Reports that come all the same are stored as with an interval of 1.
+    // Reports that come all the same are stored as with an interval of 1, or firmly.
     Off,
-    // Every so many frames: 1 to 10,000. From 32 stored checksums on, those more than 31 intervals before a new one are dropped.
+    // Every so many frames: 1 to 10,000. From 32 stored checksums on, those more than 31 intervals before a new one are dropped, unless `firm_checksums` is set.
     On { interval: u32 },
 }
 
-// What a setup chooses between ways of working.
+// What a setup chooses between ways of working. `Choices::new` gives the crate's; set a field to choose another.
 pub struct Choices {
-    // Whether the ends report checksums of frames to each other, and how many frames apart. ggrs: `desync_detection`.
+    // Whether the ends report checksums of frames to each other, and how many frames apart: off, or on with an interval of 1 to 10,000. Both ends choose
+    // alike. ggrs: `desync_detection`.
     pub desync_detection: DesyncDetection,
+    // Whether the store of reported checksums has a firm size. It then holds the 32 largest distinct frames reported, each with its latest checksum, in
+    // whatever order they come, and refuses none (neither 5 nor 6). The interval is not looked at, and detection may be off. Each end chooses by itself.
+    // ggrs has no such choice.
+    pub firm_checksums: bool,
 }
 
 // The numbers of the players at the other end, in any order; `new` sorts them. The count is as given: one above 4 is refused.
@@ -49,7 +54,7 @@ pub struct Setup {
     pub magic: u16,
     // The number by which the owner knows the other end, any: messages that come from another one are ignored. ggrs: `peer_addr`, an address.
     pub peer_addr: u32,
-    // Ways of working that both ends choose alike: checksum reports off, or on with an interval of 1 to 10,000. ggrs: `desync_detection`.
+    // Ways of working: which checksums are reported, and how those that come are stored.
     pub choices: Choices,
 }
 
@@ -74,6 +79,18 @@ impl DesyncDetection {
         match self {
             DesyncDetection::Off => false,
             DesyncDetection::On { interval } => numbers::is_outside(1, MOST_INTERVAL, interval),
+        }
+    }
+}
+
+impl Choices {
+    // The crate's rule in all but what is given.
+    pub fn new(desync_detection: DesyncDetection) -> Choices
+        ensures { λ r. ⌜ r ≡ choicesWith «desync_detection» ⌝ }
+    {
+        Choices {
+            desync_detection,
+            firm_checksums: false,
         }
     }
 }

@@ -5,4 +5,6 @@ pub mod Handling
 pub mod Advancing
 pub mod Seated
 pub mod Handled
+pub mod FirmStore
 pub mod Examples
+pub mod FirmExamples

@@ -24,7 +24,7 @@ use Rattle.events.specs.Events.{hasRoom, inputOf, withoutInput, inputEntry, ann
 use Rattle.timers.specs.Timers.{madeAt}
 use Rattle.endpoint_rules.specs.declared.Phase.the-variants as Phase
 use Rattle.setup.specs.declared.DesyncDetection.the-variants.{Off}
-use Rattle.setup.specs.Setup.{badSetup, anyAbove, anyTwice, inserted, sorted, termsWith}
+use Rattle.setup.specs.Setup.{choicesWith, badSetup, anyAbove, anyTwice, inserted, sorted, termsWith}
 use Rattle.endpoint_rules.specs.Seen.{Seen, made, withPhase, withSync, withEvents as withHostEvents, withQuality, withQueued}
 use Rattle.outbox.specs.Outbox.{queueSize}
 use Rattle.endpoint_rules.specs.Did.{refused as hostRefused, tested, queueWire, done}
@@ -70,7 +70,7 @@ setupWith slots events behind speed =
       fps = 60;
       magic = 7;
       «peer_addr» = 3;
-      choices = record { «desync_detection» = Off };
+      choices = choicesWith Off;
       limits = record { slots = slots; «session_events» = events; «max_frames_behind» = behind; «catchup_speed» = speed };
     }
 
@@ -113,7 +113,7 @@ handshake = Call.synchronize 1000 (epochAt 1000) 1 65536 ∷ reply 1 2 ∷ reply
 abbrev readyHost : Seen
 readyHost =
     record {
-      setup = record { players = 2; handles = 0 ∷ 1 ∷ []; localPlayers = 1; inputSize = 1; maxPrediction = 2; disconnectTimeout = 100000; notifyStart = 50000; fps = 60; magic = 7; peer = 3; choices = record { «desync_detection» = Off } };
+      setup = record { players = 2; handles = 0 ∷ 1 ∷ []; localPlayers = 1; inputSize = 1; maxPrediction = 2; disconnectTimeout = 100000; notifyStart = 50000; fps = 60; magic = 7; peer = 3; choices = choicesWith Off };
       carried = record { sender = record { pending = []; acked = blankFrame }; receiver = record { history = blankFrame ∷ [] } };
       phase = Phase.Running;
       sync = record { remaining = 0; nonces = []; remoteMagic = 9 };

@@ -16,7 +16,7 @@ use Rattle.setup.proofs.Choices as Choices
 use Rattle.setup.proofs.DesyncDetection as DesyncDetection
 use Rattle.endpoint_invariant.specs.Each.{Each}
 use Rattle.endpoint_invariant.specs.Typed.{TypedDesync}
-use Rattle.endpoint_version.proofs.Machine.{array-is, bytes-are, Means, number-means, _▸_, struct-means, enum-means, array-means, bytes-mean}
+use Rattle.endpoint_version.proofs.Machine.{flag-means, array-is, bytes-are, Means, number-means, _▸_, struct-means, enum-means, array-means, bytes-mean}
 use Rattle.endpoint_version.proofs.Typed.{statuses-is, endpoint-is, statuses-means, endpoint-means}
 use Rattle.spectator_rules.specs.declared.Limits.{Limits}
 use Rattle.spectator_rules.specs.declared.PlayerInput.{PlayerInput}
@@ -133,7 +133,7 @@ desync-means (On interval) h = enum-means DesyncDetection.the-type (On interval)
 pub session-setup-means : (g : SessionSetup) → IsSessionSetup g → Means (Struct.row SessionSetup.the-type) g
 unfolding hostSetup
 session-setup-means g h =
-    let choices : Means (Struct.row Choices.the-type) (g .choices) = struct-means Choices.the-type (g .choices) (desync-means (g .choices .«desync_detection») (h .host .desync) ▸ tt) in
+    let choices : Means (Struct.row Choices.the-type) (g .choices) = struct-means Choices.the-type (g .choices) (desync-means (g .choices .«desync_detection») (h .host .desync) ▸ flag-means (g .choices .«firm_checksums») ▸ tt) in
     struct-means SessionSetup.the-type g (
     number-means w32 (g .«num_players») (h .host .players) ▸
     number-means w32 (g .«input_size») (h .host .inputSize) ▸

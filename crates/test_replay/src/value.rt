@@ -55,9 +55,8 @@ pub(crate) fn setup_of(bytes: &[u8]) -> Setup {
         list,
         count: u32_at(bytes, 4) as usize,
     };
-    let choices = Choices {
-        desync_detection: desync_of(bytes),
-    };
+    let mut choices = Choices::new(desync_of(bytes));
+    choices.firm_checksums = u16_at(bytes, 68) != 0;
     Setup {
         num_players: u32_at(bytes, 0),
         handles,

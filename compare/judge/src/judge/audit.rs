@@ -1,7 +1,8 @@
 //! Holds the refusals against the crate's own doing. A call refused by 5 is tried on a copy of
 //! the endpoint and must pass a ceiling there; one refused by 6 must overflow there (shown by the
 //! build with overflow checks); one that is done must stay within every ceiling. Nonces are no
-//! reason for 5: that a copy would hold 257 of them excuses no refusal.
+//! reason for 5: that a copy would hold 257 of them excuses no refusal. In firm mode checksums are none either, and a
+//! copy is handed what the driver hands over.
 
 use std::cell::RefCell;
 use std::collections::BTreeMap;
@@ -9,9 +10,12 @@ use std::panic::{catch_unwind, set_hook, AssertUnwindSafe};
 
 use super::driver::{Done, World};
 use super::end::{inputs, list, End, Readings};
+use super::firm;
 use super::reader;
 use super::record::{Call, Record, SPECTATOR};
-use super::refusals::{self, Verdict, CHECKSUMS_MAX, EVENTS_MAX, FULL, NONCES_MAX, OVERFLOW, PENDING_MAX};
+use super::refusals::{
+    self, Verdict, CHECKSUMS_MAX, EVENTS_MAX, FIRM_MAX, FULL, NONCES_MAX, OVERFLOW, PENDING_MAX,
+};
 use super::snapshot::Snapshot;
 use crate::network::messages::Message;
 
@@ -82,13 +86,24 @@ fn within(world: &World, r: &Record, queued_before: usize) {
     assert!(s.events.len() <= EVENTS_MAX, "events");
     assert!(s.pending.len() <= PENDING_MAX, "pending");
     assert!(s.nonces.len() <= NONCES_MAX, "nonces");
-    assert!(s.checksums.len() <= CHECKSUMS_MAX, "checksums");
+    let checksums_max = if s.is_firm() { FIRM_MAX } else { CHECKSUMS_MAX };
+    assert!(s.checksums.len() <= checksums_max, "checksums");
     assert!(s.history.len() <= 2 * s.max_prediction + 1, "history");
     assert!(s.queued.len() <= queued_before || s.queued.len() <= r.buffer as usize, "buffer");
 }
 
+/// The message that the driver would hand over: in firm mode a report has a stand-in.
+fn handed(world: &World, r: &Record, done: &Done) -> Option<Message> {
+    let message = done.message.as_ref()?;
+    let is_firm = host(world, r.object).is_some_and(Snapshot::is_firm);
+    let stand_in = firm::stand_in(message).filter(|_| is_firm);
+    Some(stand_in.map_or_else(|| message.clone(), |(_, heard)| heard))
+}
+
 /// What the crate would hold after this call.
-fn attempt(world: &World, r: &Record, message: Option<&Message>) -> Option<[usize; 4]> {
+fn attempt(world: &World, r: &Record, done: &Done) -> Option<[usize; 4]> {
+    let message = handed(world, r, done);
+    let message = message.as_ref();
     let readings = Readings { now: Some(r.now), epoch: Some(r.epoch), nonce: Some(r.nonce), magic: None };
     let copy = match r.object {
         SPECTATOR => attempt_host(world, r, message, readings)?,
@@ -142,7 +157,7 @@ fn attempt_host(
 
 fn refused_full(world: &World, r: &Record, done: &Done) {
     let before = host(world, r.object).expect("present");
-    let Some([events, pending, checksums, queued]) = attempt(world, r, done.message.as_ref()) else {
+    let Some([events, pending, checksums, queued]) = attempt(world, r, done) else {
         assert_eq!(r.call, Call::TakeMessages);
         return;
     };
@@ -161,7 +176,7 @@ fn refused_overflow(world: &World, r: &Record, done: &Done) {
             watcher.session.frames_behind_host();
         }
         _ => {
-            attempt(world, r, done.message.as_ref());
+            attempt(world, r, done);
         }
     }));
     assert!(run.is_err(), "refused by 6, but the crate does not overflow");

@@ -5,6 +5,7 @@ use std::panic::{catch_unwind, AssertUnwindSafe};
 
 use super::canon;
 use super::end::{inputs, list, message_of, End, Readings};
+use super::firm;
 use super::reader;
 use super::record::{Call, Fields, Record, Setup, BUFFER, SPECTATOR};
 use super::refusals::{self, Acting, Handed, Sending, Tested, Verdict};
@@ -157,17 +158,36 @@ impl World {
         };
         let host = self.host_seen(r.object);
         let tested = refusals::message(host, &handed);
-        let ours = r.number == host.peer;
-        if !matches!(tested.verdict(), Verdict::Refused(_)) && ours {
-            let readings = full_readings(r);
-            if r.object == SPECTATOR {
-                let watcher = self.watcher.as_mut().expect("present");
-                watcher.run(readings, |s| s.host_mut().handle_message(&message));
-            } else {
-                self.end(r).run(readings, |p| p.handle_message(&message));
-            }
+        let (ours, is_firm) = (r.number == host.peer, host.is_firm());
+        match tested.verdict() {
+            Verdict::Go if is_firm => self.hand_firmly(r, &message),
+            Verdict::Go => self.hand(r, &message),
+            Verdict::Ignored if ours => self.hand(r, &message),
+            _ => (),
         }
         Done { message: Some(message), ..done(tested, Vec::new()) }
+    }
+
+    /// Hands a message to the crate.
+    fn hand(&mut self, r: &Record, message: &Message) {
+        let readings = full_readings(r);
+        if r.object == SPECTATOR {
+            let watcher = self.watcher.as_mut().expect("present");
+            watcher.run(readings, |s| s.host_mut().handle_message(message));
+        } else {
+            self.end(r).run(readings, |p| p.handle_message(message));
+        }
+    }
+
+    /// In firm mode the crate hears a report, and what it then holds is set.
+    fn hand_firmly(&mut self, r: &Record, message: &Message) {
+        let Some((report, heard)) = firm::stand_in(message) else { return self.hand(r, message) };
+        self.hand(r, &heard);
+        if r.object == SPECTATOR {
+            self.watcher.as_mut().expect("present").count(report);
+        } else {
+            self.end(r).count(report);
+        }
     }
 
     /// The endpoint's state, or that of the spectator's host.

@@ -4,12 +4,13 @@ use std::collections::HashMap;
 use std::time::Duration;
 
 use super::config::{set_input_size, Bytes, Cfg};
+use super::firm::Firm;
 use super::nonces::Nonces;
 use super::record::Setup;
 use super::snapshot::Snapshot;
 use super::socket::Catch;
 use crate::frame_info::PlayerInput;
-use crate::network::messages::{ConnectionStatus, Message};
+use crate::network::messages::{ChecksumReport, ConnectionStatus, Message};
 use crate::network::protocol::UdpProtocol;
 use crate::DesyncDetection;
 
@@ -52,6 +53,7 @@ pub(crate) struct End {
     pub protocol: UdpProtocol<Cfg>,
     pub input_size: usize,
     nonces: Nonces,
+    firm: Option<Firm>,
 }
 
 impl End {
@@ -62,7 +64,7 @@ impl End {
         let handles = setup.handles[..setup.handle_count as usize].iter();
         let handles = handles.map(|h| *h as usize).collect();
         let protocol = protocol(setup, handles, setup.local_players as usize);
-        Self { protocol, input_size, nonces: Nonces::default() }
+        Self { protocol, input_size, nonces: Nonces::default(), firm: Firm::of(setup) }
     }
 
     /// Runs one call of the crate with these readings.
@@ -73,6 +75,11 @@ impl End {
         let issued = readings.nonce.filter(|_| rand::nonce_drawn());
         self.nonces.follow(&mut self.protocol, issued);
         result
+    }
+
+    /// In firm mode: counts a report that the crate has heard.
+    pub fn count(&mut self, report: ChecksumReport) {
+        self.firm.as_mut().expect("firm mode").count(&mut self.protocol, report);
     }
 
     /// The same call on a copy, to see what the crate would do with it.
@@ -90,7 +97,7 @@ impl End {
 
     pub fn snapshot(&self) -> Snapshot {
         set_input_size(self.input_size);
-        self.protocol.snapshot(&self.nonces)
+        self.protocol.snapshot(&self.nonces, self.firm.as_ref())
     }
 
     pub fn take_messages(&mut self) -> Vec<u8> {

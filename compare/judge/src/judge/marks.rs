@@ -1,6 +1,8 @@
 //! The rules as marks on calls: each mark names a rule or an edge of one, and a run of
 //! the generator (and the stored sample) must meet them all.
 
+mod firm;
+
 use super::driver::Done;
 use super::record::{Call, Record};
 use super::refusals::{self, Verdict};
@@ -9,8 +11,8 @@ use crate::network::messages::{ChecksumReport, Input, MessageBody};
 use crate::network::protocol::Event;
 use crate::{DesyncDetection, GgrsEvent};
 
-/// Every mark that can be met.
-pub const ALL: [&str; 119] = [
+/// The marks of an endpoint, but for those of firm mode.
+const ENDPOINT: [&str; 119] = [
     "handshake: reply counted, 1 to 4",
     "handshake: fifth reply",
     "handshake: fifth reply with magic 0, filter stays off",
@@ -132,8 +134,8 @@ pub const ALL: [&str; 119] = [
     "input: bytes above 127 unpacked against a reference",
 ];
 
-/// Every mark of the spectator.
-pub const SPECTATOR_ALL: [&str; 25] = [
+/// The marks of the spectator, but for those of firm mode.
+const SPECTATOR: [&str; 25] = [
     "spectator: one frame",
     "spectator: catch-up of several",
     "spectator: catch-up capped by B - 1",
@@ -161,6 +163,11 @@ pub const SPECTATOR_ALL: [&str; 25] = [
     "spectator: disconnect announced",
 ];
 
+/// Every mark that can be met.
+pub fn all() -> impl Iterator<Item = &'static str> {
+    ENDPOINT.into_iter().chain(firm::ENDPOINT).chain(SPECTATOR).chain(firm::SPECTATOR)
+}
+
 /// Collects marks; a name that stands on no list is a slip.
 #[derive(Default)]
 pub struct Marks(pub Vec<&'static str>);
@@ -168,7 +175,7 @@ pub struct Marks(pub Vec<&'static str>);
 impl Marks {
     fn when(&mut self, holds: bool, name: &'static str) {
         if holds {
-            assert!(ALL.contains(&name) || SPECTATOR_ALL.contains(&name));
+            assert!(all().any(|mark| mark == name));
             self.0.push(name);
         }
     }
@@ -205,12 +212,22 @@ impl Seen<'_> {
     }
 }
 
+/// The marks of a `new` in the place of an endpoint.
+pub(crate) fn new(c: &Seen) -> Marks {
+    let mut m = Marks::default();
+    firm::new(&mut m, c);
+    m
+}
+
 /// The marks of a call on an endpoint.
 pub(crate) fn endpoint(c: &Seen) -> Marks {
     let mut m = Marks::default();
     clocks(&mut m, c);
     match (&c.done.message, c.r.call) {
-        (Some(message), _) => message_marks(&mut m, c, &message.body),
+        (Some(message), _) => {
+            message_marks(&mut m, c, &message.body);
+            firm::message(&mut m, c, &message.body);
+        }
         (None, Call::Act) => act(&mut m, c),
         (None, Call::SendInput) => send_input(&mut m, c),
         (None, Call::Disconnect) => {
@@ -220,6 +237,7 @@ pub(crate) fn endpoint(c: &Seen) -> Marks {
         }
         (None, Call::SendChecksumReport) => {
             m.when(c.went() && c.before.phase == Phase::Shutdown, "checksum: report sent in Shutdown");
+            firm::own_report(&mut m, c);
         }
         (None, Call::UpdateLocalFrameAdvantage) => {
             let newest = c.before.newest();
@@ -298,7 +316,7 @@ fn message_marks(m: &mut Marks, c: &Seen, body: &MessageBody) {
             m.when(c.went() && late && !high, "quality: round trip 0 by a late pong");
             m.when(c.went() && high, "quality: pong with a high half");
         }
-        MessageBody::ChecksumReport(body) => checksum(m, c, body),
+        MessageBody::ChecksumReport(body) if !c.before.is_firm() => checksum(m, c, body),
         _ => (),
     }
 }
@@ -571,6 +589,7 @@ pub(crate) fn spectator(c: &Watched) -> Marks {
             m.when(refused(refusals::FULL) && full, "spectator: message 5 with 640 host events");
             let forgotten = before.host.phase == Phase::Synchronizing && answers_forgotten(c);
             m.when(went && forgotten, "spectator: reply to a forgotten nonce");
+            firm::watched(&mut m, c);
         }
         _ => (),
     }

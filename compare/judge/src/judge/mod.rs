@@ -9,6 +9,7 @@ pub mod compare;
 pub mod config;
 pub mod driver;
 pub mod end;
+pub mod firm;
 pub mod gen;
 pub mod marks;
 pub mod nonces;
@@ -29,12 +30,13 @@ pub mod watcher;
 use std::io::{Read, Write};
 use std::{env, fs, process};
 
+use gen::Plan;
 use record::Mode;
 use tally::Tally;
 
 const USAGE: &str = "\
 judge run < SCRIPT > ANSWERS            run a script on the crate
-judge gen SEED > SCRIPT                 write the script of a seed (whole answers)
+judge gen SEED|NAME > SCRIPT            write the script of a seed, or the one of this name (whole answers)
 judge compare DIR                       run DIR's scripts and hold them against its answers
 judge find DIR                          the first difference alone; fails if there is none
 judge sample DIR                        write the stored sample
@@ -49,7 +51,7 @@ pub fn main() {
     let words: Vec<&str> = arguments.iter().map(String::as_str).collect();
     let outcome = std::panic::catch_unwind(|| match words[..] {
         ["run"] => run(),
-        ["gen", seed] => gen(number(seed)),
+        ["gen", which] => gen(which),
         ["compare", dir] => compare::folder(dir),
         ["find", dir] => compare::find(dir),
         ["sample", dir] => sample::write(dir),
@@ -88,8 +90,12 @@ fn run() -> Result<(), String> {
     write_out(&answers)
 }
 
-fn gen(seed: u64) -> Result<(), String> {
-    let (_, script, _) = gen::generate(seed, Mode::Whole, &mut Tally::default());
+fn gen(which: &str) -> Result<(), String> {
+    let plan = match which.parse() {
+        Ok(seed) => Plan::of_seed(seed),
+        Err(_) => Plan::named(which).ok_or(format!("{which} is no seed and no script's name"))?,
+    };
+    let (script, _) = plan.generate(Mode::Whole, &mut Tally::default());
     write_out(&script)
 }
 
@@ -97,14 +103,16 @@ fn gen(seed: u64) -> Result<(), String> {
 fn check(first: u64, count: u64, dir: Option<&str>) -> Result<(), String> {
     let mut tally = Tally::default();
     for seed in first..first + count {
-        let (name, script, answers) = gen::generate(seed, Mode::Digest, &mut tally);
+        let plan = Plan::of_seed(seed);
+        let (script, answers) = plan.generate(Mode::Digest, &mut tally);
+        let name = plan.name();
         let (again, _) = answers::run(&script)?;
         if again != answers {
             return Err(format!("seed {seed} ({name}): a second run differs"));
         }
         if let Some(dir) = dir {
             let write = |suffix: &str, bytes: &[u8]| {
-                fs::write(format!("{dir}/{seed:05}-{name}.{suffix}"), bytes).map_err(|e| e.to_string())
+                fs::write(format!("{dir}/{name}.{suffix}"), bytes).map_err(|e| e.to_string())
             };
             write("script", &script)?;
             write("answers", &answers)?;

@@ -241,6 +241,8 @@ pub struct Setup {
     pub magic: u16,
     pub desync_on: bool,
     pub desync_interval: u32,
+    /// 0 is the crate's rule of checksums, anything else firm mode.
+    pub checksum_mode: u16,
     pub slots: u32,
     pub session_events: u32,
     pub max_frames_behind: u32,
@@ -263,15 +265,10 @@ impl Setup {
         out.extend(self.peer.to_le_bytes());
         out.extend(self.magic.to_le_bytes());
         out.extend(u16::from(self.desync_on).to_le_bytes());
-        let rest = [
-            self.desync_interval,
-            0,
-            self.slots,
-            self.session_events,
-            self.max_frames_behind,
-            self.catchup_speed,
-        ];
-        for number in rest {
+        out.extend(self.desync_interval.to_le_bytes());
+        out.extend(self.checksum_mode.to_le_bytes());
+        out.extend([0; 2]);
+        for number in [self.slots, self.session_events, self.max_frames_behind, self.catchup_speed] {
             out.extend(number.to_le_bytes());
         }
         assert_eq!(out.len(), SETUP);
@@ -290,7 +287,7 @@ impl Setup {
         let (max_prediction, fps) = (f.u32(), f.u32());
         let (disconnect_timeout, disconnect_notify_start) = (f.u64(), f.u64());
         let (peer, magic, desync) = (f.u32(), f.u16(), f.u16());
-        let (desync_interval, _) = (f.u32(), f.u32());
+        let (desync_interval, checksum_mode, _) = (f.u32(), f.u16(), f.u16());
         let (slots, session_events) = (f.u32(), f.u32());
         let (max_frames_behind, catchup_speed) = (f.u32(), f.u32());
         Some(Self {
@@ -307,6 +304,7 @@ impl Setup {
             magic,
             desync_on: desync != 0,
             desync_interval,
+            checksum_mode,
             slots,
             session_events,
             max_frames_behind,

@@ -8,6 +8,7 @@
 use super::record::Setup;
 use super::snapshot::{Phase, Snapshot, SpectatorSnapshot};
 use crate::network::messages::{ChecksumReport, Input, Message, MessageBody, SyncReply};
+use crate::Frame;
 
 pub const BAD_SETUP: u8 = 1;
 pub const WRONG_STATE: u8 = 2;
@@ -32,6 +33,8 @@ pub const PENDING_MAX: usize = 129;
 pub const EVENTS_MAX: usize = 640;
 pub const NONCES_MAX: usize = 256;
 pub const CHECKSUMS_MAX: usize = 64;
+/// In firm mode no more are held.
+pub const FIRM_MAX: usize = 32;
 pub const TIMEOUT_MAX: u64 = 1 << 31;
 /// The crate cleans its checksums up from this many on, and keeps this many less one intervals.
 const CHECKSUM_CLEAN_UP: usize = 32;
@@ -186,7 +189,7 @@ pub(crate) struct Handed<'a> {
 pub(crate) fn message(s: &Snapshot, h: &Handed) -> Tested {
     let weighed = match &h.message.body {
         MessageBody::Input(body) if !discarded(s, body) => input(s, body, h.buffer),
-        MessageBody::ChecksumReport(body) => checksum_report(s, body, h.buffer),
+        MessageBody::ChecksumReport(body) if !s.is_firm() => checksum_report(s, body, h.buffer),
         body => Weighed { full: plain_adds(s, body).full(s, h.buffer), ..Weighed::default() },
     };
     tested(&[
@@ -222,7 +225,8 @@ pub(crate) fn is_ignored(s: &Snapshot, h: &Handed) -> bool {
     s.phase == Phase::Shutdown || h.from != s.peer || filtered
 }
 
-/// What a message adds that is neither a kept Input nor a checksum.
+/// What a message adds that is neither a kept Input nor a checksum by the crate's rule: in firm mode the store of
+/// checksums gives neither 5 nor 6.
 fn plain_adds(s: &Snapshot, body: &MessageBody) -> Adds {
     let resumed = usize::from(s.resumes());
     let (events, bytes) = match body {
@@ -280,18 +284,35 @@ fn input(s: &Snapshot, body: &Input, buffer: usize) -> Weighed {
     }
 }
 
-/// With 32 or more stored, those below frame - 31 x interval go first; a stored frame is replaced.
+/// By the crate's rule, which is not that of firm mode.
 fn checksum_report(s: &Snapshot, body: &ChecksumReport, buffer: usize) -> Weighed {
-    let cleans = s.checksums.len() >= CHECKSUM_CLEAN_UP;
-    let keep_line = i64::from(body.frame) - (CHECKSUM_CLEAN_UP as i64 - 1) * i64::from(s.checksum_interval());
-    let stays = |frame: i32| !cleans || i64::from(frame) >= keep_line;
-    let others = s.checksums.iter().filter(|(f, _)| stays(*f) && *f != body.frame).count();
+    let stored: Vec<Frame> = s.checksums.iter().map(|(frame, _)| *frame).collect();
+    let cleaned = cleaned(&stored, body.frame, s.checksum_interval());
     let adds = Adds { events: usize::from(s.resumes()), ..Adds::default() };
-    Weighed {
-        too_long: false,
-        overflows: cleans && keep_line < i64::from(i32::MIN),
-        full: adds.full(s, buffer) || others + 1 > CHECKSUMS_MAX,
+    Weighed { too_long: false, overflows: cleaned.overflows, full: adds.full(s, buffer) || cleaned.is_full() }
+}
+
+/// What the crate's rule leaves of the frames stored where one is reported.
+pub(crate) struct Cleaned {
+    /// The frames that stay, but for the reported one.
+    pub others: Vec<Frame>,
+    /// The keep line leaves i32.
+    pub overflows: bool,
+}
+
+impl Cleaned {
+    pub fn is_full(&self) -> bool {
+        self.others.len() + 1 > CHECKSUMS_MAX
     }
+}
+
+/// With 32 or more stored, those below frame - 31 x interval are dropped first; a stored frame is replaced.
+pub(crate) fn cleaned(stored: &[Frame], frame: Frame, interval: u32) -> Cleaned {
+    let cleans = stored.len() >= CHECKSUM_CLEAN_UP;
+    let keep_line = i64::from(frame) - (CHECKSUM_CLEAN_UP as i64 - 1) * i64::from(interval);
+    let stays = |other: &Frame| !cleans || i64::from(*other) >= keep_line;
+    let others = stored.iter().copied().filter(|other| stays(other) && *other != frame).collect();
+    Cleaned { others, overflows: cleans && keep_line < i64::from(i32::MIN) }
 }
 
 // ---- act ----

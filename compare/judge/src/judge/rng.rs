@@ -1,10 +1,10 @@
-//! A small generator of pseudo-random numbers (splitmix64): the same seed, the same script.
+//! A small generator of pseudo-random numbers (splitmix64): the same number, the same script.
 
 pub struct Rng(u64);
 
 impl Rng {
-    pub fn new(seed: u64) -> Self {
-        Self(seed.wrapping_mul(0x9E37_79B9_7F4A_7C15) ^ 0x5851_F42D_4C95_7F2D)
+    pub fn new(number: u64) -> Self {
+        Self(number.wrapping_mul(0x9E37_79B9_7F4A_7C15) ^ 0x5851_F42D_4C95_7F2D)
     }
 
     pub fn next(&mut self) -> u64 {

@@ -5,16 +5,15 @@ use std::collections::BTreeSet;
 use std::fs;
 
 use super::answers;
-use super::gen::{self, bouts};
+use super::gen::{self, bouts, Plan};
 use super::record::Mode;
 use super::tally::{required, Tally};
 
 /// Seeds among which the sample is chosen.
-const SEEDS: u64 = 520;
+const SEEDS: u64 = 540;
 
 struct Candidate {
-    seed: u64,
-    name: &'static str,
+    plan: Plan,
     script: Vec<u8>,
     answers: Vec<u8>,
     met: BTreeSet<String>,
@@ -22,12 +21,13 @@ struct Candidate {
 
 fn candidate(seed: u64) -> Candidate {
     let mut tally = Tally::default();
-    let (name, script, answers) = gen::generate(seed, Mode::Digest, &mut tally);
-    Candidate { seed, name, script, answers, met: tally.met() }
+    let plan = Plan::of_seed(seed);
+    let (script, answers) = plan.generate(Mode::Digest, &mut tally);
+    Candidate { plan, script, answers, met: tally.met() }
 }
 
 /// Scenarios of which the sample has one script each, the shortest.
-const DIRECTED: [&str; 15] = [
+const DIRECTED: [&str; 16] = [
     "phases",
     "inputs",
     "chaos-late",
@@ -43,6 +43,7 @@ const DIRECTED: [&str; 15] = [
     "setups",
     "damage",
     "pairs",
+    "firm",
 ];
 
 /// Scenarios that no row asks for, but that a reader expects in a sample: of a handy length.
@@ -50,7 +51,7 @@ const HONEST: [&str; 3] = ["honest", "honest-loss", "watch"];
 
 /// Takes the script of this scenario whose length is nearest to `length`.
 fn take(from: &mut Vec<Candidate>, name: &str, length: usize) -> Option<Candidate> {
-    let named = (0..from.len()).filter(|at| from[*at].name == name);
+    let named = (0..from.len()).filter(|at| from[*at].plan.scenario == name);
     let best = named.min_by_key(|at| from[*at].script.len().abs_diff(length))?;
     Some(from.remove(best))
 }
@@ -80,7 +81,7 @@ fn choose(mut from: Vec<Candidate>) -> Vec<Candidate> {
         open.retain(|row| !best.met.contains(row));
         chosen.push(best);
     }
-    chosen.sort_by_key(|c| c.seed);
+    chosen.sort_by_key(|c| c.plan.name());
     chosen
 }
 
@@ -90,9 +91,9 @@ pub fn write(dir: &str) -> Result<(), String> {
     let mut tally = Tally::default();
     let mut bytes = 0;
     for c in &chosen {
-        let (_, script, answers) = gen::generate(c.seed, Mode::Digest, &mut tally);
-        assert!(script == c.script && answers == c.answers, "a seed gives one script");
-        bytes += store(dir, &format!("{:03}-{}", c.seed, c.name), &script, &answers)?;
+        let (script, answers) = c.plan.generate(Mode::Digest, &mut tally);
+        assert!(script == c.script && answers == c.answers, "a plan gives one script");
+        bytes += store(dir, &c.plan.name(), &script, &answers)?;
     }
     let (script, answers) = gen::scripted(bouts::all, 21, Mode::Whole, &mut tally);
     bytes += store(dir, "bouts-whole", &script, &answers)?;

@@ -65,6 +65,9 @@ pub(crate) struct Snapshot {
     pub history: Vec<Stored>,
     /// Ascending by frame.
     pub checksums: Vec<(Frame, u128)>,
+    /// The frames reported since setup, oldest first, where the mode is firm: no part of the state, but refusals and
+    /// marks ask for them.
+    pub reported: Option<Vec<Frame>>,
     pub events: Vec<Event<Cfg>>,
     /// The queued messages as bytes, back to back.
     pub queued: Vec<u8>,
@@ -92,6 +95,11 @@ impl Snapshot {
             DesyncDetection::On { interval } => interval,
             DesyncDetection::Off => 1,
         }
+    }
+
+    /// Whether the checksums are held in firm mode.
+    pub fn is_firm(&self) -> bool {
+        self.reported.is_some()
     }
 
     pub fn holds(&self, frame: Frame) -> bool {

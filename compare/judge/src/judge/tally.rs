@@ -148,7 +148,7 @@ impl Tally {
         }
         println!("\nsetups: {} of 64 pairs of S and players met", self.sizes.len());
         println!("\nrules and their edges (marks)");
-        for name in marks::ALL.iter().chain(&marks::SPECTATOR_ALL) {
+        for name in marks::all() {
             println!("  {:>8}  {name}", self.marks.get(name).copied().unwrap_or(0));
         }
     }
@@ -223,7 +223,7 @@ pub fn required() -> Vec<String> {
     for size in 1..=16 {
         rows.extend((1..=4).map(|players| size_row(size, players)));
     }
-    rows.extend(marks::ALL.iter().chain(&marks::SPECTATOR_ALL).map(|m| (*m).to_owned()));
+    rows.extend(marks::all().map(str::to_owned));
     rows
 }
 

@@ -2,10 +2,12 @@
 
 use super::config::{set_input_size, Cfg};
 use super::end::{protocol, Readings};
+use super::firm::Firm;
 use super::nonces::Nonces;
 use super::record::Setup;
 use super::snapshot::SpectatorSnapshot;
 use super::socket::Catch;
+use crate::network::messages::ChecksumReport;
 use crate::sessions::builder::set_constants;
 use crate::SpectatorSession;
 
@@ -15,11 +17,12 @@ pub(crate) struct Watcher {
     slots: usize,
     session_events: usize,
     nonces: Nonces,
+    firm: Option<Firm>,
     socket: Catch,
 }
 
 impl Watcher {
-    /// Its handles are 0 up to players - 1; the host's endpoint has one local player.
+    /// Its handles are 0 up to players - 1; the host's endpoint has one local player, and takes the checksum mode.
     pub fn new(setup: &Setup, now: u64) -> Self {
         let input_size = setup.input_size as usize;
         let (slots, session_events) = (setup.slots as usize, setup.session_events as usize);
@@ -35,7 +38,8 @@ impl Watcher {
             setup.max_frames_behind as usize,
             setup.catchup_speed as usize,
         );
-        Self { session, input_size, slots, session_events, nonces: Nonces::default(), socket }
+        let (nonces, firm) = (Nonces::default(), Firm::of(setup));
+        Self { session, input_size, slots, session_events, nonces, firm, socket }
     }
 
     fn enter(&self, readings: Readings) {
@@ -52,6 +56,11 @@ impl Watcher {
         result
     }
 
+    /// In firm mode: counts a report that the host's endpoint has heard.
+    pub fn count(&mut self, report: ChecksumReport) {
+        self.firm.as_mut().expect("firm mode").count(self.session.host_mut(), report);
+    }
+
     /// The bytes that the session sent in the call before.
     pub fn sent(&self) -> Vec<u8> {
         self.socket.take()
@@ -59,6 +68,6 @@ impl Watcher {
 
     pub fn snapshot(&self) -> SpectatorSnapshot {
         self.enter(Readings::default());
-        self.session.snapshot(&self.nonces)
+        self.session.snapshot(&self.nonces, self.firm.as_ref())
     }
 }

@@ -3,6 +3,7 @@
 
 use super::*;
 use crate::judge::config::Cfg;
+use crate::judge::firm::Firm;
 use crate::judge::nonces::Nonces;
 use crate::judge::refusals;
 use crate::judge::snapshot::{Clocks, Phase, Snapshot, Stored};
@@ -63,6 +64,11 @@ impl<T: Config> UdpProtocol<T> {
         self.sync_random_requests.remove(&nonce);
     }
 
+    /// Changes the map: in firm mode what is held is not the crate's rule.
+    pub(crate) fn set_checksums(&mut self, held: Vec<(Frame, u128)>) {
+        self.pending_checksums = held.into_iter().collect();
+    }
+
     /// `poll` of ggrs takes the events too: this puts them back.
     pub(crate) fn act(&mut self, connect_status: &[ConnectionStatus]) {
         let events: Vec<_> = self.poll(connect_status).collect();
@@ -99,8 +105,9 @@ impl<T: Config> UdpProtocol<T> {
 }
 
 impl UdpProtocol<Cfg> {
-    /// The whole state. `nonces` has the order of latest issue, which the crate's set does not keep.
-    pub(crate) fn snapshot(&self, nonces: &Nonces) -> Snapshot {
+    /// The whole state. `nonces` has the order of latest issue, which the crate's set does not keep; `firm` the reports
+    /// of firm mode.
+    pub(crate) fn snapshot(&self, nonces: &Nonces, firm: Option<&Firm>) -> Snapshot {
         assert_eq!(nonces.order().len(), self.sync_random_requests.len());
         assert!(nonces.order().iter().all(|n| self.sync_random_requests.contains(n)));
         let mut history: Vec<Stored> = self.recv_inputs.values().map(stored).collect();
@@ -143,6 +150,7 @@ impl UdpProtocol<Cfg> {
             acked: stored(&self.last_acked_input),
             history,
             checksums,
+            reported: firm.map(Firm::frames),
             events: self.event_queue.iter().cloned().collect(),
             queued: self.queued_bytes(),
         }

@@ -2,6 +2,7 @@
 
 use super::*;
 use crate::judge::config::Cfg;
+use crate::judge::firm::Firm;
 use crate::judge::nonces::Nonces;
 use crate::judge::snapshot::{SpectatorSnapshot, Stored};
 
@@ -23,7 +24,7 @@ impl SpectatorSession<Cfg> {
         &self.host_connect_status
     }
 
-    pub(crate) fn snapshot(&self, nonces: &Nonces) -> SpectatorSnapshot {
+    pub(crate) fn snapshot(&self, nonces: &Nonces, firm: Option<&Firm>) -> SpectatorSnapshot {
         let slot = |slot: &Vec<PlayerInput<_>>| slot.iter().map(stored).collect();
         SpectatorSnapshot {
             running: self.state == SessionState::Running,
@@ -35,7 +36,7 @@ impl SpectatorSession<Cfg> {
             slots: self.inputs.iter().map(slot).collect(),
             host_statuses: self.host_connect_status.clone(),
             events: self.event_queue.iter().copied().collect(),
-            host: self.host.snapshot(nonces),
+            host: self.host.snapshot(nonces, firm),
         }
     }
 }

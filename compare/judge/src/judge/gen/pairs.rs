@@ -12,7 +12,7 @@ use crate::judge::refusals::{
 use crate::judge::value;
 use crate::network::messages::{ChecksumReport, Message, MessageBody, SyncRequest};
 
-/// How often a script meets each pair: with one script in 26, a hundred times in a thousand scripts.
+/// How often a script meets each pair: with one script in 27, a hundred times in a thousand scripts.
 const ROUNDS: usize = 3;
 
 const MAGIC: u16 = 9;

@@ -61,9 +61,9 @@ fn takes_buffer(call: Call) -> bool {
 }
 
 impl<'a> Gen<'a> {
-    pub fn new(seed: u64, mode: Mode, tally: &'a mut Tally) -> Self {
+    pub fn new(number: u64, mode: Mode, tally: &'a mut Tally) -> Self {
         Self {
-            rng: Rng::new(seed),
+            rng: Rng::new(number),
             world: World::new(),
             script: header(mode).to_vec(),
             answers: Vec::new(),
@@ -89,11 +89,19 @@ impl<'a> Gen<'a> {
         answers::write(&mut self.answers, self.mode, &r, &done, self.world.state(r.object));
         audit::check(&self.world, &r, &done, queued, self.checked);
         self.tally.call(&r, &done);
-        if r.call != Call::New {
+        if r.call == Call::New {
+            self.count_new(&r, &done, before.as_ref());
+        } else {
             self.count_end(&r, &done, before.as_ref());
             self.count_watcher(&r, &done, watched.as_ref());
         }
         done
+    }
+
+    fn count_new(&mut self, r: &Record, done: &Done, before: Option<&Snapshot>) {
+        let Some(before) = before else { return };
+        let after = self.world.seen(r.object);
+        self.tally.mark(&marks::new(&marks::Seen { r, done, before, after }));
     }
 
     fn count_end(&mut self, r: &Record, done: &Done, before: Option<&Snapshot>) {

@@ -25,7 +25,8 @@ element-copy-out-result c = let s = c .before .before .args .t1 in omega (arith,
 returns : tie.Need-returns
 unfolding stored
 returns c =
-    let a = c .before .before .before .args in
+    let start : tie.Start = search in
+    let a = start .args in
     sym (view-at (a .t1 .used) (a .t1 .entries) (a .i) blankChecksum (omega (arith, c .before .before .count .ensures)))
 
 returns-2 : tie.Need-returns-2

@@ -17,7 +17,8 @@ entry-requires c κs = search needs
 
 returns : tie.Need-returns
 returns c =
-    let a = c .before .before .before .args in
+    let start : tie.Start = search in
+    let a = start .args in
     let n = c .before .before .count .ensures in
     let i = c .before .place .ensures in
     record {

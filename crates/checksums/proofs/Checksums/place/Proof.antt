@@ -39,8 +39,10 @@ element-copy-out-x c = omega arith
 returns : tie.Need-returns Inv-loop μ-loop
 unfolding stored
 returns c =
-    let a = c .before .before .before .before .before .before .args in
-    let i = c .before .before .before .before .loop .i in
+    let at-loop : tie.At-loop Inv-loop μ-loop = search in
+    let start : tie.Start Inv-loop μ-loop = search in
+    let a = start .args in
+    let i = at-loop .loop .i in
     omega (arith, place-here checksumFrame (a .frame) (a .t1 .used) (a .t1 .entries) i blankChecksum (omega arith) (c .if1 .taken))
 
 add-i : tie.Need-add-i Inv-loop μ-loop
@@ -52,14 +54,17 @@ loop-less c = omega arith
 loop-again : tie.Need-loop-again Inv-loop μ-loop
 unfolding stored
 loop-again c =
-    let a = c .before .before .before .before .before .before .args in
-    let l = c .before .before .before .before .loop in
+    let at-loop : tie.At-loop Inv-loop μ-loop = search in
+    let start : tie.Start Inv-loop μ-loop = search in
+    let a = start .args in
+    let l = at-loop .loop in
     (omega arith, l .inv .1, l .inv .2, omega (arith, place-later checksumFrame (a .frame) (a .t1 .used) (a .t1 .entries) (l .i) blankChecksum (omega arith) (c .if1 .left)))
 
 returns-2 : tie.Need-returns-2 Inv-loop μ-loop
 unfolding stored
 returns-2 c =
-    let a = c .before .before .before .args in
+    let start : tie.Start Inv-loop μ-loop = search in
+    let a = start .args in
     omega (arith, place-end checksumFrame (a .frame) (a .t1 .used) (a .t1 .entries) (c .before .loop .i) (omega arith))
 
 pub place-spec : {M : Type 1} → statement M

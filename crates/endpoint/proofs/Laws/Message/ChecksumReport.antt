@@ -8,7 +8,7 @@ use Rattle.answer.specs.declared.Answer.the-variants.{Done, Full, Overflow}
 use Rattle.codec.specs.declared.Wide.{Wide}
 use Rattle.setup.specs.Setup.{termsWith, intervalOf}
 use Rattle.checksums.specs.declared.Reported.{Reported}
-use Rattle.checksums.specs.Checksums.{ReportedAs}
+use Rattle.checksums.specs.Report.{ReportedAs}
 use Rattle.events.specs.declared.Entry.{Entry}
 use Rattle.endpoint_rules.specs.declared.Flags.{Flags}
 use Rattle.endpoint_rules.specs.Seen.{Seen}
@@ -28,7 +28,7 @@ unfolding reacted tested
 reacted-overflows n s r short h = rw (short, h)
 
 -- i: the interval; r: the store with the report
-module _ (e : Endpoint) (checksum : Wide) (frame now i : ℕ) (ei : i ≡ intervalOf (e .setup .choices .«desync_detection»)) (r : Reported) (er : ReportedAs (e .checksums) (checksumOf frame checksum) i r) where
+module _ (e : Endpoint) (checksum : Wide) (frame now i : ℕ) (ei : i ≡ intervalOf (e .setup .choices .«desync_detection»)) (r : Reported) (er : ReportedAs (e .checksums) (checksumOf frame checksum) i (e .setup .choices .«firm_checksums») r) where
   abbrev Summed : Endpoint → Answer → Effect → Type 0
   Summed n a h = DoneAs e (reacted 0 (seen e) (onChecksumReport frame checksum h)) (record { answer = a; endpoint = n })
 

@@ -23,7 +23,7 @@ use Rattle.timers.specs.Timers.{badClock, heardAt}
 use Rattle.pending.specs.declared.Dropped.{Dropped}
 use Rattle.pending.specs.Pending.{DroppedAs}
 use Rattle.checksums.specs.declared.Reported.{Reported}
-use Rattle.checksums.specs.Checksums.{ReportedAs}
+use Rattle.checksums.specs.Report.{ReportedAs}
 use Rattle.events.specs.declared.Entry.{Entry}
 use Rattle.events.specs.declared.Events.{Events}
 use Rattle.events.specs.declared.Pushed.{Pushed}
@@ -196,7 +196,7 @@ module _ (e : Endpoint) (from : ℕ) (m : Message) (p : List ℕ) (now epoch non
 
     -- a ChecksumReport; i: the interval, y: the store with it
     module _ (checksum : Wide) (frame : ℕ) (eb : m .body ≡ ChecksumReport checksum frame) (i : ℕ) (ei : i ≡ intervalOf (e .setup .choices .«desync_detection»)) (y : Reported)
-        (ey : ReportedAs (e .checksums) (checksumOf frame checksum) i y) where
+        (ey : ReportedAs (e .checksums) (checksumOf frame checksum) i (e .setup .choices .«firm_checksums») y) where
       abbrev Refused : Answer → Type 0
       Refused a = Ends e a buffer
 
