@@ -103,15 +103,20 @@ fn beside_the_crates_rule(g: &mut Gen) {
     carried(g, A, &[top - 40, top - 10, top - 28]);
 }
 
+/// The handshake of an end with a full store, with reports around it that are counted, and others after it that are not.
+fn through_the_handshake(g: &mut Gen, own: u8) {
+    g.call(Call::Synchronize, own);
+    around(g, own);
+    while g.phase(own) == Phase::Synchronizing {
+        g.reply(own, MAGIC);
+    }
+    around(g, own);
+    uncounted(g, own);
+}
+
 /// On from Initializing with a full store, to Shutdown.
 fn through_the_phases(g: &mut Gen) {
-    g.call(Call::Synchronize, A);
-    around(g, A);
-    while g.phase(A) == Phase::Synchronizing {
-        g.reply(A, MAGIC);
-    }
-    around(g, A);
-    uncounted(g, A);
+    through_the_handshake(g, A);
     let (smallest, largest) = ends(g, A);
     carried(g, A, &[smallest.saturating_sub(1), largest, largest.saturating_add(1)]);
     interruptions(g, A);
@@ -267,13 +272,7 @@ fn watched(g: &mut Gen) {
         report(g, SPECTATOR, top - below);
     }
     report(g, SPECTATOR, i32::MIN);
-    g.call(Call::Synchronize, SPECTATOR);
-    around(g, SPECTATOR);
-    while g.phase(SPECTATOR) == Phase::Synchronizing {
-        g.reply(SPECTATOR, MAGIC);
-    }
-    around(g, SPECTATOR);
-    uncounted(g, SPECTATOR);
+    through_the_handshake(g, SPECTATOR);
     carried(g, SPECTATOR, &[top - 40, top, top + 3]);
     interruptions(g, SPECTATOR);
     any_reports(g, SPECTATOR);
