@@ -1,9 +1,11 @@
 // What a call answers: done, or one of the refusals N-1 to N-17. One enum for every crate, so that a
 // caller reads one table.
+#![tactic(auto)]
+
 ghost use Rattle.std.specs.Prelude.{◌≡◌};
 ghost use Rattle.answer.specs.Number.{number_of};
 
-#[derive(Drop)]
+#[derive(Clone, Copy)]
 pub enum Answer {
     Done,
     BadSetup,

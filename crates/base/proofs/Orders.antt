@@ -43,6 +43,7 @@ module _ {S R : Type 0} (step : S → R → S) (swap : (s : S) (a b : R) → ste
     (again : (s : S) (a : R) → step (step s a) a ≡ step s a) where
   -- a step that is taken in a run may be taken before it too, or be put off until after it
   early : (xs : List R) (s : S) (r : R) → Memᴰ r xs → foldl step (step s r) xs ≡ foldl step s xs
+  early [] s r x' = elim x' [ ]
   early (x ∷ xs) s r (Memᴰ.head e) = rw (e, again)
   early (x ∷ xs) s r (Memᴰ.tail m) = rw (swap s r x) (early xs (step s x) r m)
 

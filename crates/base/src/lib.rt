@@ -1,1 +1,2 @@
 // Definitions and laws that every crate cites; no code.
+#![tactic(auto)]

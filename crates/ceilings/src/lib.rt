@@ -1,5 +1,6 @@
 // The sizes of the stores and the ceilings that several crates share, each named once for the code. specs/Ceilings.antt has the same numbers under the same
 // names for the definitions; a contract that speaks of the one over code that tests the other is proved only while the two agree.
+#![tactic(auto)]
 
 // Players of a bout, handles of an endpoint, statuses of an Input.
 pub const MOST_PLAYERS: usize = 4;

@@ -1,5 +1,7 @@
 // The checksums that the other end reported, one for each frame: the crate's `pending_checksums`, with its clean-up, or in firm mode the 32 largest
 // frames. A checksum's 128 bits are two halves.
+#![tactic(auto)]
+
 ghost use Rattle.std.specs.Prelude.{◌≡◌, [], ◌-◌, ◌*◌, length, get_or};
 ghost use Rattle.base.specs.Keyed.{place};
 ghost use Rattle.checksums.specs.Checksums.{stored, checksum_frame, keep_line, too_early, blank_checksum, FoundAs};
@@ -8,20 +10,20 @@ ghost use Rattle.checksums.specs.Report.{ReportedAs};
 
 use ceilings::{CLEAN_CHECKSUMS, MOST_CHECKSUMS, MOST_FIRM_CHECKSUMS};
 
-#[derive(Drop)]
+#[derive(Clone, Copy)]
 pub struct Checksum {
     pub frame: u32,
     pub low: u64,
     pub high: u64,
 }
 
-#[derive(Drop)]
+#[derive(Clone, Copy)]
 pub struct Checksums {
     pub entries: [Checksum; MOST_CHECKSUMS],
     pub used: usize,
 }
 
-#[derive(Drop)]
+#[derive(Clone, Copy)]
 pub struct Found {
     pub found: bool,
     pub checksum: Checksum,
@@ -29,7 +31,7 @@ pub struct Found {
 
 // Done where neither flag is set. The store stands first in what a call gives back: a flag in front of it would make padding, and then the compiler
 // copies the store once more.
-#[derive(Drop)]
+#[derive(Clone, Copy)]
 pub struct Reported {
     pub checksums: Checksums,
     pub overflow: bool,

@@ -1,6 +1,8 @@
 // The messages of ggrs (messages.rs) as values and as bincode 1's bytes: fixed-width little-endian
 // integers, fields in declared order, a list as a u64 count and its elements. Frames and advantages
 // are biased numbers (crate `frame`); a u128 is two u64 halves.
+#![tactic(auto)]
+
 mod reader;
 mod writer;
 
@@ -18,27 +20,27 @@ pub const FIXED_SIZES: [usize; 8] = [10, 10, 31, 10, 24, 22, 26, 6];
 pub const STATUS_SIZE: usize = 5;
 
 // The wire's two fields of a player's status.
-#[derive(Drop)]
+#[derive(Clone, Copy)]
 pub struct StatusReport {
     pub disconnected: bool,
     pub last_frame: u32,
 }
 
 // An Input's status list, with the count as given: a writer refuses one above MOST_PLAYERS.
-#[derive(Drop)]
+#[derive(Clone, Copy)]
 pub struct StatusReports {
     pub list: [StatusReport; MOST_PLAYERS],
     pub count: usize,
 }
 
-#[derive(Drop)]
+#[derive(Clone, Copy)]
 pub struct Wide {
     pub low: u64,
     pub high: u64,
 }
 
 // The eight bodies. An Input's reports and payload stand beside it, so that the enum holds no bytes.
-#[derive(Drop)]
+#[derive(Clone, Copy)]
 pub enum MessageBody {
     SyncRequest {
         random_request: u32,
@@ -69,7 +71,7 @@ pub enum MessageBody {
 }
 
 // A message without an Input's payload, which is a slice of its own.
-#[derive(Drop)]
+#[derive(Clone, Copy)]
 pub struct Message {
     pub magic: u16,
     pub body: MessageBody,
@@ -77,21 +79,21 @@ pub struct Message {
 }
 
 // The bytes that a message takes.
-#[derive(Drop)]
+#[derive(Clone, Copy)]
 pub enum Size {
     Bytes(usize),
     TooLong,
 }
 
 // What a writer answers, with the place after what it wrote.
-#[derive(Drop)]
+#[derive(Clone, Copy)]
 pub struct Written {
     pub answer: Answer,
     pub end: usize,
 }
 
 // What a reader answers; a refusal comes with a blank message.
-#[derive(Drop)]
+#[derive(Clone, Copy)]
 pub struct Received {
     pub answer: Answer,
     pub message: Message,

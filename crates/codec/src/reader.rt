@@ -20,7 +20,7 @@ use numbers::WORD;
 const STATUSES_AT: usize = 14;
 
 // The first message of a slice: where its payload starts and where it ends.
-#[derive(Drop)]
+#[derive(Clone, Copy)]
 struct Front {
     answer: Answer,
     message: Message,
@@ -28,7 +28,7 @@ struct Front {
     end: usize,
 }
 
-#[derive(Drop)]
+#[derive(Clone, Copy)]
 struct Reports {
     answer: Answer,
     reports: StatusReports,

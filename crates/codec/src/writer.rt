@@ -81,7 +81,8 @@ pub fn write(out: &mut [u8], at: usize, message: Message, payload: &[u8]) -> Wri
     if kind_of(body) != 2 {
         return head;
     }
-    let length = bytes::copy(payload, &mut out[end..]);
+    let length = payload.len();
+    out[end..end + length].copy_from_slice(payload);
     Written {
         answer: Answer::Done,
         end: end + length,

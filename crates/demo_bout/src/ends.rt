@@ -8,13 +8,13 @@ const NUM_PLAYERS: usize = 2;
 const EPOCH: u64 = 1700000000000;
 
 // Who sits at an end: a letter, by which the other end knows it too, and the player whose inputs come from here.
-#[derive(Drop)]
+#[derive(Clone, Copy)]
 pub(crate) struct Seat {
     pub name: u8,
     pub player: u32,
 }
 
-#[derive(Drop)]
+#[derive(Clone, Copy)]
 pub(crate) struct End {
     pub seat: Seat,
     pub endpoint: Endpoint,

@@ -1,4 +1,6 @@
 // Two endpoints play a bout over a line that this program holds. docs/BOUT.md goes through it.
+#![tactic(auto)]
+
 mod ends;
 mod exchange;
 mod lines;

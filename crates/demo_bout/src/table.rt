@@ -1,7 +1,7 @@
 // Two ends and what goes between them.
 use crate::ends::{End, Seat};
 
-#[derive(Drop)]
+#[derive(Clone, Copy)]
 pub(crate) struct Table {
     pub a: End,
     pub b: End,

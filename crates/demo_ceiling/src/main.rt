@@ -1,5 +1,7 @@
 // Checksum reports in falling frame order: none is so old that it could go, so the store fills up, and the report that finds no room is refused.
 // docs/FAILURES.md goes through it.
+#![tactic(auto)]
+
 use ceilings::MOST_CHECKSUMS;
 use endpoint::{Answer, Checksums, Ended, Endpoint, Message, MessageBody, Wide};
 use frame::BIAS32;

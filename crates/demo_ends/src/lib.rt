@@ -1,5 +1,7 @@
 // An endpoint that runs already, for programs that do not show the handshake: a plain setup of a bout between two players, and what the
 // handshake leaves of an endpoint that was made.
+#![tactic(auto)]
+
 ghost use Rattle.std.specs.Prelude.{◌≡◌};
 ghost use Rattle.endpoint_rules.specs.Seen.{made};
 ghost use Rattle.endpoint.specs.Endpoint.{seen};

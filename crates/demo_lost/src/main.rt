@@ -1,4 +1,6 @@
 // Packets are lost both ways, and every input arrives once, under its own frame. docs/FAILURES.md goes through it.
+#![tactic(auto)]
+
 use endpoint::{Endpoint, Statuses};
 use frame::BIAS32;
 use libc::{STDERR_FILENO, STDOUT_FILENO};

@@ -1,4 +1,6 @@
 // A datagram that arrives more than once is announced once. docs/FAILURES.md goes through it.
+#![tactic(auto)]
+
 use endpoint::{Endpoint, Statuses};
 use frame::BIAS32;
 use libc::{STDERR_FILENO, STDOUT_FILENO};

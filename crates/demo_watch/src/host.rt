@@ -3,7 +3,7 @@ use crate::ends::{BOX, HOST, epoch};
 use crate::lines;
 use endpoint::{Choices, DesyncDetection, Ended, Endpoint, Handles, Setup, Statuses};
 
-#[derive(Drop)]
+#[derive(Clone, Copy)]
 pub(crate) struct Host {
     pub endpoint: Endpoint,
     pub queue: [u8; 1024],

@@ -2,7 +2,7 @@
 use crate::host::Host;
 use crate::viewer::Viewer;
 
-#[derive(Drop)]
+#[derive(Clone, Copy)]
 pub(crate) struct Line {
     pub host: Host,
     pub viewer: Viewer,

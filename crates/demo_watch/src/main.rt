@@ -1,4 +1,6 @@
 // A host's endpoint feeds a viewing box over a line that this program holds. docs/WATCH.md goes through it.
+#![tactic(auto)]
+
 mod ends;
 mod host;
 mod line;

@@ -3,7 +3,7 @@ use crate::ends::{BOX, HOST, epoch};
 use crate::lines;
 use spectator::{Choices, DesyncDetection, Ended, Limits, SessionSetup, SpectatorSession};
 
-#[derive(Drop)]
+#[derive(Clone, Copy)]
 pub(crate) struct Viewer {
     pub session: SpectatorSession,
     pub queue: [u8; 1024],

@@ -18,14 +18,14 @@ use status::ConnectionStatus;
 const STATS_WAIT: u64 = 1000;
 
 // The answer of `peer_connect_status`.
-#[derive(Drop)]
+#[derive(Clone, Copy)]
 pub enum StatusResult {
     Status(ConnectionStatus),
     BadHandle,
 }
 
 // The answer of `network_stats`.
-#[derive(Drop)]
+#[derive(Clone, Copy)]
 pub enum StatsResult {
     Stats(NetworkStats),
     Refused(Answer),

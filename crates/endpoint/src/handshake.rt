@@ -14,7 +14,7 @@ use events::{Entry, Event, NO_INPUT, SYNCHRONIZED};
 use timers::Clocks;
 
 // The clocks after a request and where the queue ends; where it does not fit, as they were and not ok.
-#[derive(Drop)]
+#[derive(Clone, Copy)]
 pub struct Requested {
     pub clocks: Clocks,
     pub end: usize,
@@ -22,7 +22,7 @@ pub struct Requested {
 }
 
 // The plain parts of an endpoint after a reply that counts, and where the queue ends; where what it brings does not fit, not ok.
-#[derive(Drop)]
+#[derive(Clone, Copy)]
 pub struct Counted {
     pub sync: Sync,
     pub clocks: Clocks,

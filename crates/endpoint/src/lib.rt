@@ -1,5 +1,7 @@
 // The peer endpoint of ggrs (protocol.rs): a state by value, clocks and nonces as arguments, the send queue in a lent buffer. Each call gives its
 // answer and the endpoint after it; on a refusal that is the very endpoint it was called on. What a call does is `step` of the crate `endpoint_rules`.
+#![tactic(auto)]
+
 mod act;
 mod creation;
 mod disconnecting;
@@ -35,7 +37,7 @@ const NUM_SYNC_PACKETS: u32 = 5;
 
 // The phase; of the handshake the replies still to come, and the other end's magic, 0 while the filter is off. The phase stands in a struct since a part
 // that is one can be set (`self.sync = sync`), and the endpoint is not written anew where the phase changes.
-#[derive(Drop)]
+#[derive(Clone, Copy)]
 pub struct Sync {
     pub phase: Phase,
     pub remaining: u32,
@@ -45,7 +47,7 @@ pub struct Sync {
 // The setup, its handles ascending; what carries inputs: those sent and not acknowledged, the last acknowledged one, against which they are packed,
 // and those received; what the handshake and the clocks stand at, with the nonces outstanding; what was announced and reported; the events that wait to be
 // taken, and how many bytes of the lent buffer are queued.
-#[derive(Drop)]
+#[derive(Clone, Copy)]
 pub struct Endpoint {
     pub setup: Setup,
     pub pending: Pending,
@@ -63,7 +65,7 @@ pub struct Endpoint {
 }
 
 // What a call answers, with the endpoint after it. The endpoint comes first: with a byte and a gap in front of it each call would copy it once more.
-#[derive(Drop)]
+#[derive(Clone, Copy)]
 pub struct Ended {
     pub endpoint: Endpoint,
     pub answer: Answer,

@@ -14,14 +14,14 @@ use answer::Answer;
 use endpoint_rules::Phase;
 use events::Events;
 
-#[derive(Drop)]
+#[derive(Clone, Copy)]
 pub struct TakenEvents {
     pub endpoint: Endpoint,
     pub events: Events,
 }
 
 // The endpoint without its messages, and how many bytes of them were copied.
-#[derive(Drop)]
+#[derive(Clone, Copy)]
 pub struct TakenMessages {
     pub endpoint: Endpoint,
     pub answer: Answer,
@@ -109,7 +109,7 @@ impl Endpoint {
             };
         }
         let count = filled(phase, self.queued, room);
-        bytes::copy(&out[..count], into);
+        into[..count].copy_from_slice(&out[..count]);
         self.queued = 0;
         TakenMessages {
             endpoint: self,

@@ -1,8 +1,10 @@
 // What an endpoint is and what each of its calls does (ggrs, protocol.rs), as definitions: specs/ holds them, and the worked bouts P3 to P14
 // computed from them. The calls themselves are the crate `endpoint`.
+#![tactic(auto)]
+
 
 // The crate's ProtocolState.
-#[derive(Drop)]
+#[derive(Clone, Copy)]
 pub enum Phase {
     Initializing,
     Synchronizing,
@@ -12,7 +14,7 @@ pub enum Phase {
 }
 
 // What was announced: an interruption, and a disconnect.
-#[derive(Drop)]
+#[derive(Clone, Copy)]
 pub struct Flags {
     pub disconnect_notify_sent: bool,
     pub disconnect_event_sent: bool,

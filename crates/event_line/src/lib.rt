@@ -1,4 +1,6 @@
 // The printed lines of events: the words of one event, and the lines of all events under an end's letter.
+#![tactic(auto)]
+
 mod words;
 
 ghost use Rattle.std.specs.Prelude.{◌≡◌};

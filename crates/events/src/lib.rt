@@ -1,4 +1,6 @@
 // The events that wait to be taken, oldest first. An event's input stands beside the event: an enum holds no bytes.
+#![tactic(auto)]
+
 ghost use Rattle.std.specs.Prelude.{◌≡◌, [], ◌∷◌, ◌++◌, ◌+◌, ◌*◌, ◌^◌, ◌≤◌, min, false, leb, length, take, drop, get_or};
 ghost use Rattle.base.specs.Pick.{pick};
 ghost use Rattle.ceilings.specs.Ceilings.{most_players, most_width, most_events};
@@ -7,7 +9,7 @@ ghost use Rattle.events.specs.Events.{held_events, has_room, input_entry, announ
 
 use ceilings::{MOST_EVENTS, MOST_INPUT_SIZE, MOST_PLAYERS, MOST_WIDTH};
 
-#[derive(Drop)]
+#[derive(Clone, Copy)]
 pub enum Event {
     Synchronizing { total: u32, count: u32 },
     Synchronized,
@@ -18,7 +20,7 @@ pub enum Event {
 }
 
 // An event with its input, zeros past the input's size; all zeros beside any event but Input.
-#[derive(Drop)]
+#[derive(Clone, Copy)]
 pub struct Entry {
     pub event: Event,
     pub input: [u8; MOST_INPUT_SIZE],
@@ -43,14 +45,14 @@ pub const NETWORK_RESUMED: Entry = Entry {
     input: NO_INPUT,
 };
 
-#[derive(Drop)]
+#[derive(Clone, Copy)]
 pub struct Events {
     pub entries: [Entry; MOST_EVENTS],
     pub used: usize,
 }
 
 // The store stands first: a flag in front of it is followed by padding, and over padding the compiler copies the store once more.
-#[derive(Drop)]
+#[derive(Clone, Copy)]
 pub struct Pushed {
     pub events: Events,
     pub ok: bool,

@@ -1,5 +1,7 @@
 // Frames and frame advantages as numbers from 0 on: frame f is held as f + 2^31, so that -1 is NULL_FRAME,
 // the least i32 is 0 and the order of frames is the plain order of numbers.
+#![tactic(auto)]
+
 ghost use Rattle.std.specs.Prelude.{◌≡◌};
 ghost use Rattle.frame.specs.Bias.{bias32, bias16, biased, signed, bits_of};
 

@@ -1,4 +1,6 @@
 // The inputs received, kept as references for the packets to come: at most 33, since none is kept below newest - 2 max_prediction.
+#![tactic(auto)]
+
 ghost use Rattle.std.specs.Prelude.{◌≡◌, [], ◌∷◌, ◌++◌, ◌-◌, ◌*◌, ◌≤◌, ◌^◌, min, length, take};
 ghost use Rattle.base.specs.Keyed.{kept};
 ghost use Rattle.ceilings.specs.Ceilings.{most_received};
@@ -15,14 +17,14 @@ pub const BLANK: InputBytes = InputBytes {
     bytes: [0u8; MOST_WIDTH],
 };
 
-#[derive(Drop)]
+#[derive(Clone, Copy)]
 pub struct History {
     pub slots: [InputBytes; MOST_RECEIVED],
     pub used: usize,
 }
 
 // The newest frame, and the input that a packet is packed against.
-#[derive(Drop)]
+#[derive(Clone, Copy)]
 pub struct Looked {
     pub input: InputBytes,
     pub held: bool,

@@ -1,5 +1,7 @@
 // The printed line of a datagram: the kind, the magic and each field's name and value, or the word
 // refused and the number. It has no newline at its end.
+#![tactic(auto)]
+
 mod body;
 mod draft;
 mod field;
@@ -19,7 +21,7 @@ use answer::Answer;
 use text::Draft;
 
 // What `line` answers, with the place after the line.
-#[derive(Drop)]
+#[derive(Clone, Copy)]
 pub struct Laid {
     pub answer: Answer,
     pub end: usize,

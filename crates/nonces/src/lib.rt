@@ -1,18 +1,20 @@
 // The nonces of the sync requests that are outstanding, in the order of issue: one issued again counts once, from its latest issue.
+#![tactic(auto)]
+
 ghost use Rattle.std.specs.Prelude.{◌≡◌, [], ◌≤◌, length};
 ghost use Rattle.ceilings.specs.Ceilings.{most_nonces};
 ghost use Rattle.nonces.specs.Nonces.{outstanding, issued, KeptAs, RoomMadeAs, SpentAs};
 
 use ceilings::MOST_NONCES;
 
-#[derive(Drop)]
+#[derive(Clone, Copy)]
 pub struct Nonces {
     pub list: [u32; MOST_NONCES],
     pub used: usize,
 }
 
 // The store stands first in what `spend` gives back: a flag in front of it would make padding, and then the compiler copies the store once more.
-#[derive(Drop)]
+#[derive(Clone, Copy)]
 pub struct Spent {
     pub nonces: Nonces,
     pub found: bool,

@@ -1,4 +1,6 @@
 // Small questions about numbers that several crates ask, each answered once. The language has no generics: a second width of a function has its own name.
+#![tactic(auto)]
+
 ghost use Rattle.std.specs.Prelude.{◌≡◌, ◌-◌, min};
 ghost use Rattle.base.specs.Pick.{pick};
 ghost use Rattle.numbers.specs.Range.{outside};

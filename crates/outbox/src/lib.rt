@@ -1,5 +1,7 @@
 // The send queue: a lent byte buffer in which messages stand back to back. One more is written at
 // its end, or nothing where it does not fit.
+#![tactic(auto)]
+
 mod inputs;
 
 ghost use Rattle.codec.specs.Read.{body_only};
@@ -10,7 +12,7 @@ use codec::{Message, MessageBody};
 pub use inputs::{input_size, pending_input};
 
 // Whether a message was written, and where the queue now ends.
-#[derive(Drop)]
+#[derive(Clone, Copy)]
 pub struct Queued {
     pub ok: bool,
     pub end: usize,

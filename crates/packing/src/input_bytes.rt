@@ -3,7 +3,7 @@
 use ceilings::MOST_WIDTH;
 
 // A frame (biased by 2^31) and its bytes, zeros past the width.
-#[derive(Drop)]
+#[derive(Clone, Copy)]
 pub struct InputBytes {
     pub frame: u32,
     pub bytes: [u8; MOST_WIDTH],

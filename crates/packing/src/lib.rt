@@ -1,5 +1,7 @@
 // Payloads of inputs: frames one behind the other, each XOR one reference (P-1). Here is one frame, into a lent buffer and out of a lent payload, so that
 // neither end copies a payload; the payload as a whole is a definition of specs/.
+#![tactic(auto)]
+
 ghost use Rattle.std.specs.Prelude.{◌≡◌, min, take, drop};
 ghost use Rattle.ceilings.specs.Ceilings.{most_width};
 ghost use Rattle.packing.specs.Packing.{xors, decodable_length, frame_count, PlacedAs};

@@ -1,4 +1,6 @@
 // The inputs sent and not yet acknowledged, oldest first: at most 129.
+#![tactic(auto)]
+
 ghost use Rattle.std.specs.Prelude.{◌≡◌, [], length};
 ghost use Rattle.packing.specs.Packing.{PlacedAs};
 ghost use Rattle.pending.specs.Pending.{waiting, drops, first_frame, payload, PushedAs, SizedAs, DroppedAs};
@@ -6,21 +8,21 @@ ghost use Rattle.pending.specs.Pending.{waiting, drops, first_frame, payload, Pu
 use ceilings::{MOST_PENDING, MOST_WIDTH};
 use packing::InputBytes;
 
-#[derive(Drop)]
+#[derive(Clone, Copy)]
 pub struct Pending {
     pub slots: [InputBytes; MOST_PENDING],
     pub used: usize,
 }
 
 // The store stands first in what a call gives back: a flag in front of it would make padding, and then the compiler copies the store once more.
-#[derive(Drop)]
+#[derive(Clone, Copy)]
 pub struct Pushed {
     pub pending: Pending,
     pub ok: bool,
     pub last: u32,
 }
 
-#[derive(Drop)]
+#[derive(Clone, Copy)]
 pub struct Dropped {
     pub pending: Pending,
     pub last: InputBytes,

@@ -1,4 +1,6 @@
 // Prints the line of the datagram on standard input (W-14).
+#![tactic(auto)]
+
 use libc::{STDERR_FILENO, STDIN_FILENO, STDOUT_FILENO};
 
 fn main() {

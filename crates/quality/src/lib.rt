@@ -1,5 +1,7 @@
 // The quality of a connection (ggrs, protocol.rs): both frame advantages, the round trip time, and what `network_stats` answers.
 // An advantage is held as a frame is, 2^31 above its signed number; on the wire it is an i16, held 2^15 above.
+#![tactic(auto)]
+
 ghost use Rattle.std.specs.Prelude.{◌≡◌};
 ghost use Rattle.base.specs.Pick.{pick};
 ghost use Rattle.quality.specs.Quality.{clamped, widened, round_trip, fresh_quality, started_at, remote_set, trip_noted, local_set};
@@ -9,7 +11,7 @@ use frame::BIAS32;
 use numbers::WORD;
 
 // What `network_stats` shows; the start is of the epoch clock.
-#[derive(Drop)]
+#[derive(Clone, Copy)]
 pub struct Quality {
     pub local_frame_advantage: u32,
     pub remote_frame_advantage: u32,
@@ -18,7 +20,7 @@ pub struct Quality {
 }
 
 // The answer of `network_stats`.
-#[derive(Drop)]
+#[derive(Clone, Copy)]
 pub struct NetworkStats {
     pub ping: u64,
     pub send_queue_len: usize,
@@ -27,7 +29,7 @@ pub struct NetworkStats {
 }
 
 // The answer of `local_advantage`.
-#[derive(Drop)]
+#[derive(Clone, Copy)]
 pub enum Advantage {
     Frames(u32),
     Overflow,

@@ -1,11 +1,13 @@
 // The setup of an endpoint: what is given to `new`, whether it keeps the ceilings, and what an endpoint reads of it.
+#![tactic(auto)]
+
 ghost use Rattle.std.specs.Prelude.{◌≡◌};
 ghost use Rattle.setup.specs.Setup.{terms_of, SortedAs, bad_setup, bad_desync, choices_with, interval_of, receiving_width, sending_width};
 
 mod list;
 
 // Whether the ends report checksums of their frames to each other, to find out where their games differ. ggrs: `DesyncDetection`.
-#[derive(Drop)]
+#[derive(Clone, Copy)]
 pub enum DesyncDetection {
     // Reports that come all the same are stored as with an interval of 1, or firmly.
     Off,
@@ -14,7 +16,7 @@ pub enum DesyncDetection {
 }
 
 // What a setup chooses between ways of working. `Choices::new` gives the crate's; set a field to choose another.
-#[derive(Drop)]
+#[derive(Clone, Copy)]
 pub struct Choices {
     // Whether the ends report checksums of frames to each other, and how many frames apart: off, or on with an interval of 1 to 10,000. Both ends choose
     // alike. ggrs: `desync_detection`.
@@ -26,7 +28,7 @@ pub struct Choices {
 }
 
 // The numbers of the players at the other end, in any order; `new` sorts them. The count is as given: one above 4 is refused.
-#[derive(Drop)]
+#[derive(Clone, Copy)]
 pub struct Handles {
     pub list: [u32; ceilings::MOST_PLAYERS],
     pub count: usize,
@@ -34,7 +36,7 @@ pub struct Handles {
 
 // What `new` is given. It takes any numbers, and refuses those outside the ranges below with 1 (BadSetup). `ggrs:` says what the crate's `UdpProtocol::new` calls
 // a field.
-#[derive(Drop)]
+#[derive(Clone, Copy)]
 pub struct Setup {
     // How many players take part, at all ends together: 1 to 4. ggrs: `num_players`.
     pub num_players: u32,

@@ -16,7 +16,7 @@ use spectator_rules::{Limits, SessionState};
 
 // The session that stands at the last of the frames advanced, and these frames, to be played one after the other. With the answer behind the frames a
 // refusal would copy the session once more.
-#[derive(Drop)]
+#[derive(Clone, Copy)]
 pub struct Advanced {
     pub session: SpectatorSession,
     pub answer: Answer,

@@ -10,13 +10,13 @@ use crate::{SessionEvents, SpectatorSession};
 use spectator_rules::SessionState;
 
 // The answer of `frames_behind_host`.
-#[derive(Drop)]
+#[derive(Clone, Copy)]
 pub enum FramesBehind {
     Frames(u32),
     Overflow,
 }
 
-#[derive(Drop)]
+#[derive(Clone, Copy)]
 pub struct TakenEvents {
     pub session: SpectatorSession,
     pub events: SessionEvents,

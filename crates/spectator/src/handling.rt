@@ -13,7 +13,7 @@ use spectator_rules::{Limits, SessionEntry, SessionEvent, SessionState};
 use status::Statuses;
 
 // What an event is handled by: the limits, and of the host its peer number, its newest frame, its frames per second and its statuses.
-#[derive(Drop)]
+#[derive(Clone, Copy)]
 pub struct Terms {
     pub limits: Limits,
     pub addr: u32,
@@ -22,7 +22,7 @@ pub struct Terms {
     pub statuses: Statuses,
 }
 
-#[derive(Drop)]
+#[derive(Clone, Copy)]
 pub struct Parts {
     pub state: SessionState,
     pub inputs: Inputs,

@@ -13,7 +13,7 @@ use codec::Message;
 use endpoint::{Ended as HostEnded, StatsResult};
 
 // The session without its messages, and how many bytes of them were copied.
-#[derive(Drop)]
+#[derive(Clone, Copy)]
 pub struct TakenMessages {
     pub session: SpectatorSession,
     pub answer: Answer,

@@ -7,7 +7,7 @@ use ceilings::{MOST_INPUT_SIZE, MOST_PLACES, MOST_PLAYERS, MOST_SLOTS};
 use frame::{BIAS32, NULL_FRAME};
 use spectator_rules::PlayerInput;
 
-#[derive(Drop)]
+#[derive(Clone, Copy)]
 pub struct Inputs {
     pub entries: [PlayerInput; MOST_PLACES],
     pub used: usize,

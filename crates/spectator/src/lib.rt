@@ -1,5 +1,7 @@
 // The spectator session of ggrs (p2p_spectator_session.rs): it replays the inputs that a host's endpoint receives. A state by value; what a call
 // does is `step` of the crate `spectator_rules`. On a refusal the session is the very one that the call was made on.
+#![tactic(auto)]
+
 mod advancing;
 mod creation;
 mod getters;
@@ -28,7 +30,7 @@ use status::Statuses;
 
 // Its endpoint, which speaks with the host; the limits; whether it is synchronized; the inputs received; the session's copy of the statuses that the host
 // reported; the events that wait to be taken; the last frame advanced and the last one received.
-#[derive(Drop)]
+#[derive(Clone, Copy)]
 pub struct SpectatorSession {
     pub host: Endpoint,
     pub limits: Limits,
@@ -41,7 +43,7 @@ pub struct SpectatorSession {
 }
 
 // What a call answers, with the session after it. The session comes first: with a byte and a gap in front of it each call would copy it once more.
-#[derive(Drop)]
+#[derive(Clone, Copy)]
 pub struct Ended {
     pub session: SpectatorSession,
     pub answer: Answer,

@@ -16,7 +16,7 @@ use endpoint::Endpoint;
 use events::Events;
 
 // What a poll answers, with the session after it, and how many bytes from the buffer's start are handed back.
-#[derive(Drop)]
+#[derive(Clone, Copy)]
 pub struct Polled {
     pub session: SpectatorSession,
     pub answer: Answer,

@@ -13,13 +13,13 @@ use spectator_rules::{InputStatus, PlayerInput, SyncedInput};
 use status::{ConnectionStatus, Statuses};
 
 // One frame.
-#[derive(Drop)]
+#[derive(Clone, Copy)]
 pub struct Request {
     pub inputs: [SyncedInput; MOST_PLAYERS],
     pub used: usize,
 }
 
-#[derive(Drop)]
+#[derive(Clone, Copy)]
 pub struct Requests {
     pub frames: [Request; MOST_ADVANCED],
     pub used: usize,

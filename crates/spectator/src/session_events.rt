@@ -7,7 +7,7 @@ ghost use Rattle.spectator.specs.Stores.{events_of, EventsAs, blank_session_entr
 use ceilings::MOST_SESSION_EVENTS;
 use spectator_rules::{SessionEntry, SessionEvent};
 
-#[derive(Drop)]
+#[derive(Clone, Copy)]
 pub struct SessionEvents {
     pub entries: [SessionEntry; MOST_SESSION_EVENTS],
     pub used: usize,

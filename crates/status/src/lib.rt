@@ -1,4 +1,6 @@
 // What an endpoint knows of a player's connection, from its own side and from the other end's reports.
+#![tactic(auto)]
+
 ghost use Rattle.std.specs.Prelude.{◌≡◌, max};
 ghost use Rattle.status.specs.Status.{default_status, reported, merged};
 
@@ -8,7 +10,7 @@ mod list;
 pub use lent::copied;
 pub use list::Statuses;
 
-#[derive(Drop)]
+#[derive(Clone, Copy)]
 pub struct ConnectionStatus {
     pub disconnected: bool,
     pub last_frame: u32,

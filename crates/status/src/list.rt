@@ -7,7 +7,7 @@ ghost use Rattle.status.specs.Statuses.{held_statuses, HeldAs, default_statuses,
 use crate::ConnectionStatus;
 use ceilings::MOST_PLAYERS;
 
-#[derive(Drop)]
+#[derive(Clone, Copy)]
 pub struct Statuses {
     pub list: [ConnectionStatus; MOST_PLAYERS],
     pub count: usize,

@@ -10,7 +10,7 @@ use status::Statuses;
 use std::num::{wrapping_add_u32, wrapping_add_u64, wrapping_sub_u32};
 
 // Both ends, and the sum so far.
-#[derive(Drop)]
+#[derive(Clone, Copy)]
 struct Pair {
     a: Endpoint,
     b: Endpoint,
@@ -18,7 +18,7 @@ struct Pair {
 }
 
 // An end after its part of a frame, and what its events add to the sum.
-#[derive(Drop)]
+#[derive(Clone, Copy)]
 struct Played {
     endpoint: Endpoint,
     sum: u64,

@@ -1,6 +1,8 @@
 // Repeats a call of the endpoint or of the codec, to be timed from outside: a run of N repetitions and one of 2N differ by the time of N.
 // Standard input has records: the item, the repetitions as a little-endian u32, and a datagram after its length in one byte. Each writes a line with a
 // sum over what came out, so that it shows what was done.
+#![tactic(auto)]
+
 mod calls;
 mod ends;
 mod exchange;

@@ -5,7 +5,7 @@ use answer::Answer;
 use endpoint::{Ended, Endpoint, StatsResult, StatusResult};
 
 // An object of the script, and the number that its last record was answered with; one that is not there holds an endpoint of no use.
-#[derive(Drop)]
+#[derive(Clone, Copy)]
 pub struct Side {
     pub answer: u32,
     pub present: bool,

@@ -3,7 +3,7 @@ use libc::{STDERR_FILENO, STDIN_FILENO};
 use text::Draft;
 
 // The first field of a record that no call has so.
-#[derive(Drop)]
+#[derive(Clone, Copy)]
 pub enum Fault {
     None,
     Call,

@@ -1,4 +1,6 @@
 // Runs a script of calls on two endpoints and a spectator session and writes the canonical answers: docs/REPLAY.md.
+#![tactic(auto)]
+
 mod calls;
 mod crc;
 mod faults;

@@ -5,7 +5,7 @@ use crate::record::Record;
 use libc::STDOUT_FILENO;
 use numbers::WORD;
 
-#[derive(Drop)]
+#[derive(Clone, Copy)]
 pub struct Out {
     digest: bool,
     length: u32,

@@ -27,7 +27,7 @@ pub const PANICKED: u32 = 254;
 const ABSENT: u32 = 255;
 
 // What becomes of a record: its object stays as it is, is made, is gone, or is called.
-#[derive(Drop)]
+#[derive(Clone, Copy)]
 pub enum Way {
     Same(u32),
     New,
@@ -35,7 +35,7 @@ pub enum Way {
     Called,
 }
 
-#[derive(Drop)]
+#[derive(Clone, Copy)]
 pub struct Record {
     pub call: u8,
     pub object: u8,

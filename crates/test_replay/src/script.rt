@@ -7,7 +7,7 @@ use crate::value::{is_checksum, is_message, is_setup};
 use libc::STDIN_FILENO;
 
 // How the answers are written.
-#[derive(Drop)]
+#[derive(Clone, Copy)]
 pub enum Mode {
     Whole,
     Digest,
@@ -15,14 +15,14 @@ pub enum Mode {
 }
 
 // A record, or the end of what can be read.
-#[derive(Drop)]
+#[derive(Clone, Copy)]
 pub struct Next {
     pub more: bool,
     pub record: Record,
 }
 
 // A datagram that is carried: whether there is one, and its length.
-#[derive(Drop)]
+#[derive(Clone, Copy)]
 struct Carried {
     sound: bool,
     length: usize,

@@ -9,7 +9,7 @@ const POLL: u8 = 5;
 
 // The third object of the script, the number that its last record was answered with, and how many bytes a poll handed back; one that is not there holds
 // a session of no use.
-#[derive(Drop)]
+#[derive(Clone, Copy)]
 pub struct Watcher {
     pub answer: u32,
     pub filled: usize,

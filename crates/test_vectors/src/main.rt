@@ -1,6 +1,8 @@
 // Runs the codec on datagrams from standard input, each after its length as a little-endian u16,
 // and writes a line for each: the datagram's line and, where it reads, whether writing the message
 // gives the datagram back.
+#![tactic(auto)]
+
 ghost use Rattle.std.specs.Prelude.{◌<◌};
 
 use answer::Answer;

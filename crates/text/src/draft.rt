@@ -12,7 +12,7 @@ use crate::pieces::{append, lay};
 // Bytes of a text.
 pub const MOST_DRAFT: usize = 256;
 
-#[derive(Drop)]
+#[derive(Clone, Copy)]
 pub struct Draft {
     pub bytes: [u8; MOST_DRAFT],
     pub used: usize,

@@ -1,4 +1,6 @@
 // Text into lent buffers: numbers in decimal, bytes in hexadecimal, pieces one after another, and a draft of them.
+#![tactic(auto)]
+
 mod draft;
 mod hexadecimal;
 mod number;

@@ -5,7 +5,7 @@ ghost use Rattle.text.specs.Decimal.{decimal_of, signed_of, text_of};
 use crate::tenth::divided;
 
 // A number as text: the bytes from `start` on. The longest number has 39 digits, and one byte more leaves room for a sign.
-#[derive(Drop)]
+#[derive(Clone, Copy)]
 pub struct Numeral {
     pub bytes: [u8; 40],
     pub start: usize,

@@ -15,7 +15,7 @@ pub fn append(out: &mut [u8], at: usize, piece: &[u8]) -> bool
     if len - at < piece.len() {
         return false;
     }
-    bytes::copy(piece, &mut out[at..]);
+    out[at..at + piece.len()].copy_from_slice(piece);
     true
 }
 

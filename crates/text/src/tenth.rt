@@ -5,7 +5,7 @@ ghost use Rattle.text.specs.Tenth.{TenthOf};
 use numbers::WORD;
 
 // A number of two words, and the digit that stood after it.
-#[derive(Drop)]
+#[derive(Clone, Copy)]
 pub(crate) struct Tenth {
     pub low: u64,
     pub high: u64,

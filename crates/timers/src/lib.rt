@@ -1,4 +1,6 @@
 // The timer clocks of an endpoint (ggrs, protocol.rs), when a clock is refused, and when a wait is over.
+#![tactic(auto)]
+
 ghost use Rattle.std.specs.Prelude.{◌≡◌};
 ghost use Rattle.base.specs.Pick.{pick};
 ghost use Rattle.timers.specs.Timers.{bad_clock, passed, made_at, input_at, sent_at, request_at, heard_at, shutdown_at, timed, fired_by};
@@ -7,7 +9,7 @@ ghost use Rattle.timers.specs.Timers.{bad_clock, passed, made_at, input_at, sent
 pub const CLOCK_END: u64 = 0x4000_0000_0000_0000;
 
 // The timer clocks, in milliseconds of the monotonic clock.
-#[derive(Drop)]
+#[derive(Clone, Copy)]
 pub struct Clocks {
     pub running_last_quality_report: u64,
     pub running_last_input_recv: u64,
@@ -41,7 +43,7 @@ pub fn time_if(due: bool, now: u64, last: u64) -> u64
 }
 
 // A step that fires. Each sets some of the clocks, all to one time, and leaves the others.
-#[derive(Drop)]
+#[derive(Clone, Copy)]
 pub enum Firing {
     // A request of the handshake goes out.
     Requested,

@@ -15,7 +15,7 @@ const QUALITY_REPORT_INTERVAL: u64 = 200;
 const KEEP_ALIVE_INTERVAL: u64 = 200;
 
 // A resend restarts its clock also where it has no input to send.
-#[derive(Drop)]
+#[derive(Clone, Copy)]
 pub struct Due {
     pub resend: bool,
     pub input: bool,

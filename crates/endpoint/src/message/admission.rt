@@ -8,7 +8,7 @@ use answer::Answer;
 use endpoint_rules::Phase;
 
 // Where it is shut, the call ends with this answer and changes nothing.
-#[derive(Drop)]
+#[derive(Clone, Copy)]
 pub struct Door {
     pub shut: bool,
     pub answer: Answer,

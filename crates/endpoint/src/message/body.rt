@@ -8,7 +8,7 @@ use checksums::Checksum;
 use codec::MessageBody;
 
 // An Input without its statuses and its payload.
-#[derive(Drop)]
+#[derive(Clone, Copy)]
 pub struct InputHead {
     pub disconnect_requested: bool,
     pub start_frame: u32,

@@ -7,7 +7,7 @@ use endpoint_rules::{Flags, Phase};
 use timers::Clocks;
 
 // The plain parts of an endpoint that have heard a message, and whether that ends an interruption, which is then announced.
-#[derive(Drop)]
+#[derive(Clone, Copy)]
 pub struct Heard {
     pub resumes: bool,
     pub clocks: Clocks,

@@ -14,7 +14,7 @@ use status::Statuses;
 use timers::Clocks;
 
 // The plain parts of an endpoint that an Input changes whatever inputs it brings, and what it announces ahead of them.
-#[derive(Drop)]
+#[derive(Clone, Copy)]
 pub struct Informed {
     pub resumes: bool,
     pub disconnects: bool,

@@ -21,7 +21,7 @@ use setup::Setup;
 use timers::Clocks;
 
 // A packet that is looked into, and nothing done yet: the reference with whether it is held, and what is found of it.
-#[derive(Drop)]
+#[derive(Clone, Copy)]
 pub struct Opened {
     pub input: InputBytes,
     pub held: bool,
@@ -33,7 +33,7 @@ pub struct Opened {
 }
 
 // The frames above the newest: the first of them, how many, and where they stand in the payload.
-#[derive(Drop)]
+#[derive(Clone, Copy)]
 pub struct News {
     pub first: u32,
     pub count: u32,

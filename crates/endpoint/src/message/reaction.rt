@@ -6,7 +6,7 @@ use quality::Quality;
 use timers::Clocks;
 
 // The plain parts of an endpoint that such a message may change; `ok` says whether all that it brings has room.
-#[derive(Drop)]
+#[derive(Clone, Copy)]
 pub struct Reacted {
     pub quality: Quality,
     pub clocks: Clocks,
