@@ -21,6 +21,7 @@ pub const NULL_FRAME: u32 = 0x7FFF_FFFF;
 pub const GREATEST_FRAME: u32 = 0xFFFF_FFFF;
 
 // By way of i64, since the sum of an i32 and the bias leaves i32.
+#[tactic(auto, using(crate::proofs::Signed::biased_below, crate::proofs::Signed::biased_sum))]
 pub fn from_signed(frame: i32) -> u32
     ensures { result ≡ biased bias32 frame }
 {
@@ -28,6 +29,7 @@ pub fn from_signed(frame: i32) -> u32
 }
 
 // What people read is signed.
+#[tactic(auto, using(crate::proofs::Signed::signed_within), unfolding(crate::specs::Bias::signed))]
 pub fn to_signed(frame: u32) -> i32
     ensures { result ≡ signed bias32 frame }
 {
@@ -35,6 +37,7 @@ pub fn to_signed(frame: u32) -> i32
 }
 
 // The bits of the i32 that a frame is on the wire, and back: it undoes itself.
+#[tactic(auto, using(crate::proofs::Bits::bits_high, crate::proofs::Bits::bits_low))]
 pub fn bits_of(frame: u32) -> u32
     ensures { result ≡ bits_of bias32 frame }
 {
@@ -46,6 +49,7 @@ pub fn bits_of(frame: u32) -> u32
 }
 
 // The same for the i16 of an advantage.
+#[tactic(auto, using(crate::proofs::Bits::bits_high, crate::proofs::Bits::bits_low))]
 pub fn advantage_bits_of(advantage: u16) -> u16
     ensures { result ≡ bits_of bias16 advantage }
 {

@@ -19,6 +19,7 @@ pub struct Draft {
 }
 
 impl Draft {
+    #[tactic(auto, using(crate::proofs::DraftLaws::nothing))]
     pub fn new() -> Draft
         ensures { DraftedAs [] result }
     {
@@ -28,12 +29,14 @@ impl Draft {
         }
     }
 
+    #[tactic(auto, using(crate::proofs::DraftLaws::counted))]
     fn count(self) -> usize
         ensures { result ≡ length (drafted self) }
     {
         numbers::least(self.used, MOST_DRAFT)
     }
 
+    #[tactic(auto, using(crate::proofs::DraftLaws::put_fits, crate::proofs::DraftLaws::put_none))]
     pub fn put(self, piece: &[u8]) -> Draft
         ensures { DraftedAs (added (drafted self) piece.now) result }
     {
@@ -49,6 +52,7 @@ impl Draft {
     }
 
     // Two lower-case digits a byte.
+    #[tactic(auto, using(crate::proofs::HexLaws::hex_length, crate::proofs::DraftLaws::put_fits, crate::proofs::DraftLaws::put_none))]
     pub fn put_hex(self, piece: &[u8]) -> Draft
         ensures { DraftedAs (added (drafted self) (hex_of piece.now)) result }
     {
@@ -63,6 +67,7 @@ impl Draft {
         Draft { bytes, used }
     }
 
+    #[tactic(auto, using(crate::proofs::NumeralLaws::sliced, crate::proofs::NumeralLaws::starts))]
     fn put_numeral(self, value: Numeral) -> Draft
         requires { 1 ≤ length (text_of value) }
         ensures { DraftedAs (added (drafted self) (text_of value)) result }
@@ -73,6 +78,7 @@ impl Draft {
     }
 
     // The number low + 2 ^ 64 * high.
+    #[tactic(auto, using(crate::proofs::DecimalLaws::decimal_some))]
     pub fn put_decimal(self, low: u64, high: u64) -> Draft
         ensures { DraftedAs (added (drafted self) (decimal_of (low + 2 ^ 64 * high))) result }
     {
@@ -80,6 +86,7 @@ impl Draft {
     }
 
     // The number n - bias.
+    #[tactic(auto, using(crate::proofs::DecimalLaws::signed_some))]
     pub fn put_signed(self, n: u32, bias: u32) -> Draft
         ensures { DraftedAs (added (drafted self) (signed_of bias n)) result }
     {
@@ -87,6 +94,7 @@ impl Draft {
     }
 
     // All of it at a place of a lent buffer, where it fits; the place after it, or the place as it was.
+    #[tactic(auto, using(crate::proofs::DraftLaws::drafted_front))]
     pub fn lay_into(self, out: &mut [u8], at: usize) -> usize
         ensures { page out.new result ≡ written (drafted self) (page out.old at) }
     {

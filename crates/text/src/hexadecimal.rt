@@ -4,6 +4,7 @@ ghost use Rattle.text.specs.Append.{AppendedAs};
 ghost use Rattle.text.specs.Hex.{hex_digit, hex_of};
 
 // Lays the digits of all the bytes at the place, or leaves the buffer as it is where they do not fit.
+#[tactic(auto, using(crate::proofs::HexLaws::hex_length, crate::proofs::HexLaws::hex_turn, base::proofs::Lay::laid_none, crate::proofs::AppendLaws::placed, crate::proofs::AppendLaws::refused), unfolding(crate::specs::Hex::hex_of))]
 pub fn hex(out: &mut [u8], at: usize, bytes: &[u8]) -> bool
     ensures { AppendedAs out.old at (hex_of bytes.now) result out.new }
 {
@@ -27,6 +28,7 @@ pub fn hex(out: &mut [u8], at: usize, bytes: &[u8]) -> bool
     true
 }
 
+#[tactic(auto, using(crate::proofs::HexLaws::hex_digit_high, crate::proofs::HexLaws::hex_digit_low))]
 fn digit(half: u8) -> u8
     requires { half < 16 }
     ensures { result ≡ hex_digit half }

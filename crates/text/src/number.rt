@@ -12,6 +12,7 @@ pub struct Numeral {
 }
 
 // Digits are had from the low end, so they are written from the array's end towards its front.
+#[tactic(auto, using(crate::proofs::NumeralLaws::digit_fits, crate::proofs::NumeralLaws::last, crate::proofs::NumeralLaws::more_high, crate::proofs::NumeralLaws::more_low, crate::proofs::NumeralLaws::one_left, crate::proofs::NumeralLaws::turn, crate::proofs::NumeralLaws::turn_less, crate::proofs::DecimalLaws::two_places, crate::proofs::NumeralLaws::words_fit), unfolding(crate::specs::Decimal::decimal_of, crate::specs::Decimal::text_of))]
 pub fn decimal(low: u64, high: u64) -> Numeral
     ensures { text_of result ≡ decimal_of (low + 2 ^ 64 * high) }
 {
@@ -31,6 +32,7 @@ pub fn decimal(low: u64, high: u64) -> Numeral
 }
 
 // The number n - bias.
+#[tactic(auto, using(crate::proofs::NumeralLaws::minus, crate::proofs::NumeralLaws::not_negative, crate::proofs::NumeralLaws::one_word, crate::proofs::NumeralLaws::sign_place))]
 pub fn signed(n: u32, bias: u32) -> Numeral
     ensures { text_of result ≡ signed_of bias n }
 {

@@ -4,6 +4,7 @@ ghost use Rattle.text.specs.Append.{AppendedAs};
 ghost use Rattle.text.specs.Page.{page, written};
 
 // Lays the piece at the place, or leaves the buffer as it is where the piece does not fit.
+#[tactic(auto, using(base::proofs::Lay::laid_copied, crate::proofs::AppendLaws::placed, crate::proofs::AppendLaws::refused))]
 pub fn append(out: &mut [u8], at: usize, piece: &[u8]) -> bool
     ensures { AppendedAs out.old at piece.now result out.new }
 {
@@ -20,6 +21,7 @@ pub fn append(out: &mut [u8], at: usize, piece: &[u8]) -> bool
 }
 
 // The same, for text that goes on behind it: the place after the piece, or the place as it was.
+#[tactic(auto, using(crate::proofs::PageLaws::fits, crate::proofs::PageLaws::laid_page, crate::proofs::PageLaws::same_page))]
 pub fn lay(out: &mut [u8], at: usize, piece: &[u8]) -> usize
     ensures { page out.new result ≡ written piece.now (page out.old at) }
 {
