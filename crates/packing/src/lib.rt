@@ -59,6 +59,7 @@ fn undo(part: &[u8], reference: [u8; MOST_WIDTH]) -> [u8; MOST_WIDTH]
 }
 
 // The frame that starts at a place of a payload, with zeros after it; what lies past the payload's end is not there.
+#[tactic(auto, unfolding(crate::specs::Pad::padded, crate::specs::Packing::xors))]
 pub fn frame_at(
     payload: &[u8],
     at: usize,
@@ -80,6 +81,7 @@ pub fn frame_at(
 }
 
 // Whether a payload of this length is whole frames.
+#[tactic(auto, unfolding(crate::specs::Packing::decodable_length))]
 pub fn decodable(length: usize, width: usize) -> bool
     ensures { result ≡ decodable_length width length }
 {
