@@ -17,6 +17,7 @@ fn status_or(list: &[ConnectionStatus], at: usize) -> ConnectionStatus
     list[at]
 }
 
+#[tactic(auto, using(crate::proofs::Fours::of_four), unfolding(crate::specs::Statuses::held_statuses))]
 fn packed(
     a: ConnectionStatus,
     b: ConnectionStatus,
@@ -56,6 +57,7 @@ fn lend(list: [ConnectionStatus; MOST_PLAYERS], n: usize) -> Statuses
 
 impl Statuses {
     // The copy of the list of those held, one record per player, which is lent for it.
+    #[tactic(auto, using(crate::proofs::Fours::four_of, crate::proofs::Held::held_le, base::proofs::Arrays::take_count, base::proofs::Arrays::unmap), unfolding(crate::specs::Statuses::held_statuses))]
     pub fn lent(self) -> Statuses
         ensures { HeldAs (held_statuses self) (length (held_statuses self)) result }
     {

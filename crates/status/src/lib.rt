@@ -17,6 +17,7 @@ pub struct ConnectionStatus {
 }
 
 impl ConnectionStatus {
+    #[tactic(auto, unfolding(crate::specs::Status::default_status))]
     pub fn default() -> ConnectionStatus
         ensures { result ≡ default_status }
     {
@@ -27,6 +28,7 @@ impl ConnectionStatus {
     }
 
     // The one way by which a report, as it travels, becomes a record.
+    #[tactic(auto, unfolding(crate::specs::Status::reported))]
     pub fn reported(disconnected: bool, last_frame: u32) -> ConnectionStatus
         ensures { result ≡ reported disconnected last_frame }
     {
@@ -37,6 +39,7 @@ impl ConnectionStatus {
     }
 
     // A later report never clears `disconnected`, and never takes `last_frame` back.
+    #[tactic(auto, unfolding(crate::specs::Status::merged))]
     pub fn merge(self, other: ConnectionStatus) -> ConnectionStatus
         ensures { result ≡ merged self other }
     {

@@ -15,6 +15,7 @@ pub struct Statuses {
 
 impl Statuses {
     // One for each player, at most 4.
+    #[tactic(auto, unfolding(crate::specs::Statuses::default_statuses, crate::specs::Statuses::held_statuses))]
     pub fn new(players: usize) -> Statuses
         ensures { HeldAs (default_statuses players) (min players most_players) result }
     {
@@ -26,6 +27,7 @@ impl Statuses {
         }
     }
 
+    #[tactic(auto, using(base::proofs::Arrays::unmap), unfolding(crate::specs::Statuses::held_statuses))]
     pub fn count(self) -> usize
         ensures { result ≡ length (held_statuses self) }
     {
@@ -33,6 +35,7 @@ impl Statuses {
     }
 
     // The status at a place, or the default where there is none.
+    #[tactic(auto, using(base::proofs::Orders::get_or_within, base::proofs::Arrays::unmap, base::proofs::Arrays::view_at, base::proofs::Arrays::view_le), unfolding(crate::specs::Statuses::held_statuses))]
     pub fn get(self, at: usize) -> ConnectionStatus
         ensures { result ≡ get_or (held_statuses self) at default_status }
     {
@@ -43,6 +46,7 @@ impl Statuses {
     }
 
     // One place merged with a status; nothing changes where there is no such place. The count stays, beyond the array too.
+    #[tactic(auto, using(base::proofs::Arrays::unmap, base::proofs::Arrays::view_le), unfolding(crate::specs::Statuses::held_statuses, crate::specs::Statuses::merged_at))]
     pub fn merge_at(self, at: usize, other: ConnectionStatus) -> Statuses
         ensures { HeldAs (merged_at at other (held_statuses self)) self.count result }
     {
@@ -61,6 +65,7 @@ impl Statuses {
     }
 
     // Each place merged with the same place of the other, where it has one.
+    #[tactic(auto, using(crate::proofs::MergeAll::all_none, crate::proofs::MergeAll::all_turn))]
     pub fn merge(self, other: Statuses) -> Statuses
         ensures { HeldAs (merged_all (held_statuses self) (held_statuses other)) self.count result }
     {
