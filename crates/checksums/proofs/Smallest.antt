@@ -3,7 +3,7 @@ use borrow.Author.Tests.{eqb-true, eq-eqb, lt-leb, lt-ltb}
 use mathlib.Core.Bool.{Bool, true, false, true≢false, false≢true, ◌||◌, or-true, or-false}
 use mathlib.Core.List.{List, [], ◌∷◌}
 use mathlib.Core.Logic.{⊎_elim}
-use mathlib.Core.Path.{◌≡◌, refl, sym, ◌∙◌, ap}
+use mathlib.Core.Path.{◌≡◌, refl, sym, ◌∙◌, ap, subst}
 use Prim.Native.Nat.{ℕ, suc, ◌+◌, ◌≤◌, ◌<◌, min}
 use native.Mathlib.Omega.{arith}
 use lib.Dec.{eqb, leb}
@@ -31,6 +31,11 @@ smallest-le k (x ∷ y ∷ l) e =
     [ true ↦ λ q _. omega (arith, eqb-true k x.frame q) | false ↦ λ _ f. omega (arith, smallest-le k (y ∷ l) f) ]
     refl e
 
+-- what holds a frame holds it with one more in front
+has_more : (k : ℕ) (x : Checksum) (l : List Checksum) → has checksum_frame k l ≡ true → has checksum_frame k (x ∷ l) ≡ true
+unfolding has
+has_more k x l e = elim (eqb k x.frame) as (λ b. pick b true (has checksum_frame k l) ≡ true) [ true ↦ refl | false ↦ e ]
+
 -- it is stored
 smallest_among : (x : Checksum) (l : List Checksum) → has checksum_frame (smallest (x ∷ l)) (x ∷ l) ≡ true
 unfolding smallest has
@@ -41,8 +46,8 @@ smallest_among x (y ∷ l) =
     ⊎_elim
     (λ h. let q : min x.frame m ≡ x.frame = omega arith in rw (q, eq-eqb x.frame x.frame refl))
     (λ h.
-    let q : min x.frame m ≡ m = omega arith in
-    rw q (elim (eqb m x.frame) as (λ b. pick b true (has checksum_frame m (y ∷ l)) ≡ true) [ true ↦ refl | false ↦ rest ]))
+    let q : m ≡ smallest (x ∷ y ∷ l) = omega arith in
+    subst (λ (k : ℕ). has checksum_frame k (x ∷ y ∷ l) ≡ true) q (has_more m x (y ∷ l) rest))
     (below_or_not x.frame m)
 
 pub smallest-has : (l : List Checksum) → 1 ≤ length l → has checksum_frame (smallest l) l ≡ true

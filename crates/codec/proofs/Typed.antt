@@ -35,7 +35,7 @@ body_typed (ChecksumReport x f) vs h = search rules
 body_typed KeepAlive vs h = tt
 
 -- the reports of an array, one by one
-reports_typed : (l : List StatusReport) (us : List Val) → shadow (each _ (StatusReport.the_field).row.own_val (map (StatusReport.the_field).into l) us) → FitsReports l
+reports_typed : (l : List StatusReport) (us : List Val) → shadow (each _ (StatusReport.the_row).own_val l us) → FitsReports l
 reports_typed [] us h i d k = absurd (omega arith)
 reports_typed (x ∷ l) [] h i d k = absurd h
 reports_typed (x ∷ l) (u ∷ us) h zero d k = search rules
