@@ -1,0 +1,25 @@
+-- The digits of one byte after another are laid, and at the end those of all.
+use Rattle.std.proofs.Common.{◌≡◌, length, length-set, arith}
+use lib.Seq.{take-length}
+use Rattle.text.specs.Hex.{hex_of}
+use Rattle.text.proofs.AppendLaws.{placed}
+use Rattle.text.proofs.HexLaws.{hex_length, hex_turn}
+use Rattle.text.proofs.hexadecimal.hex.Goals as goal
+
+pub loop-i-preserved : goal.loop-i-preserved
+loop-i-preserved c =
+    let a = c.args in
+    let l = c.loop-i in (
+      omega arith,
+      omega arith,
+      simp length-set l.invariant.2,
+      hex_turn a.out.now a.at a.bytes.now (omega arith) l.i l.out l.place _ _ (omega arith) l.invariant.1 l.invariant.3 c.digit.ensures
+          c.digit-in-loop-i.ensures,
+    )
+
+pub returns : goal.returns
+returns c =
+    let a = c.args in
+    let l = c.loop-i in
+    let e : l.i ≡ length a.bytes.now = omega arith in
+    placed a.out.now a.at (hex_of a.bytes.now) l.out (omega (arith, hex_length a.bytes.now)) (rw (e, take-length) at l.invariant.3)
