@@ -6,6 +6,13 @@ mod exchange;
 mod lines;
 mod table;
 
-fn main() {
-    exchange::run();
+use std::process::ExitCode;
+
+fn main(rt: HostRuntime) -> ExitCode {
+    if exchange::run(&rt).is_ok() {
+        return ExitCode::SUCCESS;
+    }
+    // Where this line fails too, nobody is left to be told.
+    let _ = eprintln!(rt; "demo_bout: standard output cannot be written");
+    ExitCode::FAILURE
 }

@@ -5,8 +5,9 @@
 use ceilings::MOST_CHECKSUMS;
 use endpoint::{Answer, Checksums, Ended, Endpoint, Message, MessageBody, Wide};
 use frame::BIAS32;
-use libc::{STDERR_FILENO, STDOUT_FILENO};
+use std::io;
 use std::num::wrapping_sub_usize;
+use std::process::ExitCode;
 use text::Draft;
 
 // The ends' magics, and their numbers as peers.
@@ -14,17 +15,27 @@ const A: u16 = 65;
 
 const B: u16 = 66;
 
-fn main() {
-    let full = show(BIAS32 + 100, report(falling(), BIAS32 + 100, 110));
-    let refused = show(BIAS32 + 99, report(full, BIAS32 + 99, 120));
+fn main(rt: HostRuntime) -> ExitCode {
+    if play(&rt).is_ok() {
+        return ExitCode::SUCCESS;
+    }
+    // Where this line fails too, nobody is left to be told.
+    let _ = eprintln!(rt; "demo_ceiling: standard output cannot be written");
+    ExitCode::FAILURE
+}
+
+fn play(rt: &impl Print) -> io::Result<()> {
+    let full = show(rt, BIAS32 + 100, report(falling(), BIAS32 + 100, 110))?;
+    let refused = show(rt, BIAS32 + 99, report(full, BIAS32 + 99, 120))?;
     if same(full.checksums(), refused.checksums()) {
-        put(b"All 64 are as they were\n");
+        put(rt, b"All 64 are as they were\n")?;
     }
     if unheard(full, refused) {
-        put(b"And nothing was heard, announced or queued\n");
+        put(rt, b"And nothing was heard, announced or queued\n")?;
     }
-    let later = show(BIAS32 + 164, report(refused, BIAS32 + 164, 130));
-    show(BIAS32 + 99, report(later, BIAS32 + 99, 140));
+    let later = show(rt, BIAS32 + 164, report(refused, BIAS32 + 164, 130))?;
+    show(rt, BIAS32 + 99, report(later, BIAS32 + 99, 140))?;
+    Ok(())
 }
 
 // B after A's reports of frames 163 down to 101.
@@ -55,14 +66,14 @@ fn report(b: Endpoint, frame: u32, now: u64) -> Ended {
 }
 
 // What a report was answered, and the checksums then held.
-fn show(frame: u32, ended: Ended) -> Endpoint {
+fn show(rt: &impl Print, frame: u32, ended: Ended) -> io::Result<Endpoint> {
     let answer = ended.answer;
-    print_line(frame, answer, ended.endpoint.checksums());
-    ended.endpoint
+    print_line(rt, frame, answer, ended.endpoint.checksums())?;
+    Ok(ended.endpoint)
 }
 
 // Checksums stand in the order of their coming.
-fn print_line(frame: u32, answer: Answer, held: Checksums) {
+fn print_line(rt: &impl Print, frame: u32, answer: Answer, held: Checksums) -> io::Result<()> {
     let count = held.count();
     let first = held.entry(0);
     let last = held.entry(wrapping_sub_usize(count, 1));
@@ -79,7 +90,7 @@ fn print_line(frame: u32, answer: Answer, held: Checksums) {
         .put_signed(last.frame, BIAS32)
         .put(b"\n");
     let bytes = line.bytes;
-    put(text::filled(&bytes, line.used));
+    put(rt, text::filled(&bytes, line.used))
 }
 
 // All that fit, place by place.
@@ -104,13 +115,6 @@ fn unheard(before: Endpoint, after: Endpoint) -> bool {
         & (before.last_recv_frame() == after.last_recv_frame())
 }
 
-// Writes the bytes. Where that fails it is told on standard error, once: it is closed behind the line.
-fn put(bytes: &[u8]) {
-    if !io::write_all(STDOUT_FILENO, bytes) {
-        io::write_all(
-            STDERR_FILENO,
-            b"demo_ceiling: standard output cannot be written\n",
-        );
-        libc::close(STDERR_FILENO);
-    }
+fn put(rt: &impl Print, bytes: &[u8]) -> io::Result<()> {
+    rt.write_all(bytes)
 }

@@ -3,14 +3,24 @@
 
 use endpoint::{Endpoint, Statuses};
 use frame::BIAS32;
-use libc::{STDERR_FILENO, STDOUT_FILENO};
+use std::io;
+use std::process::ExitCode;
 
 // The ends' magics, and their numbers as peers.
 const A: u16 = 65;
 
 const B: u16 = 66;
 
-fn main() {
+fn main(rt: HostRuntime) -> ExitCode {
+    if play(&rt).is_ok() {
+        return ExitCode::SUCCESS;
+    }
+    // Where this line fails too, nobody is left to be told.
+    let _ = eprintln!(rt; "demo_repeated: standard output cannot be written");
+    ExitCode::FAILURE
+}
+
+fn play(rt: &impl Print) -> io::Result<()> {
     let mut queue = [0u8; 128];
     let statuses = Statuses::new(2);
     let a = demo_ends::end(A, B, 1, 0);
@@ -20,17 +30,18 @@ fn main() {
     let mut copy = [0u8; 128];
     let taken = sent.endpoint.take_messages_into(&queue, &mut copy);
     let first = text::filled(&copy, taken.count);
-    let b = arrive(b, first, 110);
-    let b = arrive(b, first, 120);
+    let b = arrive(rt, b, first, 110)?;
+    let b = arrive(rt, b, first, 120)?;
     // The datagram with frames 0 and 1 arrives, and then the first once more.
     let a = taken.endpoint;
     let sent = a.send_input(BIAS32 + 1, b"\x07", statuses, 130, &mut queue);
-    let b = arrive(b, sent.endpoint.messages(&queue), 140);
-    arrive(b, first, 150);
+    let b = arrive(rt, b, sent.endpoint.messages(&queue), 140)?;
+    arrive(rt, b, first, 150)?;
+    Ok(())
 }
 
 // A's datagram arrives at B: what it is, what B announces, and what B answers.
-fn arrive(b: Endpoint, datagram: &[u8], now: u64) -> Endpoint {
+fn arrive(rt: &impl Print, b: Endpoint, datagram: &[u8], now: u64) -> io::Result<Endpoint> {
     let mut queue = [0u8; 64];
     let ended = b.datagram(A as u32, datagram, now, now, 0, &mut queue);
     let taken = ended.endpoint.take_events();
@@ -39,18 +50,11 @@ fn arrive(b: Endpoint, datagram: &[u8], now: u64) -> Endpoint {
     let at = event_line::lines(&mut page, at, b'B', taken.events, 1);
     let answer = taken.endpoint.messages(&queue);
     let at = message_line::line_after(&mut page, at, b"B: sends ", answer);
-    put(text::filled(&page, at));
+    put(rt, text::filled(&page, at))?;
     let answered = taken.endpoint.take_messages(&queue);
-    answered.endpoint
+    Ok(answered.endpoint)
 }
 
-// Writes the bytes. Where that fails it is told on standard error, once: it is closed behind the line.
-fn put(bytes: &[u8]) {
-    if !io::write_all(STDOUT_FILENO, bytes) {
-        io::write_all(
-            STDERR_FILENO,
-            b"demo_repeated: standard output cannot be written\n",
-        );
-        libc::close(STDERR_FILENO);
-    }
+fn put(rt: &impl Print, bytes: &[u8]) -> io::Result<()> {
+    rt.write_all(bytes)
 }

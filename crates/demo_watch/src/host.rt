@@ -2,6 +2,7 @@
 use crate::ends::{BOX, HOST, epoch};
 use crate::lines;
 use endpoint::{Choices, DesyncDetection, Ended, Endpoint, Handles, Setup, Statuses};
+use std::io;
 
 #[derive(Clone, Copy)]
 pub(crate) struct Host {
@@ -40,48 +41,54 @@ fn played(statuses: Statuses, player: usize, frame: u32) -> Statuses {
 }
 
 impl Host {
-    pub(crate) fn new(now: u32) -> Host {
+    pub(crate) fn new(rt: &impl Print, now: u32) -> io::Result<Host> {
         let made = Endpoint::new(setup(), now as u64);
         let answer = made.answer;
-        lines::refusal(HOST, answer);
+        lines::refusal(rt, HOST, answer)?;
         let endpoint = made.endpoint;
-        Host {
+        Ok(Host {
             endpoint,
             queue: [0u8; 1024],
             statuses: Statuses::new(2),
-        }
+        })
     }
 
     // What a call leaves. A refusal is shown; endpoint and queue are then as they were.
-    fn after(self, ended: Ended, queue: [u8; 1024]) -> Host {
+    fn after(self, rt: &impl Print, ended: Ended, queue: [u8; 1024]) -> io::Result<Host> {
         let answer = ended.answer;
-        lines::refusal(HOST, answer);
+        lines::refusal(rt, HOST, answer)?;
         let endpoint = ended.endpoint;
-        Host {
+        Ok(Host {
             endpoint,
             queue,
             ..self
-        }
+        })
     }
 
     // The time serves as the nonce, where a game draws one at random: no end makes two requests at one time.
-    pub(crate) fn synchronize(self, now: u32) -> Host {
+    pub(crate) fn synchronize(self, rt: &impl Print, now: u32) -> io::Result<Host> {
         let mut queue = self.queue;
         let ended = self
             .endpoint
             .synchronize(now as u64, epoch(now), now, &mut queue);
-        self.after(ended, queue)
+        self.after(rt, ended, queue)
     }
 
     // A frame of the game: both players' inputs, end to end.
-    pub(crate) fn send_input(self, frame: i32, inputs: [u8; 2], now: u32) -> Host {
+    pub(crate) fn send_input(
+        self,
+        rt: &impl Print,
+        frame: i32,
+        inputs: [u8; 2],
+        now: u32,
+    ) -> io::Result<Host> {
         let frame = frame::from_signed(frame);
         let statuses = played(played(self.statuses, 0, frame), 1, frame);
         let mut queue = self.queue;
         let ended = self
             .endpoint
             .send_input(frame, &inputs, statuses, now as u64, &mut queue);
-        Host { statuses, ..self }.after(ended, queue)
+        Host { statuses, ..self }.after(rt, ended, queue)
     }
 
     // Player 1 leaves: of the frames above this one its inputs are no longer its own.
@@ -92,15 +99,15 @@ impl Host {
         Host { statuses, ..self }
     }
 
-    pub(crate) fn act(self, now: u32) -> Host {
+    pub(crate) fn act(self, rt: &impl Print, now: u32) -> io::Result<Host> {
         let mut queue = self.queue;
         let ended = self
             .endpoint
             .act(self.statuses, now as u64, epoch(now), now, &mut queue);
-        self.after(ended, queue)
+        self.after(rt, ended, queue)
     }
 
-    fn datagram(self, datagram: &[u8], now: u32) -> Host {
+    fn datagram(self, rt: &impl Print, datagram: &[u8], now: u32) -> io::Result<Host> {
         let mut queue = self.queue;
         let ended = self.endpoint.datagram(
             BOX as u32,
@@ -110,37 +117,37 @@ impl Host {
             now,
             &mut queue,
         );
-        self.after(ended, queue)
+        self.after(rt, ended, queue)
     }
 
     // What the box has sent arrives, a message in each datagram.
-    pub(crate) fn receive(self, sent: &[u8], now: u32) -> Host {
+    pub(crate) fn receive(self, rt: &impl Print, sent: &[u8], now: u32) -> io::Result<Host> {
         let mut next = self;
         let mut at = 0;
         while at < sent.len() {
             let end = codec::message_end(sent, at);
-            next = next.datagram(&sent[at..end], now);
+            next = next.datagram(rt, &sent[at..end], now)?;
             at = end;
         }
-        next
+        Ok(next)
     }
 
     // The queue is emptied: what was in it is sent, or lost.
-    pub(crate) fn take_messages(self) -> Host {
+    pub(crate) fn take_messages(self, rt: &impl Print) -> io::Result<Host> {
         let queue = self.queue;
         let ended = self.endpoint.take_messages(&queue);
-        self.after(ended, queue)
+        self.after(rt, ended, queue)
     }
 
-    pub(crate) fn show_messages(self, fate: &[u8]) {
+    pub(crate) fn show_messages(self, rt: &impl Print, fate: &[u8]) -> io::Result<()> {
         let queue = self.queue;
-        lines::messages(HOST, fate, self.endpoint.messages(&queue));
+        lines::messages(rt, HOST, fate, self.endpoint.messages(&queue))
     }
 
-    pub(crate) fn show_events(self) -> Host {
+    pub(crate) fn show_events(self, rt: &impl Print) -> io::Result<Host> {
         let taken = self.endpoint.take_events();
-        lines::host_events(taken.events);
+        lines::host_events(rt, taken.events)?;
         let endpoint = taken.endpoint;
-        Host { endpoint, ..self }
+        Ok(Host { endpoint, ..self })
     }
 }

@@ -8,6 +8,13 @@ mod lines;
 mod show;
 mod viewer;
 
-fn main() {
-    show::run();
+use std::process::ExitCode;
+
+fn main(rt: HostRuntime) -> ExitCode {
+    if show::run(&rt).is_ok() {
+        return ExitCode::SUCCESS;
+    }
+    // Where this line fails too, nobody is left to be told.
+    let _ = eprintln!(rt; "demo_watch: standard output cannot be written");
+    ExitCode::FAILURE
 }
