@@ -49,13 +49,13 @@ datagram_typed bytes are z = go (datagram bytes) refl z
         record { magic = f.magic; body = f.body; frames = f.frames; bytes = f.bytes }
     go (fault n) m z = absurd (omega (arith, datagram_fault_range bytes n are m))
 
-numbers_typed : (l : List ℕ) (us : List Val) → shadow (each ℕ (UInt w32).own_val (map (λ (n : ℕ). n) l) us) → Each IsU32 l
+numbers_typed : (l : List ℕ) (us : List Val) → shadow (each ℕ (UInt w32).own_val l us) → Each IsU32 l
 unfolding Each
 numbers_typed [] us h = tt
 numbers_typed (n ∷ l) [] h = absurd h
 numbers_typed (n ∷ l) (u ∷ us) h = (search rules, numbers_typed l us h.1)
 
-frames_typed : (l : List ConnectionStatus) (us : List Val) → shadow (each _ (ConnectionStatus.the_field).row.own_val (map (ConnectionStatus.the_field).into l) us)
+frames_typed : (l : List ConnectionStatus) (us : List Val) → shadow (each _ (ConnectionStatus.the_row).own_val l us)
     → Each (λ (x : ConnectionStatus). IsU32 x.last_frame) l
 unfolding Each
 frames_typed [] us h = tt

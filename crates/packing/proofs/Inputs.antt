@@ -1,7 +1,7 @@
 -- The bytes of an input held are 64, since that is their array's length.
 use borrow.Author.Rules.{rules}
 use mathlib.Core.Path.{◌≡◌}
-use mathlib.Core.List.{List, [], ◌∷◌, map}
+use mathlib.Core.List.{List, [], ◌∷◌}
 use Prim.Native.Nat.{ℕ, zero, suc, ◌<◌}
 use native.Mathlib.Nat.{not-suc-le-zero, le_of_suc-le-suc}
 use lib.ListN.{length, take, get_or}
@@ -10,7 +10,7 @@ use denote.Array.{each}
 use denote.Shadow.{shadow}
 use Rattle.base.proofs.Arrays.{unmap}
 use Rattle.packing.specs.declared.input_bytes.InputBytes.{InputBytes}
-use Rattle.packing.specs.contracts.input_bytes.InputBytes.{the_field}
+use Rattle.packing.specs.contracts.input_bytes.InputBytes.{the_row}
 
 -- every input has 64 bytes
 unfoldable pub Full : List InputBytes → Type 0
@@ -18,7 +18,7 @@ Full [] = Unit {0}
 Full (x ∷ xs) = (length x.bytes ≡ 64) × Full xs
 
 -- an array of inputs is so
-pub slots_full : (l : List InputBytes) (us : List Val) → shadow (each the_field.row.Denot the_field.row.own_val (map the_field.into l) us) → Full l
+pub slots_full : (l : List InputBytes) (us : List Val) → shadow (each the_row.Denot the_row.own_val l us) → Full l
 unfolding Full
 slots_full [] us p = tt
 slots_full (x ∷ l) [] p = absurd p
