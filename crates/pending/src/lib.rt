@@ -29,6 +29,7 @@ pub struct Dropped {
 }
 
 impl Pending {
+    #[tactic(auto, unfolding(crate::specs::Pending::waiting))]
     pub fn new() -> Pending
         ensures { waiting result ≡ [] }
     {
@@ -42,6 +43,7 @@ impl Pending {
         }
     }
 
+    #[tactic(auto, using(base::proofs::Arrays::unmap), unfolding(crate::specs::Pending::waiting))]
     pub fn count(self) -> usize
         ensures { result ≡ length (waiting self) }
     {
@@ -49,6 +51,7 @@ impl Pending {
     }
 
     // One more at the end; where it is full, unchanged and not ok. The answer has the last frame before it too, or the one given where there was none.
+    #[tactic(auto, using(crate::proofs::Laws::last_is, crate::proofs::Laws::last_none, base::proofs::Arrays::store_end, base::proofs::Arrays::unmap, crate::proofs::Laws::waiting_at), unfolding(crate::specs::Pending::pushed, crate::specs::Pending::room, crate::specs::Pending::waiting))]
     pub fn push(mut self, input: InputBytes, none: u32) -> Pushed
         ensures { PushedAs self input none result }
     {
@@ -72,6 +75,7 @@ impl Pending {
     }
 
     // Whether a drop to ack changes anything: the oldest input has a frame of at most ack.
+    #[tactic(auto, using(crate::proofs::Laws::drops_is, crate::proofs::Laws::drops_none, crate::proofs::Laws::waiting_at))]
     pub fn drops(self, ack: u32) -> bool
         ensures { result ≡ drops ack (waiting self) }
     {
@@ -108,6 +112,7 @@ impl Pending {
     }
 
     // The frame of the oldest input, or the one given where there is none.
+    #[tactic(auto, using(crate::proofs::Laws::first_is, crate::proofs::Laws::first_none, crate::proofs::Laws::waiting_at))]
     pub fn first_frame(self, none: u32) -> u32
         ensures { result ≡ first_frame none (waiting self) }
     {

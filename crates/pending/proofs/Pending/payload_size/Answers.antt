@@ -1,0 +1,30 @@
+-- `payload_size` is the count times the bytes of a frame, at most 129 times 64; every input held has its 64 bytes.
+use Rattle.std.proofs.Common.{rules, ◌≡◌, ◌≤◌, length, arith}
+use mathlib.Core.Path.{◌∙◌}
+use native.Mathlib.Nat.{mul-le-mul, lt_of_le_of_lt}
+use lib.Dec.{lit<}
+use Rattle.base.proofs.Arrays.{unmap}
+use Rattle.packing.proofs.Inputs.{Full, slots_full, take_full}
+use Rattle.pending.specs.Pending.{waiting}
+use Rattle.pending.proofs.Laws.{waiting-le}
+use Rattle.pending.proofs.Widths.{payload-length}
+use Rattle.pending.proofs.Pending.payload_size.Goals as goal
+
+pub overflow_mul-result : goal.overflow_mul-result
+overflow_mul-result c =
+    let n : length c.args.self.slots ≡ 129 = search (unmap, rules) in
+    let l = waiting-le c.args.self in
+    let most : c.count.result ≤ 129 = omega (arith, c.count.ensures) in
+    let wide : c.frame_width.result ≤ 64 = omega (arith, c.frame_width.ensures) in
+    record { fits = lt_of_le_of_lt (mul-le-mul most wide) (lit< tt) }
+
+pub returns : goal.returns
+unfolding waiting
+returns c =
+    let s = c.args.self in
+    let full : Full s.slots = search (slots_full, rules) in
+    let n : c.count.result ≡ length (waiting s) = c.count.ensures in
+    record {
+      counted = rw (n, c.frame_width.ensures);
+      packed = λ reference h. payload-length c.args.width reference (waiting s) (take_full s.used s.slots full) h ∙ rw (n, c.frame_width.ensures);
+    }
