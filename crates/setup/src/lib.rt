@@ -124,6 +124,7 @@ impl Setup {
     }
 
     // The handles ascending, all else as it was, the count too.
+    #[tactic(auto, using(crate::proofs::Sorting::sorted_start, crate::proofs::Sorting::sorted_turn, base::proofs::Arrays::view_le))]
     pub fn sorted(self) -> Setup
         ensures { SortedAs self result }
     {
@@ -131,12 +132,14 @@ impl Setup {
         Setup { handles, ..self }
     }
 
+    #[tactic(auto, using(base::proofs::Arrays::view_le), unfolding(crate::specs::Setup::terms_with))]
     pub fn receiving_width(self) -> usize
         ensures { result ≡ receiving_width (terms_of self) }
     {
         self.handles.count() * (self.input_size as usize)
     }
 
+    #[tactic(auto, unfolding(crate::specs::Setup::terms_with))]
     pub fn sending_width(self) -> usize
         ensures { result ≡ sending_width (terms_of self) }
     {
