@@ -324,12 +324,12 @@ begun =
 at_a_all : {a b : End} → Run a b → (cs : List Call) → Each Typed cs → Each (λ c. Allowed c b.queued) cs → Run (nexts cs a) b
 unfolding Each
 at_a_all r [] t q = r
-at_a_all r (c ∷ cs) t q = at_a_all (at_a r c t.0 q.0) cs t.1 q.1
+at_a_all {a = a} r (c ∷ cs) t q = at_a_all {a = next c a} (at_a r c t.0 q.0) cs t.1 q.1
 
 at_b_all : {a b : End} → Run a b → (cs : List Call) → Each Typed cs → Each (λ c. Allowed c a.queued) cs → Run a (nexts cs b)
 unfolding Each
 at_b_all r [] t q = r
-at_b_all r (c ∷ cs) t q = at_b_all (at_b r c t.0 q.0) cs t.1 q.1
+at_b_all {b = b} r (c ∷ cs) t q = at_b_all {b = next c b} (at_b r c t.0 q.0) cs t.1 q.1
 
 -- ---- the calls are of the code's types
 

@@ -54,8 +54,8 @@ module _ {X : Type 0} where
 
   pub mem_kept : (t : X → Bool) (l : List X) {e : X} → Mem e l → t e ≡ true → Mem e (kept t l)
   unfolding kept
-  mem_kept t l {e} (here {x} {xs} q) p = rw (← q, p) (here refl)
-  mem_kept t l {e} (there {x} {xs} m) p = go (mem_kept t xs m p) (t x)
+  mem_kept t [] m p = absurd (not-nil m)
+  mem_kept t (x ∷ xs) {e} m p = elim (cases_cons m) [ inl q ↦ rw (← q, p) (here refl) | inr r ↦ go (mem_kept t xs r p) (t x) ]
     where
       go : Mem e (kept t xs) → (b : Bool) → Mem e (pick b (x ∷ kept t xs) (kept t xs))
       go ih true = there ih
@@ -76,8 +76,8 @@ found_mem f (x ∷ l) h = go (λ q. found_mem f l q) (eqb x.frame f) h
 
 pub mem_found : (f : ℕ) (l : List InputBytes) {e : InputBytes} → Mem e l → e.frame ≡ f → (found_in f l).held ≡ true
 unfolding found_in
-mem_found f l {e} (here {x} {xs} q) h = rw (eq-eqb x.frame f (cc))
-mem_found f l {e} (there {x} {xs} m) h = go (mem_found f xs m h) (eqb x.frame f)
+mem_found f [] m h = absurd (not-nil m)
+mem_found f (x ∷ xs) {e} m h = elim (cases_cons m) [ inl q ↦ rw (eq-eqb x.frame f (cc)) | inr r ↦ go (mem_found f xs r h) (eqb x.frame f) ]
   where
     go : (found_in f xs).held ≡ true → (b : Bool) → (pick {A = Found} b (record { held = true; input = x }) (found_in f xs)).held ≡ true
     go ih true = refl
@@ -97,8 +97,8 @@ newest_bound x (e ∷ es) b h = highest_bound x (e ∷ es) h
 
 highest_mem : (l : List InputBytes) {e : InputBytes} → Mem e l → e.frame ≤ highest l
 unfolding highest
-highest_mem l (here {x} {xs} q) = rw q (omega arith)
-highest_mem l (there {x} {xs} m) = omega (arith, highest_mem xs m)
+highest_mem [] m = absurd (not-nil m)
+highest_mem (x ∷ xs) m = elim (cases_cons m) [ inl q ↦ rw q (omega arith) | inr r ↦ omega (arith, highest_mem xs r) ]
 
 pub newest_mem : (l : List InputBytes) {e : InputBytes} → Mem e l → e.frame ≤ newest_of l
 unfolding newest_of
@@ -185,13 +185,18 @@ pub drop_some : (s i : ℕ) (l : List (List ℕ)) → i < length l → drop_to (
 unfolding drop_to numbered
 drop_some s i [] h = absurd (omega arith)
 drop_some s zero (b ∷ bs) h = rw (le-leb s (s + zero) (omega arith), drop_none (s + zero) (suc s) bs (omega arith), add-suc, add-zero)
-drop_some s (suc i) (b ∷ bs) h = rw (le-leb s (s + suc i) (omega arith)) (simp add-suc (simp (add-suc, suc-add) at (drop_some (suc s) i bs (omega arith))))
+drop_some s (suc i) (b ∷ bs) h =
+    let e : suc s + i ≡ s + suc i = omega arith in
+    let f : suc s + suc i ≡ s + suc (suc i) = omega arith in
+    rw (le-leb s (s + suc i) (omega arith)) (rw (e, f) at (drop_some (suc s) i bs (omega arith)))
 
 pub last_some : (a : InputBytes) (s i : ℕ) (l : List (List ℕ)) → i < length l → last_to (s + i) a (numbered s l) ≡ entry (s + i) (get_or l i [])
 unfolding last_to numbered
 last_some a s i [] h = absurd (omega arith)
 last_some a s zero (b ∷ bs) h = rw (le-leb s (s + zero) (omega arith), last_none (s + zero) (entry s b) (suc s) bs (omega arith), add-zero)
-last_some a s (suc i) (b ∷ bs) h = rw (le-leb s (s + suc i) (omega arith)) (simp add-suc (simp suc-add at (last_some (entry s b) (suc s) i bs (omega arith))))
+last_some a s (suc i) (b ∷ bs) h =
+    let e : suc s + i ≡ s + suc i = omega arith in
+    rw (le-leb s (s + suc i) (omega arith)) (rw e at (last_some (entry s b) (suc s) i bs (omega arith)))
 
 -- ---- the last frame
 

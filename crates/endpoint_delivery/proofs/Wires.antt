@@ -1,5 +1,6 @@
 -- What holds of an Input's first frame, and of the frame that an Input or an InputAck acknowledges.
-use mathlib.Core.List.{List}
+use mathlib.Core.List.{List, [], ◌∷◌}
+use mathlib.Core.Logic.{inl, inr}
 use mathlib.Core.Bool.{false}
 use mathlib.Core.Path.{◌≡◌}
 use Prim.Native.Nat.{ℕ}
@@ -8,7 +9,7 @@ use Rattle.codec.specs.declared.MessageBody.{MessageBody}
 use Rattle.codec.specs.declared.MessageBody.TheVariants.{SyncRequest, SyncReply, Input, InputAck, QualityReport, QualityReply, ChecksumReport, KeepAlive}
 use Rattle.endpoint_invariant.specs.Each.{Each}
 use Rattle.endpoint_delivery.specs.Runs.{carries}
-use Rattle.endpoint_delivery.proofs.Lists.{Mem, here, there}
+use Rattle.endpoint_delivery.proofs.Lists.{Mem, cases_cons, not-nil}
 
 abbrev pub OnInput : (ℕ → Type 0) → MessageBody → Type 0
 OnInput P (SyncRequest n) = Unit {0}
@@ -74,5 +75,5 @@ quiet_ack P KeepAlive q = tt
 
 pub each_mem : {X : Type 0} (P : X → Type 0) (l : List X) {e : X} → Each P l → Mem e l → P e
 unfolding Each
-each_mem P l h (here {x} {xs} q) = rw q h.0
-each_mem P l h (there {x} {xs} m) = each_mem P xs h.1 m
+each_mem P [] h m = absurd (not-nil m)
+each_mem P (x ∷ xs) h m = elim (cases_cons m) [ inl q ↦ rw q h.0 | inr r ↦ each_mem P xs h.1 r ]
