@@ -1,11 +1,11 @@
 -- The toolchain's types and their values, whatever the type: an array's value has its length, and elements of their type; and numbers of their width, and arrays, structs
 -- and enums of such, are values that machine values mean.
 use mathlib.Core.Bool.{Bool}
-use mathlib.Core.List.{List, [], ◌∷◌, map}
+use mathlib.Core.List.{List, [], ◌∷◌}
 use mathlib.Core.Logic.{inl, inr}
-use mathlib.Core.Path.{◌≡◌, refl, ◌∙◌}
+use mathlib.Core.Path.{◌≡◌, refl}
 use Prim.Native.Nat.{ℕ, suc, ◌^◌, ◌<◌}
-use lib.ListN.{length, length-map}
+use lib.ListN.{length}
 use denote.RattleType.{RattleType, Denots, Valss, flat, owns}
 use denote.Laws.{Is}
 use denote.Shadow.{shadow}
@@ -14,39 +14,37 @@ use denote.Plain.{UInt, Boolean}
 use denote.Enum.Enum.{Sum, tag, payload}
 use denote.Enum.Declared as Enum
 use denote.Struct.Declared as Struct
-use denote.Struct.Field.{Field, u8-field}
 use mir.Syntax.{Width, w8}
 use mir.Val.{Val, vint, vbool, vstruct, of_list, bits}
 use types.Match.{live}
 use Rattle.base.specs.Little.{Bytes}
-use Rattle.base.proofs.Arrays.{unmap}
 use Rattle.codec.proofs.Octets.{bytes_none, bytes-cons}
 use Rattle.endpoint_invariant.specs.Each.{Each}
 
 -- ---- of an array
 
-abbrev pub IsArray : (F : Field) → (n : ℕ) → List F.Value → List Val → Type 0
-IsArray F n l vs = Is (Array F.row n) (map F.into l) vs
+abbrev pub IsArray : (R : RattleType) → (n : ℕ) → List R.Denot → List Val → Type 0
+IsArray R n l vs = Is (Array R n) l vs
 
-module _ (F : Field) (P : F.Value → Type 0) (one : (x : F.Value) (vs : List Val) → Is F.row (F.into x) vs → P x) where
-  elements_are : (l : List F.Value) (us : List Val) → shadow (each F.row.Denot F.row.own_val (map F.into l) us) → Each P l
+module _ (R : RattleType) (P : R.Denot → Type 0) (one : (x : R.Denot) (vs : List Val) → Is R x vs → P x) where
+  elements_are : (l : List R.Denot) (us : List Val) → shadow (each R.Denot R.own_val l us) → Each P l
   unfolding Each
   elements_are [] us h = tt
   elements_are (x ∷ l) [] h = absurd h
   elements_are (x ∷ l) (u ∷ us) h = (one x (u ∷ []) h.0, elements_are l us h.1)
 
   -- it has its length, and elements of its type
-  pub array_is : (n : ℕ) (l : List F.Value) (vs : List Val) → IsArray F n l vs → (length l ≡ n) × Each P l
-  array_is n l vs h = (unmap F.into l n h.1.0.1, elements_are l h.0 h.1.1)
+  pub array_is : (n : ℕ) (l : List R.Denot) (vs : List Val) → IsArray R n l vs → (length l ≡ n) × Each P l
+  array_is n l vs h = (h.1.0.1, elements_are l h.0 h.1.1)
 
 all_bytes : (l : List ℕ) → Each (λ b. b < 256) l → Bytes l
 unfolding Each
 all_bytes [] h = bytes_none
 all_bytes (b ∷ l) h = bytes-cons b l h.0 (all_bytes l h.1)
 
-pub bytes_are : (n : ℕ) (l : List ℕ) (vs : List Val) → IsArray u8-field n l vs → (length l ≡ n) × Bytes l
+pub bytes_are : (n : ℕ) (l : List ℕ) (vs : List Val) → IsArray (UInt w8) n l vs → (length l ≡ n) × Bytes l
 bytes_are n l vs h =
-    let a = array_is u8-field (λ b. b < 256) (λ x ws k. k.1) n l vs h in
+    let a = array_is (UInt w8) (λ b. b < 256) (λ x ws k. k.1) n l vs h in
     (a.0, all_bytes l a.1)
 
 -- ---- what a machine value means
@@ -99,8 +97,8 @@ enum_means T x h =
     let r = variant_means (Enum.variants T) (T.to x) h in
     (live (tag (Enum.variants T) (T.to x)) (of_list r.0), (r.0, (refl, r.1)))
 
-module _ (F : Field) (P : F.Value → Type 0) (one : (x : F.Value) → P x → Means F.row (F.into x)) where
-  elements_mean : (l : List F.Value) → Each P l → (us : List Val) × shadow (each F.row.Denot F.row.own_val (map F.into l) us)
+module _ (R : RattleType) (P : R.Denot → Type 0) (one : (x : R.Denot) → P x → Means R x) where
+  elements_mean : (l : List R.Denot) → Each P l → (us : List Val) × shadow (each R.Denot R.own_val l us)
   unfolding Each
   elements_mean [] h = ([], tt)
   elements_mean (x ∷ l) h =
@@ -108,15 +106,15 @@ module _ (F : Field) (P : F.Value → Type 0) (one : (x : F.Value) → P x → M
       let r = elements_mean l h.1 in
       (u.0 ∷ r.0, (u.1, r.1))
 
-  pub array_means : (n : ℕ) (l : List F.Value) → length l ≡ n → Each P l → Means (Array F.row n) (map F.into l)
+  pub array_means : (n : ℕ) (l : List R.Denot) → length l ≡ n → Each P l → Means (Array R n) l
   array_means n l e h =
       let r = elements_mean l h in
-      (array_val r.0, (r.0, ((refl, length-map l F.into ∙ e), r.1)))
+      (array_val r.0, (r.0, ((refl, e), r.1)))
 
 each_byte : (l : List ℕ) → Bytes l → Each (λ b. b < 256) l
 unfolding Each
 each_byte [] h = tt
 each_byte (b ∷ l) h = (h 0, each_byte l (λ i. h (suc i)))
 
-pub bytes_mean : (n : ℕ) (l : List ℕ) → length l ≡ n → Bytes l → Means (Array u8-field.row n) (map u8-field.into l)
-bytes_mean n l e h = array_means u8-field (λ b. b < 256) (λ b k. number_means w8 b k) n l e (each_byte l h)
+pub bytes_mean : (n : ℕ) (l : List ℕ) → length l ≡ n → Bytes l → Means (Array (UInt w8) n) l
+bytes_mean n l e h = array_means (UInt w8) (λ b. b < 256) (λ b k. number_means w8 b k) n l e (each_byte l h)

@@ -6,7 +6,7 @@ use borrow.Author.Rules.{rules}
 use denote.Laws.{Is}
 use denote.Enum.Declared as Enum
 use denote.Struct.Declared as Struct
-use denote.Struct.Field.{u32-field}
+use denote.Plain.{UInt}
 use mir.Syntax.{w16, w32, w64}
 use mir.Val.{Val}
 use Rattle.ceilings.specs.Ceilings.{most_players, most_input_size, most_width, most_pending, most_received, most_nonces, most_checksums, most_events}
@@ -74,13 +74,13 @@ use Rattle.endpoint_version.proofs.Machine.{array_is, bytes_are, Means, number_m
 -- what calls are given
 pub statuses_is : (x : Statuses) (vs : List Val) → Is (Struct.row Statuses.the_type) x vs → IsStatuses x
 statuses_is x vs h =
-    let a = array_is ConnectionStatus.the_field (λ (s : ConnectionStatus). IsU32 s.last_frame) (λ s ws k. search rules) most_players x.list _ h.1.1.0 in
+    let a = array_is (Struct.row ConnectionStatus.the_type) (λ (s : ConnectionStatus). IsU32 s.last_frame) (λ s ws k. search rules) most_players x.list _ h.1.1.0 in
     record { size = a.0; frames = a.1; count = search rules }
 
 pub message_is : (m : Message) (vs : List Val) → Is (Struct.row Message.the_type) m vs → IsMessage m
 message_is m vs h =
     let w = wire_typed m vs h [] bytes_none in
-    let a = array_is StatusReport.the_field (λ (r : StatusReport). IsU32 r.last_frame) (λ r ws k. search rules) most_players m.reports.list _ h.1.1.1.1.0.1.1.0 in
+    let a = array_is (Struct.row StatusReport.the_type) (λ (r : StatusReport). IsU32 r.last_frame) (λ r ws k. search rules) most_players m.reports.list _ h.1.1.1.1.0.1.1.0 in
     record { magic = rw (meant_magic m []) at w.magic; body = rw (meant_body m []) at w.body; size = a.0; frames = a.1; count = search rules }
 
 -- what an endpoint holds
@@ -91,17 +91,17 @@ input_is x vs h =
 
 pending_is : (x : Pending) (vs : List Val) → Is (Struct.row Pending.the_type) x vs → IsPending x
 pending_is x vs h =
-    let a = array_is InputBytes.the_field IsInput input_is most_pending x.slots _ h.1.1.0 in
+    let a = array_is (Struct.row InputBytes.the_type) IsInput input_is most_pending x.slots _ h.1.1.0 in
     record { size = a.0; inputs = a.1; used = h.1.1.1.0.1 }
 
 history_is : (x : History) (vs : List Val) → Is (Struct.row History.the_type) x vs → IsHistory x
 history_is x vs h =
-    let a = array_is InputBytes.the_field IsInput input_is most_received x.slots _ h.1.1.0 in
+    let a = array_is (Struct.row InputBytes.the_type) IsInput input_is most_received x.slots _ h.1.1.0 in
     record { size = a.0; inputs = a.1; used = h.1.1.1.0.1 }
 
 nonces_is : (x : Nonces) (vs : List Val) → Is (Struct.row Nonces.the_type) x vs → IsNonces x
 nonces_is x vs h =
-    let a = array_is u32-field IsU32 (λ n ws k. k.1) most_nonces x.list _ h.1.1.0 in
+    let a = array_is (UInt w32) IsU32 (λ n ws k. k.1) most_nonces x.list _ h.1.1.0 in
     record { size = a.0; nonces = a.1; used = h.1.1.1.0.1 }
 
 checksum_is : (x : Checksum) (vs : List Val) → Is (Struct.row Checksum.the_type) x vs → IsChecksum x
@@ -109,7 +109,7 @@ checksum_is x vs h = (h.1.1.0.1, h.1.1.1.0.1, h.1.1.1.1.0.1)
 
 checksums_is : (x : Checksums) (vs : List Val) → Is (Struct.row Checksums.the_type) x vs → IsChecksums x
 checksums_is x vs h =
-    let a = array_is Checksum.the_field IsChecksum checksum_is most_checksums x.entries _ h.1.1.0 in
+    let a = array_is (Struct.row Checksum.the_type) IsChecksum checksum_is most_checksums x.entries _ h.1.1.0 in
     record { size = a.0; checksums = a.1; used = h.1.1.1.0.1 }
 
 event_is : (v : Event) (vs : List Val) → Is (Enum.row Event.the_type) v vs → IsEvent v
@@ -127,7 +127,7 @@ entry_is x vs h =
 
 events_is : (x : Events) (vs : List Val) → Is (Struct.row Events.the_type) x vs → IsEvents x
 events_is x vs h =
-    let a = array_is Entry.the_field IsEntry entry_is most_events x.entries _ h.1.1.0 in
+    let a = array_is (Struct.row Entry.the_type) IsEntry entry_is most_events x.entries _ h.1.1.0 in
     record { size = a.0; entries = a.1; used = h.1.1.1.0.1 }
 
 clocks_is : (c : Clocks) (vs : List Val) → Is (Struct.row Clocks.the_type) c vs → IsClocks c
@@ -164,7 +164,7 @@ status_means s h = struct_means ConnectionStatus.the_type s (flag_means s.discon
 pub statuses_means : (x : Statuses) → IsStatuses x → Means (Struct.row Statuses.the_type) x
 statuses_means x h =
     struct_means Statuses.the_type x (
-    array_means ConnectionStatus.the_field (λ (s : ConnectionStatus). IsU32 s.last_frame) status_means most_players x.list h.size h.frames ▸
+    array_means (Struct.row ConnectionStatus.the_type) (λ (s : ConnectionStatus). IsU32 s.last_frame) status_means most_players x.list h.size h.frames ▸
     number_means w64 x.count h.count ▸ tt)
 
 wide_means : (x : Wide) → FitsWide x → Means (Struct.row Wide.the_type) x
@@ -188,7 +188,7 @@ pub message_means : (m : Message) → IsMessage m → Means (Struct.row Message.
 message_means m h =
     let reports : Means (Struct.row StatusReports.the_type) m.reports
     = struct_means StatusReports.the_type m.reports (
-    array_means StatusReport.the_field (λ (r : StatusReport). IsU32 r.last_frame) report_means most_players m.reports.list h.size h.frames ▸
+    array_means (Struct.row StatusReport.the_type) (λ (r : StatusReport). IsU32 r.last_frame) report_means most_players m.reports.list h.size h.frames ▸
     number_means w64 m.reports.count h.count ▸ tt) in
     struct_means Message.the_type m (number_means w16 m.magic h.magic ▸ body_means m.body h.body ▸ reports ▸ tt)
 
@@ -200,7 +200,7 @@ pub setup_means : (g : Setup) → TypedSetup g → Means (Struct.row Setup.the_t
 setup_means g h =
     let handles : Means (Struct.row Handles.the_type) g.handles
     = struct_means Handles.the_type g.handles (
-    array_means u32-field IsU32 (number_means w32) most_players g.handles.list h.handles h.handle ▸
+    array_means (UInt w32) IsU32 (number_means w32) most_players g.handles.list h.handles h.handle ▸
     number_means w64 g.handles.count h.count ▸ tt) in
     let choices : Means (Struct.row Choices.the_type) g.choices = struct_means Choices.the_type g.choices (desync_means g.choices.desync_detection h.desync ▸ flag_means g.choices.firm_checksums ▸ tt) in
     struct_means Setup.the_type g (
@@ -222,21 +222,21 @@ input_means x h = struct_means InputBytes.the_type x (number_means w32 x.frame h
 
 pending_means : (x : Pending) → IsPending x → Means (Struct.row Pending.the_type) x
 pending_means x h =
-    struct_means Pending.the_type x (array_means InputBytes.the_field IsInput input_means most_pending x.slots h.size h.inputs ▸ number_means w64 x.used h.used ▸ tt)
+    struct_means Pending.the_type x (array_means (Struct.row InputBytes.the_type) IsInput input_means most_pending x.slots h.size h.inputs ▸ number_means w64 x.used h.used ▸ tt)
 
 history_means : (x : History) → IsHistory x → Means (Struct.row History.the_type) x
 history_means x h =
-    struct_means History.the_type x (array_means InputBytes.the_field IsInput input_means most_received x.slots h.size h.inputs ▸ number_means w64 x.used h.used ▸ tt)
+    struct_means History.the_type x (array_means (Struct.row InputBytes.the_type) IsInput input_means most_received x.slots h.size h.inputs ▸ number_means w64 x.used h.used ▸ tt)
 
 nonces_means : (x : Nonces) → IsNonces x → Means (Struct.row Nonces.the_type) x
-nonces_means x h = struct_means Nonces.the_type x (array_means u32-field IsU32 (number_means w32) most_nonces x.list h.size h.nonces ▸ number_means w64 x.used h.used ▸ tt)
+nonces_means x h = struct_means Nonces.the_type x (array_means (UInt w32) IsU32 (number_means w32) most_nonces x.list h.size h.nonces ▸ number_means w64 x.used h.used ▸ tt)
 
 checksum_means : (x : Checksum) → IsChecksum x → Means (Struct.row Checksum.the_type) x
 checksum_means x h = struct_means Checksum.the_type x (number_means w32 x.frame h.0 ▸ number_means w64 x.low h.1 ▸ number_means w64 x.high h.2 ▸ tt)
 
 checksums_means : (x : Checksums) → IsChecksums x → Means (Struct.row Checksums.the_type) x
 checksums_means x h =
-    struct_means Checksums.the_type x (array_means Checksum.the_field IsChecksum checksum_means most_checksums x.entries h.size h.checksums ▸ number_means w64 x.used h.used ▸ tt)
+    struct_means Checksums.the_type x (array_means (Struct.row Checksum.the_type) IsChecksum checksum_means most_checksums x.entries h.size h.checksums ▸ number_means w64 x.used h.used ▸ tt)
 
 event_means : (v : Event) → IsEvent v → Means (Enum.row Event.the_type) v
 event_means (Announced.Synchronizing total count) h = enum_means Event.the_type (Announced.Synchronizing total count) (number_means w32 total h.0 ▸ number_means w32 count h.1 ▸ tt)
@@ -250,7 +250,7 @@ entry_means : (x : Entry) → IsEntry x → Means (Struct.row Entry.the_type) x
 entry_means x h = struct_means Entry.the_type x (event_means x.event h.event ▸ bytes_mean most_input_size x.input h.size h.bytes ▸ tt)
 
 events_means : (x : Events) → IsEvents x → Means (Struct.row Events.the_type) x
-events_means x h = struct_means Events.the_type x (array_means Entry.the_field IsEntry entry_means most_events x.entries h.size h.entries ▸ number_means w64 x.used h.used ▸ tt)
+events_means x h = struct_means Events.the_type x (array_means (Struct.row Entry.the_type) IsEntry entry_means most_events x.entries h.size h.entries ▸ number_means w64 x.used h.used ▸ tt)
 
 clocks_means : (c : Clocks) → IsClocks c → Means (Struct.row Clocks.the_type) c
 clocks_means c h =

@@ -84,7 +84,7 @@ player_input_is x vs h =
 
 inputs_is : (x : Inputs) (vs : List Val) → Is (Struct.row Inputs.the_type) x vs → IsInputs x
 inputs_is x vs h =
-    let a = array_is PlayerInput.the_field IsPlayerInput player_input_is most_places x.entries _ h.1.1.0 in
+    let a = array_is (Struct.row PlayerInput.the_type) IsPlayerInput player_input_is most_places x.entries _ h.1.1.0 in
     record { size = a.0; inputs = a.1; used = h.1.1.1.0.1 }
 
 event_is : (v : SessionEvent) (vs : List Val) → Is (Enum.row SessionEvent.the_type) v vs → IsSessionEvent v
@@ -99,7 +99,7 @@ entry_is x vs h = (h.1.1.0.1, event_is x.event _ h.1.1.1.0)
 
 events_is : (x : SessionEvents) (vs : List Val) → Is (Struct.row SessionEvents.the_type) x vs → IsSessionEvents x
 events_is x vs h =
-    let a = array_is SessionEntry.the_field IsSessionEntry entry_is most_session_events x.entries _ h.1.1.0 in
+    let a = array_is (Struct.row SessionEntry.the_type) IsSessionEntry entry_is most_session_events x.entries _ h.1.1.0 in
     record { size = a.0; entries = a.1; used = h.1.1.1.0.1 }
 
 -- its fields in their order
@@ -152,7 +152,7 @@ player_input_means x h = struct_means PlayerInput.the_type x (number_means w32 x
 
 inputs_mean : (x : Inputs) → IsInputs x → Means (Struct.row Inputs.the_type) x
 inputs_mean x h =
-    struct_means Inputs.the_type x (array_means PlayerInput.the_field IsPlayerInput player_input_means most_places x.entries h.size h.inputs ▸ number_means w64 x.used h.used ▸ tt)
+    struct_means Inputs.the_type x (array_means (Struct.row PlayerInput.the_type) IsPlayerInput player_input_means most_places x.entries h.size h.inputs ▸ number_means w64 x.used h.used ▸ tt)
 
 event_means : (v : SessionEvent) → IsSessionEvent v → Means (Enum.row SessionEvent.the_type) v
 event_means (Announced.Synchronizing total count) h = enum_means SessionEvent.the_type (Announced.Synchronizing total count) (number_means w32 total h.0 ▸ number_means w32 count h.1 ▸ tt)
@@ -167,7 +167,7 @@ entry_means x h = struct_means SessionEntry.the_type x (number_means w32 x.addr 
 events_mean : (x : SessionEvents) → IsSessionEvents x → Means (Struct.row SessionEvents.the_type) x
 events_mean x h =
     struct_means SessionEvents.the_type x (
-    array_means SessionEntry.the_field IsSessionEntry entry_means most_session_events x.entries h.size h.entries ▸
+    array_means (Struct.row SessionEntry.the_type) IsSessionEntry entry_means most_session_events x.entries h.size h.entries ▸
     number_means w64 x.used h.used ▸ tt)
 
 state_means : (x : SessionState) → Means (Enum.row SessionState.the_type) x
