@@ -44,6 +44,7 @@ const I16_END: u32 = 0x8000_8000;
 const I32_MAX: u64 = 0x7FFF_FFFF;
 
 // An advantage as it is reported: beyond i16 it is the nearest i16.
+#[tactic(auto, unfolding(crate::specs::Quality::clamped))]
 pub fn clamped(advantage: u32) -> u16
     ensures { result ≡ clamped advantage }
 {
@@ -57,6 +58,7 @@ pub fn clamped(advantage: u32) -> u16
 }
 
 // A reported advantage as it is held.
+#[tactic(auto, unfolding(crate::specs::Quality::widened))]
 pub fn widened(advantage: u16) -> u32
     ensures { result ≡ widened advantage }
 {
@@ -64,6 +66,7 @@ pub fn widened(advantage: u16) -> u32
 }
 
 // The time since a ping was sent, by its pong of two halves: 0 where the pong is later than now, as any above u64 is.
+#[tactic(auto, unfolding(crate::specs::Quality::round_trip))]
 pub fn round_trip(epoch: u64, low: u64, high: u64) -> u64
     ensures { result ≡ round_trip epoch low high }
 {
@@ -82,6 +85,7 @@ fn half_trip(round_trip_time: u64) -> u64
 }
 
 // How far the local frame is behind the frame that the other end is thought to be at; product, sum and difference each within i32.
+#[tactic(auto, using(crate::proofs::Overflows::all_within, crate::proofs::Overflows::difference_above, crate::proofs::Overflows::difference_below, crate::proofs::Overflows::product_fits, crate::proofs::Overflows::product_leaves, crate::proofs::Overflows::sum_leaves))]
 pub fn local_advantage(received: u32, round_trip_time: u64, fps: u32, local_frame: u32) -> Advantage
     ensures { shown_advantage result ≡ pick (advantage_overflows received round_trip_time fps local_frame) (6, 0) (0, advantage_of received round_trip_time fps local_frame) }
 {
