@@ -1,42 +1,54 @@
 // Prints the line of the datagram on standard input (W-14).
 #![tactic(auto)]
 
-use libc::{STDERR_FILENO, STDIN_FILENO, STDOUT_FILENO};
+ghost use Rattle.std.specs.Prelude.{◌≤◌, length, IfOk};
 
-fn main() {
+use std::io;
+use std::io::Read;
+use std::process::ExitCode;
+
+fn main(rt: HostRuntime) -> ExitCode {
     // One byte more than the largest message: what stands after that is not read, since the answer is known by then.
     let mut datagram = [0u8; 8308];
-    let n = io::read_full(STDIN_FILENO, &mut datagram);
-    if n < datagram.len() && read_failed() {
-        tell(b"print_message: standard input cannot be read\n");
-        return;
+    let Ok(n) = read_full(&mut rt.stdin(), &mut datagram) else {
+        return tell(&rt, "print_message: standard input cannot be read");
+    };
+    if print(&rt, &datagram[..n]).is_err() {
+        return tell(&rt, "print_message: standard output cannot be written");
     }
-    print(&datagram[..n]);
+    ExitCode::SUCCESS
 }
 
-// Whether a short read came of a fault: at the end of the input another read gives nothing, and does not fail.
-fn read_failed() -> bool {
-    let mut more = [0u8; 1];
-    libc::read(STDIN_FILENO, &mut more) != 0
+// Reads until the slice is full or the input ends. How many bytes it put at the slice's start.
+fn read_full(input: &mut impl Read, buf: &mut [u8]) -> io::Result<usize>
+    ensures { IfOk result (λ n. n ≤ length buf.new) }
+{
+    let mut done = 0;
+    while done < buf.len() {
+        let n = input.read(&mut buf[done..])?;
+        if n == 0 {
+            break;
+        }
+        done += n;
+    }
+    Ok(done)
 }
 
-// One line on standard error, which is closed behind it: of several faults the first is told.
-fn tell(line: &[u8]) {
-    io::write_all(STDERR_FILENO, line);
-    libc::close(STDERR_FILENO);
+// One line on standard error, with which the program ends; where that fails too, nobody is left to be told.
+fn tell(rt: &impl Eprint, line: &str) -> ExitCode {
+    let _ = rt.eprintln(line);
+    ExitCode::FAILURE
 }
 
-fn print(datagram: &[u8]) {
+fn print(rt: &impl Print, datagram: &[u8]) -> io::Result<()> {
     // More than 256 bytes and two for each byte of the longest payload: every line fits.
     let mut out = [0u8; 16896];
     let line = message_line::line(&mut out, 0, datagram);
     let end = line.end;
-    put(&out[..end]);
-    put(b"\n");
+    put(rt, &out[..end])?;
+    put(rt, b"\n")
 }
 
-fn put(bytes: &[u8]) {
-    if !io::write_all(STDOUT_FILENO, bytes) {
-        tell(b"print_message: standard output cannot be written\n");
-    }
+fn put(rt: &impl Print, bytes: &[u8]) -> io::Result<()> {
+    rt.write_all(bytes)
 }

@@ -10,29 +10,46 @@ mod wire;
 
 ghost use Rattle.std.specs.Prelude.{◌<◌};
 
-use libc::{STDERR_FILENO, STDIN_FILENO, STDOUT_FILENO};
+use std::io::{ErrorKind, Read};
+use std::process::ExitCode;
 
 // A proved loop has to end, and nothing says that the input does.
 const MOST: usize = 1000;
 
-fn main() {
-    let mut left = MOST;
-    while 0 < left && one() {
-        left -= 1;
+// The stream that failed.
+#[derive(Clone, Copy)]
+enum Fault {
+    Input,
+    Output,
+}
+
+fn main(rt: HostRuntime) -> ExitCode {
+    match run(&mut rt.stdin(), &rt) {
+        Ok(()) => ExitCode::SUCCESS,
+        Err(fault) => tell(&rt, fault),
     }
 }
 
+fn run(input: &mut impl Read, rt: &impl Print) -> Result<(), Fault> {
+    for _ in 0..MOST {
+        if !one(input, rt)? {
+            break;
+        }
+    }
+    Ok(())
+}
+
 // False where the input ends before a record does.
-fn one() -> bool {
+fn one(input: &mut impl Read, rt: &impl Print) -> Result<bool, Fault> {
     let mut head = [0u8; 6];
-    if !is_read(&mut head) {
-        return false;
+    if !is_read(input, &mut head)? {
+        return Ok(false);
     }
     let item = head[0];
     let count = count_of(&head);
     let length = wide(head[5]) as usize;
     let mut datagram = [0u8; 255];
-    answered(item, count, &mut datagram[..length])
+    answered(input, rt, item, count, &mut datagram[..length])
 }
 
 fn count_of(head: &[u8; 6]) -> u32 {
@@ -45,15 +62,18 @@ pub(crate) fn wide(byte: u8) -> u32
     byte as u32
 }
 
-fn answered(item: u8, count: u32, datagram: &mut [u8]) -> bool {
-    if !is_read(datagram) {
-        return false;
+fn answered(
+    input: &mut impl Read,
+    rt: &impl Print,
+    item: u8,
+    count: u32,
+    datagram: &mut [u8],
+) -> Result<bool, Fault> {
+    if !is_read(input, datagram)? {
+        return Ok(false);
     }
-    let mut digits = [0u8; 20];
-    let used = io::decimal(sum_of(item, count, datagram), &mut digits);
-    put(&digits[..used]);
-    put(b"\n");
-    true
+    put(rt, sum_of(item, count, datagram))?;
+    Ok(true)
 }
 
 fn sum_of(item: u8, count: u32, datagram: &mut [u8]) -> u64 {
@@ -71,25 +91,26 @@ fn sum_of(item: u8, count: u32, datagram: &mut [u8]) -> u64 {
     }
 }
 
-// Whether all of the slice was read. Where it was not, the input ended, or a read failed, which is told: at the end of the input another read gives
-// nothing, and does not fail.
-fn is_read(buf: &mut [u8]) -> bool {
-    let whole = io::read_full(STDIN_FILENO, buf) == buf.len();
-    let mut more = [0u8; 1];
-    if !whole && libc::read(STDIN_FILENO, &mut more) != 0 {
-        tell(b"test_bench: standard input cannot be read\n");
-    }
-    whole
-}
-
-fn put(bytes: &[u8]) {
-    if !io::write_all(STDOUT_FILENO, bytes) {
-        tell(b"test_bench: standard output cannot be written\n");
+// Whether all of the slice was read. Where it was not, the input ended.
+fn is_read(input: &mut impl Read, buf: &mut [u8]) -> Result<bool, Fault> {
+    match input.read_exact(buf) {
+        Ok(()) => Ok(true),
+        Err(e) if e.kind() == ErrorKind::UnexpectedEof => Ok(false),
+        Err(_) => Err(Fault::Input),
     }
 }
 
-// One line on standard error, which is closed behind it: of several faults the first is told.
-fn tell(line: &[u8]) {
-    io::write_all(STDERR_FILENO, line);
-    libc::close(STDERR_FILENO);
+// A sum, on a line of its own.
+fn put(rt: &impl Print, sum: u64) -> Result<(), Fault> {
+    rt.println(sum).map_err(|_| Fault::Output)
+}
+
+// One line on standard error, with which the program ends; where that fails too, nobody is left to be told.
+fn tell(rt: &impl Eprint, fault: Fault) -> ExitCode {
+    let line = match fault {
+        Fault::Input => "test_bench: standard input cannot be read",
+        Fault::Output => "test_bench: standard output cannot be written",
+    };
+    let _ = rt.eprintln(line);
+    ExitCode::FAILURE
 }

@@ -7,27 +7,44 @@ ghost use Rattle.std.specs.Prelude.{◌<◌};
 
 use answer::Answer;
 use codec::Message;
-use libc::{STDERR_FILENO, STDIN_FILENO, STDOUT_FILENO};
+use std::io::{ErrorKind, Read};
+use std::process::ExitCode;
 
 // A proved loop has to end, and nothing says that the input does.
 const MOST: usize = 1000000;
 
-fn main() {
-    let mut left = MOST;
-    while 0 < left && one() {
-        left -= 1;
+// The stream that failed.
+#[derive(Clone, Copy)]
+enum Fault {
+    Input,
+    Output,
+}
+
+fn main(rt: HostRuntime) -> ExitCode {
+    match run(&mut rt.stdin(), &rt) {
+        Ok(()) => ExitCode::SUCCESS,
+        Err(fault) => tell(&rt, fault),
     }
 }
 
+fn run(input: &mut impl Read, rt: &impl Print) -> Result<(), Fault> {
+    for _ in 0..MOST {
+        if !one(input, rt)? {
+            break;
+        }
+    }
+    Ok(())
+}
+
 // False where the input ends before a datagram does.
-fn one() -> bool {
+fn one(input: &mut impl Read, rt: &impl Print) -> Result<bool, Fault> {
     let mut prefix = [0u8; 2];
-    if !is_read(&mut prefix) {
-        return false;
+    if !is_read(input, &mut prefix)? {
+        return Ok(false);
     }
     let length = length_of(&prefix);
-    let mut datagram = io::large_buffer();
-    filled(&mut datagram[..length])
+    let mut datagram = [0u8; 65536];
+    filled(input, rt, &mut datagram[..length])
 }
 
 fn length_of(prefix: &[u8; 2]) -> usize
@@ -42,34 +59,34 @@ fn wide(byte: u8) -> usize
     byte as usize
 }
 
-fn filled(datagram: &mut [u8]) -> bool {
-    if !is_read(datagram) {
-        return false;
+fn filled(input: &mut impl Read, rt: &impl Print, datagram: &mut [u8]) -> Result<bool, Fault> {
+    if !is_read(input, datagram)? {
+        return Ok(false);
     }
-    print(datagram);
-    true
+    print(rt, datagram)?;
+    Ok(true)
 }
 
-fn print(datagram: &[u8]) {
+fn print(rt: &impl Print, datagram: &[u8]) -> Result<(), Fault> {
     // More than 256 bytes and two for each byte of the longest payload: every line fits.
     let mut out = [0u8; 16896];
     let line = message_line::line(&mut out, 0, datagram);
     let end = line.end;
-    put(&out[..end]);
+    put(rt, &out[..end])?;
     let received = codec::read(datagram);
     let answer = received.answer;
     if let Answer::Done = answer {
         let message = received.message;
-        print_comparison(datagram, message);
+        print_comparison(rt, datagram, message)?;
     }
-    put(b"\n");
+    put(rt, b"\n")
 }
 
-fn print_comparison(datagram: &[u8], message: Message) {
+fn print_comparison(rt: &impl Print, datagram: &[u8], message: Message) -> Result<(), Fault> {
     if same_again(datagram, message) {
-        put(b" same");
+        put(rt, b" same")
     } else {
-        put(b" differs");
+        put(rt, b" differs")
     }
 }
 
@@ -85,25 +102,25 @@ fn same_again(datagram: &[u8], message: Message) -> bool {
     check::same(&again[..end], datagram)
 }
 
-// Whether all of the slice was read. Where it was not, the input ended, or a read failed, which is told: at the end of the input another read gives
-// nothing, and does not fail.
-fn is_read(buf: &mut [u8]) -> bool {
-    let whole = io::read_full(STDIN_FILENO, buf) == buf.len();
-    let mut more = [0u8; 1];
-    if !whole && libc::read(STDIN_FILENO, &mut more) != 0 {
-        tell(b"test_vectors: standard input cannot be read\n");
-    }
-    whole
-}
-
-fn put(bytes: &[u8]) {
-    if !io::write_all(STDOUT_FILENO, bytes) {
-        tell(b"test_vectors: standard output cannot be written\n");
+// Whether all of the slice was read. Where it was not, the input ended.
+fn is_read(input: &mut impl Read, buf: &mut [u8]) -> Result<bool, Fault> {
+    match input.read_exact(buf) {
+        Ok(()) => Ok(true),
+        Err(e) if e.kind() == ErrorKind::UnexpectedEof => Ok(false),
+        Err(_) => Err(Fault::Input),
     }
 }
 
-// One line on standard error, which is closed behind it: of several faults the first is told.
-fn tell(line: &[u8]) {
-    io::write_all(STDERR_FILENO, line);
-    libc::close(STDERR_FILENO);
+fn put(rt: &impl Print, bytes: &[u8]) -> Result<(), Fault> {
+    rt.write_all(bytes).map_err(|_| Fault::Output)
+}
+
+// One line on standard error, with which the program ends; where that fails too, nobody is left to be told.
+fn tell(rt: &impl Eprint, fault: Fault) -> ExitCode {
+    let line = match fault {
+        Fault::Input => "test_vectors: standard input cannot be read",
+        Fault::Output => "test_vectors: standard output cannot be written",
+    };
+    let _ = rt.eprintln(line);
+    ExitCode::FAILURE
 }
