@@ -1,6 +1,6 @@
 // What is told on standard error: that the script cannot be read or its answers cannot be written, or which field of the header or of a record is at fault.
-use libc::{STDERR_FILENO, STDIN_FILENO};
-use text::Draft;
+use std::io::Stderr;
+use std::process::ExitCode;
 
 // The first field of a record that no call has so.
 #[derive(Clone, Copy)]
@@ -13,40 +13,38 @@ pub enum Fault {
     Buffer,
 }
 
-// One line. Standard error is closed behind it: of several faults the first is told.
-pub(crate) fn tell(line: &[u8]) {
-    io::write_all(STDERR_FILENO, line);
-    libc::close(STDERR_FILENO);
+// The stream that failed.
+#[derive(Clone, Copy)]
+pub enum Failed {
+    Input,
+    Output,
 }
 
-// Whether a short read came of a fault, which is told: at the end of the input another read gives nothing, and does not fail.
-pub(crate) fn is_read_failed() -> bool {
-    let mut more = [0u8; 1];
-    let failed = libc::read(STDIN_FILENO, &mut more) != 0;
-    if failed {
-        tell(b"replay: standard input cannot be read\n");
+// One line, with which the program ends; where it cannot be written, nobody is left to be told.
+pub(crate) fn tell(errors: Stderr, line: &str) {
+    let _ = errors.eprintln(line);
+}
+
+pub(crate) fn tell_failed(errors: Stderr, failed: Failed) -> ExitCode {
+    match failed {
+        Failed::Input => tell(errors, "replay: standard input cannot be read"),
+        Failed::Output => tell(errors, "replay: standard output cannot be written"),
     }
-    failed
+    ExitCode::FAILURE
 }
 
 // Records are counted from 0.
-pub(crate) fn tell_record(at: usize, words: &[u8]) {
-    let line = Draft::new()
-        .put(b"replay: record ")
-        .put_decimal(at as u64, 0)
-        .put(b": ");
-    let line = line.put(words).put(b"\n");
-    let bytes = line.bytes;
-    tell(text::filled(&bytes, line.used));
+pub(crate) fn tell_record(errors: Stderr, at: usize, words: &str) {
+    let _ = eprintln!(errors; "replay: record {at}: {words}");
 }
 
-pub(crate) fn tell_field(at: usize, fault: Fault) {
+pub(crate) fn tell_field(errors: Stderr, at: usize, fault: Fault) {
     match fault {
         Fault::None => {}
-        Fault::Call => tell_record(at, b"call is above 17"),
-        Fault::Object => tell_record(at, b"object is above 2"),
-        Fault::Absent => tell_record(at, b"call is none of the object's"),
-        Fault::Length => tell_record(at, b"length of the payload part is above 16384"),
-        Fault::Buffer => tell_record(at, b"buffer is above 65536"),
+        Fault::Call => tell_record(errors, at, "call is above 17"),
+        Fault::Object => tell_record(errors, at, "object is above 2"),
+        Fault::Absent => tell_record(errors, at, "call is none of the object's"),
+        Fault::Length => tell_record(errors, at, "length of the payload part is above 16384"),
+        Fault::Buffer => tell_record(errors, at, "buffer is above 65536"),
     }
 }

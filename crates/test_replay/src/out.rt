@@ -1,21 +1,18 @@
 // What is written for one record: little-endian numbers, as they come, or their length and their sum.
 use crate::crc::{NONE, sum_of, with_bytes};
-use crate::faults;
+use crate::faults::Failed;
 use crate::record::Record;
-use libc::STDOUT_FILENO;
 use numbers::WORD;
+use std::io::Stdout;
 
 #[derive(Clone, Copy)]
 pub struct Out {
+    to: Stdout,
+    // Nothing is written behind a write that failed.
+    failed: bool,
     digest: bool,
     length: u32,
     sum: u32,
-}
-
-fn write(bytes: &[u8]) {
-    if !io::write_all(STDOUT_FILENO, bytes) {
-        faults::tell(b"replay: standard output cannot be written\n");
-    }
 }
 
 fn four(n: u32) -> [u8; 4] {
@@ -32,31 +29,48 @@ fn sum_of_lengths(length: u32, more: usize) -> u32 {
 }
 
 impl Out {
-    pub(crate) fn begin(digest: bool, record: Record, answer: u32) -> Out {
-        write(&[record.call, record.object, (answer % 0x100) as u8, 0]);
-        Out {
+    pub(crate) fn begin(to: Stdout, digest: bool, record: Record, answer: u32) -> Out {
+        let out = Out {
+            to,
+            failed: false,
             digest,
             length: 0,
             sum: NONE,
+        };
+        out.write(&[record.call, record.object, (answer % 0x100) as u8, 0])
+    }
+
+    fn write(self, bytes: &[u8]) -> Out {
+        if self.failed || self.to.write_all(bytes).is_ok() {
+            return self;
+        }
+        Out {
+            failed: true,
+            ..self
         }
     }
 
-    pub(crate) fn end(self) {
+    pub(crate) fn end(self) -> Result<(), Failed> {
+        let mut out = self;
         if self.digest {
-            write(&four(self.length));
-            write(&four(sum_of(self.sum)));
+            out = self
+                .write(&four(self.length))
+                .write(&four(sum_of(self.sum)));
         }
+        if out.failed {
+            return Err(Failed::Output);
+        }
+        Ok(())
     }
 
     pub(crate) fn bytes(self, bytes: &[u8]) -> Out {
         if !self.digest {
-            write(bytes);
-            return self;
+            return self.write(bytes);
         }
         Out {
-            digest: true,
             length: sum_of_lengths(self.length, bytes.len()),
             sum: with_bytes(self.sum, bytes),
+            ..self
         }
     }
 

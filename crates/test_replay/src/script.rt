@@ -1,10 +1,11 @@
 // Reading a script: its header, and one record after the other with its payload part.
 use crate::faults;
-use crate::faults::Fault;
+use crate::faults::{Failed, Fault};
 use crate::little::{u8_at, u32_at};
 use crate::record::{CARRY, Record};
+use crate::streams::Streams;
 use crate::value::{is_checksum, is_message, is_setup};
-use libc::STDIN_FILENO;
+use std::io::Stderr;
 
 // How the answers are written.
 #[derive(Clone, Copy)]
@@ -28,67 +29,78 @@ struct Carried {
     length: usize,
 }
 
-pub(crate) fn read_mode() -> Mode {
+pub(crate) fn read_mode(streams: Streams) -> Result<Mode, Failed> {
     let mut header = [0u8; 8];
-    let n = io::read_full(STDIN_FILENO, &mut header);
+    let n = streams.read_full(&mut header)?;
     if n == 8 {
-        return mode_of(&header);
+        return Ok(mode_of(streams.errors, &header));
     }
-    if !faults::is_read_failed() {
-        faults::tell(b"replay: the script ends inside its header\n");
-    }
-    Mode::None
+    faults::tell(streams.errors, "replay: the script ends inside its header");
+    Ok(Mode::None)
 }
 
 // `GGSC`, version 1, the mode, and two zeros. A header that is none is told.
-fn mode_of(header: &[u8]) -> Mode {
+fn mode_of(errors: Stderr, header: &[u8]) -> Mode {
     if u32_at(header, 0) != 0x4353_4747 {
-        faults::tell(b"replay: header: the script does not begin with GGSC\n");
+        faults::tell(
+            errors,
+            "replay: header: the script does not begin with GGSC",
+        );
         return Mode::None;
     }
     if u8_at(header, 4) != 1 {
-        faults::tell(b"replay: header: version is not 1\n");
+        faults::tell(errors, "replay: header: version is not 1");
         return Mode::None;
     }
     match u32_at(header, 4) {
         0x0001 => Mode::Whole,
         0x0101 => Mode::Digest,
         _ => {
-            faults::tell(b"replay: header: mode is neither 0 nor 1, or what follows it is not 0\n");
+            faults::tell(
+                errors,
+                "replay: header: mode is neither 0 nor 1, or what follows it is not 0",
+            );
             Mode::None
         }
     }
 }
 
 // The next record; its payload part, or the datagram that it carries, stands at the start of `payload`.
-pub(crate) fn next_record(at: usize, payload: &mut [u8], a: &[u8], b: &[u8], c: &[u8]) -> Next {
+pub(crate) fn next_record(
+    streams: Streams,
+    at: usize,
+    payload: &mut [u8],
+    a: &[u8],
+    b: &[u8],
+    c: &[u8],
+) -> Result<Next, Failed> {
+    let errors = streams.errors;
     let mut head = [0u8; 64];
-    let n = io::read_full(STDIN_FILENO, &mut head);
+    let n = streams.read_full(&mut head)?;
     let record = Record::read(&head);
     if n < 64 {
-        tell_cut(at, 0 < n, b"the script ends inside its 64 bytes");
-        return last(record);
+        tell_cut(errors, at, 0 < n, "the script ends inside its 64 bytes");
+        return Ok(last(record));
     }
     let fault = record.fault();
     let Fault::None = fault else {
-        faults::tell_field(at, fault);
-        return last(record);
+        faults::tell_field(errors, at, fault);
+        return Ok(last(record));
     };
-    if !read_part(payload, record.length) {
-        tell_cut(at, true, b"the script ends inside its payload part");
-        return last(record);
+    if !read_part(streams, payload, record.length)? {
+        tell_cut(errors, at, true, "the script ends inside its payload part");
+        return Ok(last(record));
     }
-    Next {
+    Ok(Next {
         more: true,
         record: looked_at(record, payload, a, b, c),
-    }
+    })
 }
 
 // Where a script ends between two records nothing is cut off.
-fn tell_cut(at: usize, cut: bool, words: &[u8]) {
-    let failed = faults::is_read_failed();
-    if cut && !failed {
-        faults::tell_record(at, words);
+fn tell_cut(errors: Stderr, at: usize, cut: bool, words: &str) {
+    if cut {
+        faults::tell_record(errors, at, words);
     }
 }
 
@@ -100,11 +112,12 @@ fn last(record: Record) -> Next {
 }
 
 // Whether all of a payload part was read; a record with one longer than `payload` was refused.
-fn read_part(payload: &mut [u8], length: usize) -> bool {
+fn read_part(streams: Streams, payload: &mut [u8], length: usize) -> Result<bool, Failed> {
     if payload.len() < length {
-        return false;
+        return Ok(false);
     }
-    io::read_full(STDIN_FILENO, &mut payload[..length]) == length
+    let n = streams.read_full(&mut payload[..length])?;
+    Ok(n == length)
 }
 
 // The record with what its payload part is to its call.
