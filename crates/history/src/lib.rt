@@ -68,6 +68,7 @@ fn arriving(length: usize, width: usize, start: u32) -> usize
 }
 
 // The newest frame once count frames from start on are in.
+#[tactic(auto, unfolding(crate::specs::History::newest_after))]
 fn after(newest: u32, start: u32, count: usize) -> u32
     requires { count ≤ 2 ^ 32 - start }
     ensures { result ≡ newest_after newest start count }
@@ -84,6 +85,7 @@ fn after(newest: u32, start: u32, count: usize) -> u32
 
 impl History {
     // Holds the blank frame alone.
+    #[tactic(auto, unfolding(crate::specs::History::blank_frame, crate::specs::History::received, packing::specs::Pad::zeros))]
     pub fn new() -> History
         ensures { received result ≡ blank_frame ∷ [] }
     {
@@ -94,6 +96,7 @@ impl History {
     }
 
     // How many inputs are held.
+    #[tactic(auto, using(base::proofs::Arrays::unmap), unfolding(crate::specs::History::received))]
     pub fn count(self) -> usize
         ensures { result ≡ length (received self) }
     {
