@@ -43,7 +43,7 @@ use Rattle.endpoint_invariant.specs.Typed.{Typed as HostTyped, TypedPlace}
 use Rattle.endpoint_invariant.proofs.Choices.{never}
 use Rattle.endpoint_invariant.proofs.Examples.{small_typed, reply_typed}
 use Rattle.endpoint_delivery.specs.Frames.{Frame, announced_to}
-use Rattle.endpoint_delivery.specs.Runs.{End, starts, Allowed, Meet}
+use Rattle.endpoint_delivery.specs.Runs.{End, starts, next, Allowed, Meet}
 use Rattle.endpoint_delivery.proofs.Lists.{Mem, here, there}
 use Rattle.endpoint_delivery.proofs.Examples.{nexts, greeting, first_half, second_half, halfway, ready, requests, synchronizing, bytes_typed, greeting_typed, greeting_free, after_requests}
 use Rattle.spectator_rules.specs.declared.InputStatus.TheVariants.{Disconnected}
@@ -212,12 +212,12 @@ begun =
 at_end_lem : {a : End} {x : Box} → Viewing a x → (cs : List Host.Call) → Each HostTyped cs → Each (λ c. Allowed c x.queued) cs → Viewing (nexts cs a) x
 unfolding Each
 at_end_lem v [] t q = v
-at_end_lem v (c ∷ cs) t q = at_end_lem (Viewing.at_end v c t.0 q.0) cs t.1 q.1
+at_end_lem {a = a} v (c ∷ cs) t q = at_end_lem {a = next c a} (Viewing.at_end v c t.0 q.0) cs t.1 q.1
 
 at_box_lem : {a : End} {x : Box} → Viewing a x → (cs : List Call) → Each Typed cs → Each (λ c. AllowedBox c a.queued) cs → Viewing a (next_boxes cs x)
 unfolding Each
 at_box_lem v [] t q = v
-at_box_lem v (c ∷ cs) t q = at_box_lem (Viewing.at_box v c t.0 q.0) cs t.1 q.1
+at_box_lem {x = x} v (c ∷ cs) t q = at_box_lem {x = next_box c x} (Viewing.at_box v c t.0 q.0) cs t.1 q.1
 
 -- the calls are of the code's types
 

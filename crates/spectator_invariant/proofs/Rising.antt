@@ -18,7 +18,7 @@ use Rattle.events.specs.declared.Entry.{Entry}
 use Rattle.events.specs.declared.Event.{Event}
 use Rattle.events.specs.declared.Event.TheVariants as Event
 use Rattle.events.specs.Events.{input_of, input_entry, announced, announced_each}
-use Rattle.endpoint_delivery.proofs.Lists.{Mem, here, there, cases_cons, not-nil}
+use Rattle.endpoint_delivery.proofs.Lists.{Mem, cases_cons, not-nil}
 use Rattle.endpoint_delivery.proofs.Moves.{is_input, inputs_in}
 use Rattle.spectator_invariant.specs.Seated.{Next, Follows, last_after, due_after, Rising}
 
@@ -97,21 +97,24 @@ module _ (players : ℕ) where
   rising-ahead : (last due top : ℕ) (l : List Entry) (frame player : ℕ) (input : List ℕ) → Rising players last due top l → Mem (input_of_player frame player input) l
       → Ahead last due frame player
   unfolding Rising
-  rising-ahead last due top l frame player input h (here {x} {xs} q) = go due (rw (sym q) at h.0)
+  rising-ahead last due top [] frame player input h m = absurd (not-nil m)
+  rising-ahead last due top (x ∷ xs) frame player input h m =
+      elim (cases_cons m) [
+        | inl q ↦ first due (rw (sym q) at h.0)
+        | inr r ↦ later x.event h.0 (rising-ahead (last_after x.event last) (due_after players x.event due) top xs frame player input h.1 r)
+      ]
     where
-      go : (d : ℕ) → Follows players last d (Event.Input frame player) input → Ahead last d frame player
-      go zero f = inl f.0.0
-      go (suc d) f = inr (f.0, omega arith, omega (arith, f.1))
-  rising-ahead last due top l frame player input h (there {x} {xs} m) =
-      go x.event h.0 (rising-ahead (last_after x.event last) (due_after players x.event due) top xs frame player input h.1 m)
-    where
-      go : (e : Event) → Follows players last due e x.input → Ahead (last_after e last) (due_after players e due) frame player → Ahead last due frame player
-      go (Event.Synchronizing total count) f k = k
-      go Event.Synchronized f k = k
-      go (Event.Input g p) f k = ahead_back last due g p frame player f.0 f.1 k
-      go Event.Disconnected f k = k
-      go (Event.NetworkInterrupted timeout) f k = k
-      go Event.NetworkResumed f k = k
+      first : (d : ℕ) → Follows players last d (Event.Input frame player) input → Ahead last d frame player
+      first zero f = inl f.0.0
+      first (suc d) f = inr (f.0, omega arith, omega (arith, f.1))
+
+      later : (e : Event) → Follows players last due e x.input → Ahead (last_after e last) (due_after players e due) frame player → Ahead last due frame player
+      later (Event.Synchronizing total count) f k = k
+      later Event.Synchronized f k = k
+      later (Event.Input g p) f k = ahead_back last due g p frame player f.0 f.1 k
+      later Event.Disconnected f k = k
+      later (Event.NetworkInterrupted timeout) f k = k
+      later Event.NetworkResumed f k = k
 
   -- not again after itself
   not_again : (frame player : ℕ) → Ahead frame (pick (eqb (suc player) players) 0 (suc player)) frame player → ⊥
