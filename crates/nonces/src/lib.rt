@@ -56,6 +56,7 @@ fn make_room(list: &mut [u32; MOST_NONCES], n: usize) -> usize
 }
 
 impl Nonces {
+    #[tactic(auto, unfolding(crate::specs::Nonces::outstanding))]
     pub fn new() -> Nonces
         ensures { outstanding result ≡ [] }
     {
@@ -65,6 +66,7 @@ impl Nonces {
         }
     }
 
+    #[tactic(auto, unfolding(crate::specs::Nonces::outstanding))]
     pub fn count(self) -> usize
         ensures { result ≡ length (outstanding self) }
     {
