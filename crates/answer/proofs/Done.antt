@@ -1,5 +1,5 @@
 -- The arm of a `let Answer::Done = .. else`: what is known there is that the answer is a refusal.
-use mathlib.Core.Path.{◌≡◌}
+use mathlib.Core.Path.{◌≡◌, refl}
 use mathlib.Core.List.{List, [], ◌∷◌}
 use Prim.Native.Nat.{ℕ}
 use native.Mathlib.Omega.{arith}
@@ -33,3 +33,24 @@ not_done NotSynchronized h e = omega arith
 not_done NotEnoughData h e = omega arith
 not_done PredictionThreshold h e = omega arith
 not_done SpectatorTooFarBehind h e = omega arith
+
+-- the same, where it is known as an inequation
+pub other_than_done : (a : Answer) → (a ≡ Done → ⊥) → number_of a ≡ 0 → ⊥
+other_than_done Done h e = h refl
+other_than_done BadSetup h e = omega arith
+other_than_done WrongState h e = omega arith
+other_than_done BadLength h e = omega arith
+other_than_done BadFrame h e = omega arith
+other_than_done Full h e = omega arith
+other_than_done Overflow h e = omega arith
+other_than_done BadHandle h e = omega arith
+other_than_done BadClock h e = omega arith
+other_than_done Short h e = omega arith
+other_than_done BadKind h e = omega arith
+other_than_done BadBool h e = omega arith
+other_than_done TooLong h e = omega arith
+other_than_done Extra h e = omega arith
+other_than_done NotSynchronized h e = omega arith
+other_than_done NotEnoughData h e = omega arith
+other_than_done PredictionThreshold h e = omega arith
+other_than_done SpectatorTooFarBehind h e = omega arith
