@@ -99,6 +99,7 @@ pub struct Received {
     pub message: Message,
 }
 
+#[tactic(auto, unfolding(crate::specs::Message::kind_of))]
 pub fn kind_of(body: MessageBody) -> u32
     ensures { result ≡ kind_of body }
 {

@@ -45,6 +45,7 @@ pub fn read(datagram: &[u8]) -> Received
 }
 
 // An Input's payload, a part of the datagram; empty where the datagram does not read or is no Input.
+#[tactic(auto, using(crate::proofs::Fronts::payload_front))]
 pub fn payload_of(datagram: &[u8]) -> &[u8]
     ensures { PayloadAs datagram.now result.now }
 {
@@ -57,6 +58,7 @@ pub fn payload_of(datagram: &[u8]) -> &[u8]
 // Where the message ends that begins at a place of a queue: `queue[at..end]` is one datagram. Bytes that cannot
 // be read are one message up to the queue's end, so that a loop over a queue always ends and whoever gets that
 // datagram refuses it. From the queue's end on the answer is the queue's end.
+#[tactic(auto, using(crate::proofs::Fronts::end_found, crate::proofs::Fronts::end_none, crate::proofs::Queue::message_end_past))]
 pub fn message_end(queue: &[u8], at: usize) -> usize
     ensures { result ≡ message_end queue.now at }
 {
@@ -72,6 +74,7 @@ pub fn message_end(queue: &[u8], at: usize) -> usize
 }
 
 // A message with nothing after it.
+#[tactic(auto, using(crate::proofs::Fronts::alone, crate::proofs::Fronts::extra, answer::proofs::Done::other_than_done, crate::proofs::Fronts::refused_front, crate::proofs::Fronts::still_refused))]
 fn whole(d: &[u8]) -> Front
     ensures { FrontAs d.now (datagram d.now) result }
 {
@@ -86,6 +89,7 @@ fn whole(d: &[u8]) -> Front
     front
 }
 
+#[tactic(auto, using(crate::proofs::Takes::bad_kind, crate::proofs::Takes::head_short, crate::proofs::Fronts::refused_front))]
 fn front_of(d: &[u8]) -> Front
     ensures { FrontAs d.now (message d.now) result }
 {
@@ -101,6 +105,7 @@ fn front_of(d: &[u8]) -> Front
 }
 
 // A message of a fixed size, by the table.
+#[tactic(auto, using(crate::proofs::Takes::ack, crate::proofs::Takes::alive, crate::proofs::Fronts::body_only_front, crate::proofs::Takes::checksum, crate::proofs::Takes::fixed_short, crate::proofs::Takes::last_kind, crate::proofs::Takes::pong, crate::proofs::Takes::quality, crate::proofs::Fronts::refused_front, crate::proofs::Takes::reply, crate::proofs::Takes::request))]
 fn fixed(d: &[u8], kind: u32) -> Front
     requires { (6 ≤ length d.now) × (kind ≡ number_at 4 2 d.now) × (kind < 8) × (kind ≡ 2 → ⊥) }
     ensures { FrontAs d.now (message d.now) result }
@@ -159,6 +164,7 @@ fn fixed(d: &[u8], kind: u32) -> Front
 }
 
 // An Input: both counts are tested as soon as they are read, as u64.
+#[tactic(auto, using(crate::proofs::Statuses::fault_of, crate::proofs::Inputs::many_statuses, crate::proofs::Inputs::no_count, answer::proofs::Done::other_than_done, crate::proofs::Fronts::refused_front, crate::proofs::Inputs::with_statuses_lem))]
 fn input(d: &[u8]) -> Front
     requires { (6 ≤ length d.now) × (number_at 4 2 d.now ≡ 2) }
     ensures { FrontAs d.now (message d.now) result }
@@ -180,6 +186,7 @@ fn input(d: &[u8]) -> Front
 }
 
 // The reports from their place on.
+#[tactic(auto, using(answer::proofs::Done::other_than_done, crate::proofs::Statuses::report_there, crate::proofs::Statuses::reports_fault, crate::proofs::Statuses::reports_turn, base::proofs::Arrays::unmap), unfolding(crate::specs::Read::reports))]
 fn statuses_of(d: &[u8], count: usize) -> Reports
     requires { (14 ≤ length d.now) × (count ≤ most_players) }
     ensures { ReportsAs (drop 14 d.now) count result }
@@ -207,6 +214,7 @@ fn statuses_of(d: &[u8], count: usize) -> Reports
 }
 
 // What is wrong with the report at a place: its flag is looked at before its frame.
+#[tactic(auto, using(crate::proofs::Flags::report_bad, crate::proofs::Flags::report_good, crate::proofs::Flags::report_none, crate::proofs::Flags::report_short))]
 fn report_fault(d: &[u8], at: usize) -> Answer
     requires { at ≤ length d.now }
     ensures { number_of result ≡ number_in (report (drop at d.now)) }
@@ -224,6 +232,7 @@ fn report_fault(d: &[u8], at: usize) -> Answer
     Answer::Done
 }
 
+#[tactic(auto, unfolding(crate::specs::Front::report_at))]
 fn report_at(d: &[u8], at: usize) -> StatusReport
     requires { at + 5 ≤ length d.now }
     ensures { result ≡ report_at at d.now }
@@ -235,6 +244,7 @@ fn report_at(d: &[u8], at: usize) -> StatusReport
 }
 
 // The rest of an Input, whose reports stand up to the flag.
+#[tactic(auto, using(crate::proofs::Inputs::bad_flag, crate::proofs::Inputs::few_bytes, crate::proofs::Fronts::found_front, crate::proofs::Inputs::input_at, crate::proofs::Inputs::long_payload, crate::proofs::Inputs::no_flag, crate::proofs::Fronts::refused_front, crate::proofs::Inputs::short_payload, base::proofs::Arrays::unmap, crate::proofs::Inputs::whole_input), unfolding(crate::specs::Message::is_input, crate::specs::Message::meant))]
 fn after_statuses(d: &[u8], reports: StatusReports) -> Front
     requires { (reports.count ≤ most_players) × (14 + 5 * reports.count ≤ length d.now) }
     ensures { FrontAs d.now (after_reports (number_at 2 0 d.now) (report_list reports) (drop (14 + 5 * reports.count) d.now)) result }
@@ -275,6 +285,7 @@ fn after_statuses(d: &[u8], reports: StatusReports) -> Front
     }
 }
 
+#[tactic(auto, using(crate::proofs::Meant::meant_body_only))]
 fn body_only(d: &[u8], size: usize, body: MessageBody) -> Front
     requires { 2 ≤ length d.now }
     ensures { BodyOnlyAs d.now size body result }
@@ -291,6 +302,7 @@ fn body_only(d: &[u8], size: usize, body: MessageBody) -> Front
     }
 }
 
+#[tactic(auto, using(crate::proofs::Meant::meant_body_only))]
 fn refused(answer: Answer) -> Front
     ensures { RefusedAs answer result }
 {
@@ -320,6 +332,7 @@ pub fn no_reports() -> StatusReports
     }
 }
 
+#[tactic(auto, unfolding(crate::specs::Front::wide_at))]
 fn wide_at(d: &[u8], at: usize) -> Wide
     requires { at + 16 ≤ length d.now }
     ensures { result ≡ wide_at at d.now }
@@ -337,6 +350,7 @@ fn frame_at(d: &[u8], at: usize) -> u32
     frame::bits_of(number4(d, at))
 }
 
+#[tactic(auto, using(crate::proofs::Numbers::number_halves))]
 fn number8(d: &[u8], at: usize) -> u64
     requires { at + 8 ≤ length d.now }
     ensures { result ≡ number_at 8 at d.now }
@@ -344,6 +358,7 @@ fn number8(d: &[u8], at: usize) -> u64
     number4(d, at) as u64 + WORD * (number4(d, at + 4) as u64)
 }
 
+#[tactic(auto, using(crate::proofs::Numbers::number_halves))]
 fn number4(d: &[u8], at: usize) -> u32
     requires { at + 4 ≤ length d.now }
     ensures { result ≡ number_at 4 at d.now }
@@ -351,6 +366,7 @@ fn number4(d: &[u8], at: usize) -> u32
     number2(d, at) as u32 + 0x1_0000 * (number2(d, at + 2) as u32)
 }
 
+#[tactic(auto, using(crate::proofs::Numbers::number_two))]
 fn number2(d: &[u8], at: usize) -> u16
     requires { at + 2 ≤ length d.now }
     ensures { result ≡ number_at 2 at d.now }

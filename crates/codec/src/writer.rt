@@ -18,6 +18,7 @@ use ceilings::{MOST_PAYLOAD, MOST_PLAYERS};
 use numbers::WORD;
 
 // The bytes that a message takes with a payload of `length` bytes.
+#[tactic(auto, using(crate::proofs::Sizes::kind_below, crate::proofs::Sizes::size_input, crate::proofs::Sizes::size_other, crate::proofs::Sizes::size_payload, crate::proofs::Sizes::size_statuses))]
 pub fn size_of(message: Message, length: usize) -> Size
     ensures { shown_size result ≡ size_as message length }
 {
@@ -39,6 +40,7 @@ pub fn size_of(message: Message, length: usize) -> Size
 
 // Writes all of a message but an Input's payload, for which the room is tested too: the caller puts
 // its `length` bytes at the end.
+#[tactic(auto, using(crate::proofs::Laid::fits_head, crate::proofs::Laid::full_refused, crate::proofs::Sizes::is_long, crate::proofs::Sizes::is_size, crate::proofs::Laid::laid, crate::proofs::Laid::long_refused, crate::proofs::Sizes::size_head, base::proofs::Arrays::unmap))]
 pub fn write_head(out: &mut [u8], at: usize, message: Message, length: usize) -> Written
     ensures { HeadAs out.old at message length result out.new }
 {
@@ -68,6 +70,7 @@ pub fn write_head(out: &mut [u8], at: usize, message: Message, length: usize) ->
 }
 
 // Writes a message with its payload.
+#[tactic(auto, using(crate::proofs::Laid::head_end, crate::proofs::Sizes::kind_input, crate::proofs::Sizes::kind_other, base::proofs::Lay::laid_copied, answer::proofs::Done::other_than_done, crate::proofs::Laid::not_long, crate::proofs::Laid::other_written, crate::proofs::Sizes::size_head, crate::proofs::Laid::still_refused, base::proofs::Arrays::unmap))]
 pub fn write(out: &mut [u8], at: usize, message: Message, payload: &[u8]) -> Written
     ensures { WrittenAs out.old at message payload.now result out.new }
 {
@@ -89,6 +92,7 @@ pub fn write(out: &mut [u8], at: usize, message: Message, payload: &[u8]) -> Wri
     }
 }
 
+#[tactic(auto, using(crate::proofs::Lengths::head_parts, crate::proofs::Put::put_then), unfolding(crate::specs::Bytes::head, crate::specs::Message::meant))]
 fn put_head(out: &mut [u8], at: usize, message: Message, length: usize) -> usize
     requires length_bound { at + lib.ListN.length (head (meant message []) length) ≤ lib.ListN.length out.old }
     requires count_le_most_players { is_input message.body ≡ true → message.reports.count ≤ most_players }
@@ -100,6 +104,7 @@ fn put_head(out: &mut [u8], at: usize, message: Message, length: usize) -> usize
     put_body(out, next, message, length)
 }
 
+#[tactic(auto, using(crate::proofs::Bodies::body_put, crate::proofs::Bodies::fits_none, base::proofs::Lay::laid_none, crate::proofs::Put::put_then, crate::proofs::Bodies::room_as, crate::proofs::Lengths::statuses_length, base::proofs::Arrays::unmap), unfolding(crate::specs::Bytes::body_bytes, crate::specs::Message::is_input, crate::specs::Message::kind_of))]
 fn put_body(out: &mut [u8], at: usize, message: Message, length: usize) -> usize
     requires length_bound { at + lib.ListN.length (body_bytes message.body (meant message []).reports length) ≤ lib.ListN.length out.old }
     requires count_le_most_players { is_input message.body ≡ true → message.reports.count ≤ most_players }
@@ -135,6 +140,7 @@ fn put_body(out: &mut [u8], at: usize, message: Message, length: usize) -> usize
     }
 }
 
+#[tactic(auto, using(crate::proofs::Put::put_then, base::proofs::Arrays::unmap), unfolding(crate::specs::Bytes::statuses_bytes))]
 fn put_statuses(out: &mut [u8], at: usize, reports: StatusReports) -> usize
     requires count_in_bounds { at + (8 + 5 * reports.count) ≤ length out.old }
     requires count_le_most_players { reports.count ≤ most_players }
@@ -145,6 +151,7 @@ fn put_statuses(out: &mut [u8], at: usize, reports: StatusReports) -> usize
 }
 
 // What stands between an Input's statuses and its payload.
+#[tactic(auto, using(crate::proofs::Put::put_then), unfolding(crate::specs::Bytes::flag_bytes, crate::specs::Bytes::input_bytes))]
 fn put_input(
     out: &mut [u8],
     at: usize,
@@ -162,6 +169,7 @@ fn put_input(
     put8(out, next, length as u64)
 }
 
+#[tactic(auto, using(crate::proofs::Put::put_then), unfolding(crate::specs::Bytes::advantage_bytes))]
 fn put_quality(out: &mut [u8], at: usize, frame_advantage: u16, ping: Wide) -> usize
     requires { at + 18 ≤ length out.old }
     ensures { PutAs out.old at (advantage_bytes frame_advantage ++ wide_bytes ping) result out.new }
@@ -170,6 +178,7 @@ fn put_quality(out: &mut [u8], at: usize, frame_advantage: u16, ping: Wide) -> u
     put_wide(out, next, ping)
 }
 
+#[tactic(auto, using(crate::proofs::Put::put_then))]
 fn put_checksum(out: &mut [u8], at: usize, checksum: Wide, frame: u32) -> usize
     requires { at + 20 ≤ length out.old }
     ensures { PutAs out.old at (wide_bytes checksum ++ frame_bytes frame) result out.new }
@@ -178,6 +187,7 @@ fn put_checksum(out: &mut [u8], at: usize, checksum: Wide, frame: u32) -> usize
     put_frame(out, next, frame)
 }
 
+#[tactic(auto, using(base::proofs::Lay::laid_none, crate::proofs::Reports::reports_turn, base::proofs::Arrays::unmap), unfolding(crate::specs::Bytes::reports_bytes))]
 fn put_reports(out: &mut [u8], at: usize, reports: StatusReports) -> usize
     requires count_in_bounds { at + 5 * reports.count ≤ length out.old }
     requires count_le_most_players { reports.count ≤ most_players }
@@ -194,6 +204,7 @@ fn put_reports(out: &mut [u8], at: usize, reports: StatusReports) -> usize
     next
 }
 
+#[tactic(auto, using(crate::proofs::Put::put_then), unfolding(crate::specs::Bytes::flag_bytes, crate::specs::Bytes::report_bytes))]
 fn put_report(out: &mut [u8], at: usize, report: StatusReport) -> usize
     requires { at + 5 ≤ length out.old }
     ensures { ReportPut report out.old at result out.new }
@@ -202,6 +213,7 @@ fn put_report(out: &mut [u8], at: usize, report: StatusReport) -> usize
     put_frame(out, next, report.last_frame)
 }
 
+#[tactic(auto, using(crate::proofs::Put::put_byte), unfolding(crate::specs::Bytes::flag_bytes))]
 fn put_flag(out: &mut [u8], at: usize, flag: bool) -> usize
     requires { at + 1 ≤ length out.old }
     ensures { PutAs out.old at (flag_bytes flag) result out.new }
@@ -216,6 +228,7 @@ fn flag_number(flag: bool) -> u8
     if flag { 1 } else { 0 }
 }
 
+#[tactic(auto, unfolding(crate::specs::Bytes::frame_bytes))]
 fn put_frame(out: &mut [u8], at: usize, frame: u32) -> usize
     requires { at + 4 ≤ length out.old }
     ensures { PutAs out.old at (frame_bytes frame) result out.new }
@@ -223,6 +236,7 @@ fn put_frame(out: &mut [u8], at: usize, frame: u32) -> usize
     put4(out, at, frame::bits_of(frame))
 }
 
+#[tactic(auto, using(crate::proofs::Put::put_then), unfolding(crate::specs::Bytes::wide_bytes))]
 fn put_wide(out: &mut [u8], at: usize, wide: Wide) -> usize
     requires { at + 16 ≤ length out.old }
     ensures { PutAs out.old at (wide_bytes wide) result out.new }
@@ -231,6 +245,7 @@ fn put_wide(out: &mut [u8], at: usize, wide: Wide) -> usize
     put8(out, next, wide.high)
 }
 
+#[tactic(auto, using(crate::proofs::Put::put_pieces))]
 fn put8(out: &mut [u8], at: usize, n: u64) -> usize
     requires { at + 8 ≤ length out.old }
     ensures { PutAs out.old at (le 8 n) result out.new }
@@ -239,6 +254,7 @@ fn put8(out: &mut [u8], at: usize, n: u64) -> usize
     put4(out, next, (n / WORD) as u32)
 }
 
+#[tactic(auto, using(crate::proofs::Put::put_pieces))]
 fn put4(out: &mut [u8], at: usize, n: u32) -> usize
     requires { at + 4 ≤ length out.old }
     ensures { PutAs out.old at (le 4 n) result out.new }
@@ -247,6 +263,7 @@ fn put4(out: &mut [u8], at: usize, n: u32) -> usize
     put2(out, next, (n / 0x1_0000) as u16)
 }
 
+#[tactic(auto, using(crate::proofs::Put::put_two), unfolding(base::specs::Little::le))]
 fn put2(out: &mut [u8], at: usize, n: u16) -> usize
     requires { at + 2 ≤ length out.old }
     ensures { PutAs out.old at (le 2 n) result out.new }
