@@ -1,7 +1,7 @@
 -- A message of the code's types has every field in its range. `Is` says that a value is what a machine value of its type means; every function knows that of its
 -- parameters (`c.good`) and of what a call hands back.
 use mathlib.Core.Bool.{Bool, true, false}
-use mathlib.Core.List.{List, [], ◌∷◌, map}
+use mathlib.Core.List.{List, [], ◌∷◌}
 use Prim.Native.Nat.{ℕ, zero, suc, ◌^◌, ◌<◌}
 use native.Mathlib.Omega.{arith}
 use borrow.Author.Rules.{rules}

@@ -350,7 +350,6 @@ fn frame_at(d: &[u8], at: usize) -> u32
     frame::bits_of(number4(d, at))
 }
 
-#[tactic(auto, using(crate::proofs::Numbers::number_halves))]
 fn number8(d: &[u8], at: usize) -> u64
     requires { at + 8 ≤ length d.now }
     ensures { result ≡ number_at 8 at d.now }
@@ -358,7 +357,6 @@ fn number8(d: &[u8], at: usize) -> u64
     number4(d, at) as u64 + WORD * (number4(d, at + 4) as u64)
 }
 
-#[tactic(auto, using(crate::proofs::Numbers::number_halves))]
 fn number4(d: &[u8], at: usize) -> u32
     requires { at + 4 ≤ length d.now }
     ensures { result ≡ number_at 4 at d.now }

@@ -70,7 +70,6 @@ pub fn write_head(out: &mut [u8], at: usize, message: Message, length: usize) ->
 }
 
 // Writes a message with its payload.
-#[tactic(auto, using(crate::proofs::Laid::head_end, crate::proofs::Sizes::kind_input, crate::proofs::Sizes::kind_other, base::proofs::Lay::laid_copied, answer::proofs::Done::other_than_done, crate::proofs::Laid::not_long, crate::proofs::Laid::other_written, crate::proofs::Sizes::size_head, crate::proofs::Laid::still_refused, base::proofs::Arrays::unmap))]
 pub fn write(out: &mut [u8], at: usize, message: Message, payload: &[u8]) -> Written
     ensures { WrittenAs out.old at message payload.now result out.new }
 {
@@ -140,7 +139,6 @@ fn put_body(out: &mut [u8], at: usize, message: Message, length: usize) -> usize
     }
 }
 
-#[tactic(auto, using(crate::proofs::Put::put_then, base::proofs::Arrays::unmap), unfolding(crate::specs::Bytes::statuses_bytes))]
 fn put_statuses(out: &mut [u8], at: usize, reports: StatusReports) -> usize
     requires count_in_bounds { at + (8 + 5 * reports.count) ≤ length out.old }
     requires count_le_most_players { reports.count ≤ most_players }
@@ -169,7 +167,6 @@ fn put_input(
     put8(out, next, length as u64)
 }
 
-#[tactic(auto, using(crate::proofs::Put::put_then), unfolding(crate::specs::Bytes::advantage_bytes))]
 fn put_quality(out: &mut [u8], at: usize, frame_advantage: u16, ping: Wide) -> usize
     requires { at + 18 ≤ length out.old }
     ensures { PutAs out.old at (advantage_bytes frame_advantage ++ wide_bytes ping) result out.new }
@@ -178,7 +175,6 @@ fn put_quality(out: &mut [u8], at: usize, frame_advantage: u16, ping: Wide) -> u
     put_wide(out, next, ping)
 }
 
-#[tactic(auto, using(crate::proofs::Put::put_then))]
 fn put_checksum(out: &mut [u8], at: usize, checksum: Wide, frame: u32) -> usize
     requires { at + 20 ≤ length out.old }
     ensures { PutAs out.old at (wide_bytes checksum ++ frame_bytes frame) result out.new }
@@ -236,7 +232,6 @@ fn put_frame(out: &mut [u8], at: usize, frame: u32) -> usize
     put4(out, at, frame::bits_of(frame))
 }
 
-#[tactic(auto, using(crate::proofs::Put::put_then), unfolding(crate::specs::Bytes::wide_bytes))]
 fn put_wide(out: &mut [u8], at: usize, wide: Wide) -> usize
     requires { at + 16 ≤ length out.old }
     ensures { PutAs out.old at (wide_bytes wide) result out.new }
@@ -245,7 +240,6 @@ fn put_wide(out: &mut [u8], at: usize, wide: Wide) -> usize
     put8(out, next, wide.high)
 }
 
-#[tactic(auto, using(crate::proofs::Put::put_pieces))]
 fn put8(out: &mut [u8], at: usize, n: u64) -> usize
     requires { at + 8 ≤ length out.old }
     ensures { PutAs out.old at (le 8 n) result out.new }
@@ -254,7 +248,6 @@ fn put8(out: &mut [u8], at: usize, n: u64) -> usize
     put4(out, next, (n / WORD) as u32)
 }
 
-#[tactic(auto, using(crate::proofs::Put::put_pieces))]
 fn put4(out: &mut [u8], at: usize, n: u32) -> usize
     requires { at + 4 ≤ length out.old }
     ensures { PutAs out.old at (le 4 n) result out.new }

@@ -36,7 +36,6 @@ impl Draft {
         numbers::least(self.used, MOST_DRAFT)
     }
 
-    #[tactic(auto, using(crate::proofs::DraftLaws::put_fits, crate::proofs::DraftLaws::put_none))]
     pub fn put(self, piece: &[u8]) -> Draft
         ensures { DraftedAs (added (drafted self) piece.now) result }
     {

@@ -4,7 +4,6 @@ ghost use Rattle.text.specs.Append.{AppendedAs};
 ghost use Rattle.text.specs.Page.{page, written};
 
 // Lays the piece at the place, or leaves the buffer as it is where the piece does not fit.
-#[tactic(auto, using(base::proofs::Lay::laid_copied, crate::proofs::AppendLaws::placed, crate::proofs::AppendLaws::refused))]
 pub fn append(out: &mut [u8], at: usize, piece: &[u8]) -> bool
     ensures { AppendedAs out.old at piece.now result out.new }
 {

@@ -1,5 +1,5 @@
 -- The fields of a body of several, by its kind.
-use Rattle.std.proofs.Common.{◌≡◌, ◌≤◌, ◌∙◌, sym, length, arith}
+use Rattle.std.proofs.Common.{◌≤◌, ◌∙◌, sym, length}
 use Rattle.codec.specs.Read.{message}
 use Rattle.codec.proofs.Fronts.{body_only_front}
 use Rattle.codec.proofs.Takes.{quality, checksum}

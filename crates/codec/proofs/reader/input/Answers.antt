@@ -1,5 +1,5 @@
 -- What a report's fault, and the reports with the rest, say of the message.
-use Rattle.std.proofs.Common.{◌≡◌, ◌∙◌, ◌*◌, ◌≤◌, [], sym, drop, length-drop, arith}
+use Rattle.std.proofs.Common.{◌≡◌, ◌∙◌, ◌*◌, [], sym, drop}
 use lib.Seq.{drop-drop}
 use Rattle.answer.proofs.Done.{other_than_done}
 use Rattle.answer.specs.Number.{number_of}

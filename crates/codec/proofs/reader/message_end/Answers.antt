@@ -1,5 +1,5 @@
 -- The end of what was read of the rest of the queue.
-use Rattle.std.proofs.Common.{◌≡◌, ◌-◌, ◌<◌, length, take, drop, length-drop, arith}
+use Rattle.std.proofs.Common.{◌≡◌, ◌-◌, length, take, drop, length-drop, arith}
 use lib.Seq.{take_all}
 use Rattle.codec.proofs.Fronts.{end_none, end_found}
 use Rattle.codec.proofs.reader.message_end.Goals as goal

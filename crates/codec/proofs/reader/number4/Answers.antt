@@ -1,5 +1,5 @@
 -- The halves of a number of 4 bytes.
-use Rattle.std.proofs.Common.{◌∙◌, sym, arith}
+use Rattle.std.proofs.Common.{arith}
 use Rattle.codec.proofs.Numbers.{number_halves}
 use Rattle.codec.proofs.reader.number4.Goals as goal
 

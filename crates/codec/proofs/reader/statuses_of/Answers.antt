@@ -1,5 +1,5 @@
 -- A report in which no fault was found stands there whole, and its flag is 0 or 1.
-use Rattle.std.proofs.Common.{◌≡◌, ◌∙◌, ◌+◌, ◌*◌, ◌≤◌, [], sym, length, take, drop, length-drop, length-set, arith}
+use Rattle.std.proofs.Common.{◌≡◌, ◌∙◌, ◌+◌, ◌*◌, [], sym, take, drop, length-drop, length-set, arith}
 use native.Mathlib.Nat.{sub_self}
 use lib.Seq.{drop-drop}
 use Rattle.codec.specs.Read.{reports}

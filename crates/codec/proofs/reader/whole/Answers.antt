@@ -1,5 +1,5 @@
 -- A message with nothing after it is the datagram's.
-use Rattle.std.proofs.Common.{◌≡◌, arith}
+use Rattle.std.proofs.Common.{arith}
 use Rattle.answer.proofs.Done.{other_than_done}
 use Rattle.codec.proofs.Fronts.{still_refused, alone}
 use Rattle.codec.proofs.reader.whole.Goals as goal

@@ -1,5 +1,5 @@
 -- The low half and then the high half.
-use Rattle.std.proofs.Common.{◌+◌, ◌%◌, ◌^◌, ◌≤◌, arith}
+use Rattle.std.proofs.Common.{◌%◌, ◌^◌, arith}
 use Rattle.base.proofs.Little.{le-length}
 use Rattle.codec.proofs.Put.{put_pieces}
 use Rattle.codec.proofs.writer.put8.Goals as goal

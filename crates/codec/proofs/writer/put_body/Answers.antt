@@ -1,5 +1,5 @@
 -- Each arm puts the fields of its body, for which there is room.
-use Rattle.std.proofs.Common.{◌≡◌, ◌+◌, ◌≤◌, length, take, length-take, sym, arith, rules}
+use Rattle.std.proofs.Common.{◌≡◌, ◌≤◌, length, take, length-take, sym, arith, rules}
 use Rattle.base.proofs.Lay.{laid_none}
 use Rattle.codec.specs.Message.{kind_of, is_input}
 use Rattle.codec.specs.Bytes.{statuses_bytes, input_bytes, body_bytes}

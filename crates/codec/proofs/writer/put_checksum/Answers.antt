@@ -1,5 +1,5 @@
 -- The checksum and then the frame.
-use Rattle.std.proofs.Common.{◌+◌, ◌≤◌, length, arith}
+use Rattle.std.proofs.Common.{arith}
 use Rattle.codec.specs.Bytes.{frame_bytes, wide_bytes}
 use Rattle.codec.proofs.Lengths.{frame-length, wide-length}
 use Rattle.codec.proofs.Put.{put_then}

@@ -1,5 +1,5 @@
 -- The magic, the kind and the body.
-use Rattle.std.proofs.Common.{◌≡◌, ◌+◌, ◌++◌, ◌≤◌, ◌<◌, ◌^◌, [], length, length-append, arith, rules}
+use Rattle.std.proofs.Common.{◌++◌, [], length-append, arith, rules}
 use Rattle.base.specs.Little.{le}
 use Rattle.base.proofs.Little.{le-length}
 use Rattle.codec.specs.Message.{kind_of, meant}

@@ -1,5 +1,5 @@
 -- Four fields one after another.
-use Rattle.std.proofs.Common.{◌+◌, ◌++◌, ◌≤◌, length, length-append, arith}
+use Rattle.std.proofs.Common.{◌++◌, length-append, arith}
 use Rattle.base.specs.Little.{le}
 use Rattle.base.proofs.Little.{le-length}
 use Rattle.codec.specs.Bytes.{flag_bytes, frame_bytes, input_bytes}

@@ -1,5 +1,5 @@
 -- The advantage's bits and then the ping.
-use Rattle.std.proofs.Common.{◌+◌, ◌≤◌, length, arith}
+use Rattle.std.proofs.Common.{arith}
 use Rattle.codec.specs.Bytes.{advantage_bytes, wide_bytes}
 use Rattle.codec.proofs.Lengths.{advantage-length, wide-length}
 use Rattle.codec.proofs.Put.{put_then}

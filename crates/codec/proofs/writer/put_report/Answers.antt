@@ -1,5 +1,5 @@
 -- The flag and then the frame.
-use Rattle.std.proofs.Common.{◌+◌, ◌≤◌, length, arith, rules}
+use Rattle.std.proofs.Common.{arith, rules}
 use Rattle.codec.specs.Bytes.{flag_bytes, frame_bytes, report_bytes}
 use Rattle.codec.proofs.Lengths.{frame-length}
 use Rattle.codec.proofs.Put.{put_then}

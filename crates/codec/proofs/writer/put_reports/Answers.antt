@@ -1,5 +1,5 @@
 -- One report a turn.
-use Rattle.std.proofs.Common.{◌≡◌, ◌+◌, ◌∙◌, ◌≤◌, length, take, length-take, arith, rules}
+use Rattle.std.proofs.Common.{◌≡◌, ◌+◌, length, take, length-take, arith, rules}
 use Rattle.codec.proofs.Lengths.{reports-length}
 use Rattle.codec.proofs.Reports.{reports_turn}
 use Rattle.codec.proofs.writer.put_reports.Goals as goal

@@ -1,5 +1,5 @@
 -- The count and then the reports.
-use Rattle.std.proofs.Common.{◌≡◌, ◌+◌, ◌≤◌, length, take, length-take, arith, rules}
+use Rattle.std.proofs.Common.{◌≡◌, length, take, length-take, arith, rules}
 use Rattle.base.specs.Little.{le}
 use Rattle.base.proofs.Little.{le-length}
 use Rattle.codec.specs.Bytes.{reports_bytes, statuses_bytes}

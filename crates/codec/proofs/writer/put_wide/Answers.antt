@@ -1,5 +1,5 @@
 -- The low half and then the high half.
-use Rattle.std.proofs.Common.{◌+◌, ◌≤◌, length, arith}
+use Rattle.std.proofs.Common.{arith}
 use Rattle.base.specs.Little.{le}
 use Rattle.base.proofs.Little.{le-length}
 use Rattle.codec.specs.Bytes.{wide_bytes}
@@ -7,7 +7,7 @@ use Rattle.codec.proofs.Put.{put_then}
 use Rattle.codec.proofs.writer.put_wide.Goals as goal
 
 pub put8-requires : goal.put8-requires
-put8-requires c = omega (arith, c.put8-next.ensures.next, le-length 8 c.args.wide.low)
+put8-requires c = omega (arith, le-length)
 
 pub returns : goal.returns
 unfolding wide_bytes

@@ -1,5 +1,5 @@
 -- A message that is too long or has no room is refused; one that fits is put.
-use Rattle.std.proofs.Common.{◌≡◌, ◌≤◌, [], length, arith, rules}
+use Rattle.std.proofs.Common.{[], arith, rules}
 use Rattle.codec.specs.Message.{meant}
 use Rattle.codec.specs.Bytes.{head}
 use Rattle.codec.proofs.Laid.{fits_head, long_refused, full_refused, laid}
