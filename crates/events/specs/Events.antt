@@ -7,7 +7,6 @@ use Rattle.events.specs.declared.Entry.{Entry}
 use Rattle.events.specs.declared.Events.{Events}
 use Rattle.events.specs.declared.Pushed.{Pushed}
 use Rattle.events.specs.declared.Event.{Event}
-use Rattle.events.specs.declared.Event.TheVariants as Event
 
 -- the events held, oldest first; a count beyond the array is the array's length
 unfoldable pub held_events : Events → List Entry

@@ -67,6 +67,7 @@ fn onward(at: usize, size: usize, end: usize) -> usize
 }
 
 // One player's input of a frame: its part of the frame's bytes.
+#[tactic(auto, using(crate::proofs::Laws::entry_is, base::proofs::Arrays::lay_turn, crate::proofs::Laws::no_input, crate::proofs::Laws::no_input_length, crate::proofs::Laws::part_at, crate::proofs::Laws::part_length), unfolding(crate::proofs::Laws::no_input))]
 fn input_entry(frame: u32, player: u32, bytes: [u8; MOST_WIDTH], at: usize, size: usize) -> Entry
     requires { at ≤ most_width }
     ensures { result ≡ input_entry frame player (take size (drop at bytes)) }
@@ -96,6 +97,7 @@ fn packet_fits(used: usize, frame: u32, count: u32, players: usize) -> bool
 }
 
 impl Events {
+    #[tactic(auto, unfolding(crate::specs::Events::held_events))]
     pub fn new() -> Events
         ensures { held_events result ≡ [] }
     {
@@ -105,6 +107,7 @@ impl Events {
         }
     }
 
+    #[tactic(auto, using(base::proofs::Arrays::unmap), unfolding(crate::specs::Events::held_events))]
     pub fn count(self) -> usize
         ensures { result ≡ length (held_events self) }
     {
@@ -112,6 +115,7 @@ impl Events {
     }
 
     // The i-th, or Synchronized with no input.
+    #[tactic(auto, using(base::proofs::Orders::get_or_within, base::proofs::Arrays::unmap, base::proofs::Arrays::view_at, base::proofs::Arrays::view_le), unfolding(crate::specs::Events::blank_entry, crate::specs::Events::held_events))]
     pub fn entry(self, i: usize) -> Entry
         ensures { result ≡ get_or (held_events self) i blank_entry }
     {
@@ -123,6 +127,7 @@ impl Events {
     }
 
     // One more at the end; where there is no room, unchanged.
+    #[tactic(auto, using(base::proofs::Arrays::store_end, base::proofs::Arrays::unmap), unfolding(crate::specs::Events::has_room, crate::specs::Events::held_events))]
     pub fn push(mut self, entry: Entry) -> Pushed
         ensures { PushedAs self (has_room (held_events self) 1) (entry ∷ []) result }
     {
@@ -136,6 +141,7 @@ impl Events {
     }
 
     // Two in their order, each where it is to be announced; where there is no room for all, unchanged.
+    #[tactic(auto, using(crate::proofs::Laws::behind_none, crate::proofs::Laws::behind_one, crate::proofs::Laws::count_if_length, crate::proofs::Laws::count_if_most, crate::proofs::Laws::count_if_one, base::proofs::Arrays::unmap, base::proofs::Arrays::view_le), unfolding(crate::specs::Events::both, crate::specs::Events::has_room, crate::specs::Events::held_events))]
     pub fn push_both(mut self, first: bool, one: Entry, second: bool, other: Entry) -> Pushed
         ensures { PushedAs self (has_room (held_events self) (length (both first one second other))) (both first one second other) result }
     {
@@ -159,6 +165,7 @@ impl Events {
     // What an Input announces: the end of an interruption, a disconnect, and the packet's Input events, frame by frame, in each one per handle: `count`
     // frames of `width` bytes from a place of the payload on, each XOR the reference, the first being `frame`. Where there is no room for all, or a
     // number would be no frame, unchanged. All of it is done in here, so that the store is handed over once.
+    #[tactic(auto, using(crate::proofs::Laws::Behind, crate::proofs::Laws::behind_none, crate::proofs::Laws::behind_one, crate::proofs::Laws::count_if_length, crate::proofs::Laws::count_if_most, crate::proofs::Laws::count_if_one, crate::proofs::Laws::drop_min, crate::proofs::Laws::each, crate::proofs::Laws::frame_end, crate::proofs::Laws::frame_turn, crate::proofs::Laws::packet_end, crate::proofs::Laws::packet_length, crate::proofs::Laws::packet_room, crate::proofs::Laws::packet_turn, base::proofs::Arrays::unmap, base::proofs::Arrays::view_le), unfolding(crate::specs::Events::ahead, crate::specs::Events::both, crate::specs::Events::has_room, crate::specs::Events::held_events, crate::specs::Events::packet_fits))]
     pub fn push_packet(
         mut self,
         resumed: bool,
