@@ -12,6 +12,7 @@ use pending::Pending;
 use status::Statuses;
 
 // The statuses as they travel: never more than a message may have.
+#[tactic(auto, using(base::proofs::Arrays::copy_turn, status::proofs::Held::held_le, base::proofs::Arrays::unmap), unfolding(crate::specs::Outbox::report_of))]
 fn reports_of(statuses: Statuses) -> StatusReports
     ensures { StatusReportsAs (held_statuses statuses) result }
 {
@@ -31,6 +32,7 @@ fn reports_of(statuses: Statuses) -> StatusReports
 }
 
 // The bytes of an Input before its payload.
+#[tactic(auto, using(status::proofs::Held::held_le, base::proofs::Arrays::unmap))]
 fn head_size(statuses: Statuses) -> usize
     ensures { result ≡ fixed_size 2 + 5 * length (held_statuses statuses) }
 {
@@ -38,6 +40,7 @@ fn head_size(statuses: Statuses) -> usize
 }
 
 // Only a running endpoint sends inputs, so none requests a disconnect.
+#[tactic(auto, using(crate::proofs::Packed::Prepared, status::proofs::Held::held_le, crate::proofs::Packed::input_full, crate::proofs::Packed::input_queued, pending::proofs::Widths::payload_most, base::proofs::Arrays::unmap))]
 pub fn pending_input(
     out: &mut [u8],
     at: usize,
@@ -78,6 +81,7 @@ pub fn pending_input(
 
 // The bytes that it takes, for a caller that must know that several messages fit before it writes
 // any.
+#[tactic(auto, using(status::proofs::Held::held_le, pending::proofs::Widths::payload_most, base::proofs::Arrays::unmap), unfolding(crate::specs::Outbox::pending_input))]
 pub fn input_size(statuses: Statuses, pending: Pending, width: usize) -> usize
     ensures { InputSizedAs (held_statuses statuses) (waiting pending) width result }
 {

@@ -19,6 +19,7 @@ pub struct Queued {
 }
 
 // A message without statuses and payload.
+#[tactic(auto, using(crate::proofs::Writes::full, codec::proofs::Meant::meant_body_only, answer::proofs::Done::not_done, crate::proofs::Writes::queued, base::proofs::Arrays::unmap))]
 pub fn body_only(out: &mut [u8], at: usize, magic: u16, body: MessageBody) -> Queued
     ensures { QueuedAs out.old at (body_only magic body) result out.new }
 {
