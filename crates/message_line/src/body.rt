@@ -16,6 +16,7 @@ use text::Draft;
 // An advantage is printed as a frame is, with its own bias.
 const ADVANTAGE_BIAS: u32 = BIAS16 as u32;
 
+#[tactic(auto, using(text::proofs::PieceLaws::both, text::proofs::PieceLaws::empty_holds, text::proofs::PieceLaws::wider), unfolding(text::specs::Ascii::ascii, crate::specs::Line::kind_name))]
 pub(crate) fn kind(body: MessageBody) -> Draft
     ensures { Holds (ascii (kind_name body)) 14 result }
 {
@@ -42,6 +43,7 @@ pub(crate) fn kind(body: MessageBody) -> Draft
 }
 
 // An Input's payload has `length` bytes.
+#[tactic(auto, using(text::proofs::PieceLaws::both_adds, text::proofs::PieceLaws::wider), unfolding(text::specs::Ascii::ascii, crate::specs::Line::field, crate::specs::Line::fields_text))]
 pub(crate) fn fields(draft: Draft, message: Message, length: usize) -> Draft
     requires { (draft.used ≤ 41) × (message.reports.count ≤ most_players) }
     ensures { Adds draft (fields_text message.body (report_list message.reports) length) 209 result }

@@ -12,6 +12,7 @@ use codec::Message;
 use text::Draft;
 
 // The payload has `length` bytes.
+#[tactic(auto, using(text::proofs::PieceLaws::both, text::proofs::PieceLaws::empty_holds, crate::proofs::HeadLaws::few_reports, crate::proofs::HeadLaws::read_head, text::proofs::PieceLaws::same_text, base::proofs::Arrays::unmap, text::proofs::PieceLaws::wider), unfolding(text::specs::Ascii::ascii))]
 pub(crate) fn head_of(datagram: &[u8], length: usize) -> Draft
     ensures { Holds (head_of datagram.now length) 250 result }
 {
@@ -25,6 +26,7 @@ pub(crate) fn head_of(datagram: &[u8], length: usize) -> Draft
     head(message, length)
 }
 
+#[tactic(auto, using(text::proofs::PieceLaws::both, text::proofs::PieceLaws::wider), unfolding(text::specs::Ascii::ascii, crate::specs::Line::field, crate::specs::Line::head_text))]
 fn head(message: Message, length: usize) -> Draft
     requires { message.reports.count ≤ most_players }
     ensures { Holds (head_text message.magic message.body (report_list message.reports) length) 250 result }

@@ -14,6 +14,7 @@ use codec::{StatusReport, StatusReports};
 use frame::BIAS32;
 use text::Draft;
 
+#[tactic(auto, using(text::proofs::PieceLaws::both_adds, crate::proofs::TextLaws::input_fields, text::proofs::PieceLaws::same_piece, base::proofs::Arrays::unmap, text::proofs::PieceLaws::wider), unfolding(text::specs::Ascii::ascii, crate::specs::Line::field))]
 pub(crate) fn input(
     draft: Draft,
     reports: StatusReports,
@@ -33,6 +34,7 @@ pub(crate) fn input(
     payload_length(next, length)
 }
 
+#[tactic(auto, using(crate::proofs::StatusLaws::statuses_turn, base::proofs::Arrays::unmap, text::proofs::PieceLaws::wider), unfolding(crate::specs::Line::reports_text))]
 fn statuses(draft: Draft, reports: StatusReports) -> Draft
     requires { (draft.used ≤ 156) × (reports.count ≤ most_players) }
     ensures { Adds draft (reports_text (report_list reports)) 100 result }
@@ -48,6 +50,7 @@ fn statuses(draft: Draft, reports: StatusReports) -> Draft
     next
 }
 
+#[tactic(auto, using(text::proofs::PieceLaws::wider), unfolding(text::specs::Ascii::ascii, crate::specs::Line::field, crate::specs::Line::report_text))]
 fn status(draft: Draft, report: StatusReport) -> Draft
     requires { draft.used ≤ 231 }
     ensures { Adds draft (report_text report) 25 result }
@@ -59,6 +62,7 @@ fn status(draft: Draft, report: StatusReport) -> Draft
     }
 }
 
+#[tactic(auto, using(text::proofs::PieceLaws::wider), unfolding(text::specs::Ascii::ascii, crate::specs::Line::field))]
 fn disconnect(draft: Draft, requested: bool) -> Draft
     requires { draft.used ≤ 239 }
     ensures { Adds draft (field "disconnect" (ascii (pick requested "true" "false"))) 17 result }
@@ -71,6 +75,7 @@ fn disconnect(draft: Draft, requested: bool) -> Draft
 }
 
 // The space before the payload belongs to a payload that has bytes.
+#[tactic(auto, using(text::proofs::PieceLaws::both_adds, crate::proofs::TextLaws::no_bytes, text::proofs::PieceLaws::same_piece, crate::proofs::TextLaws::some_bytes, text::proofs::PieceLaws::wider), unfolding(text::specs::Ascii::ascii, crate::specs::Line::field))]
 fn payload_length(draft: Draft, length: usize) -> Draft
     requires { draft.used ≤ 228 }
     ensures { Adds draft (bytes_text length) 28 result }

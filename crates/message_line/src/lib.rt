@@ -27,6 +27,7 @@ pub struct Laid {
     pub end: usize,
 }
 
+#[tactic(auto, using(crate::proofs::HeadLaws::line_parts, crate::proofs::LayLaws::same_line))]
 pub fn line(out: &mut [u8], at: usize, datagram: &[u8]) -> Laid
     ensures { LineAs out.old at (line_of datagram.now) result out.new }
 {
@@ -36,6 +37,7 @@ pub fn line(out: &mut [u8], at: usize, datagram: &[u8]) -> Laid
 }
 
 // The line after some words, with a newline at its end: each of the three where it fits. Gives the place after them.
+#[tactic(auto, using(crate::proofs::LayLaws::line_page, crate::proofs::LayLaws::three_pieces), unfolding(text::specs::Ascii::ascii))]
 pub fn line_after(out: &mut [u8], at: usize, words: &[u8], datagram: &[u8]) -> usize
     ensures { page out.new result
         ≡ written_all (words.now ∷ line_of datagram.now ∷ ascii "\n" ∷ []) (page out.old at) }
@@ -48,6 +50,7 @@ pub fn line_after(out: &mut [u8], at: usize, words: &[u8], datagram: &[u8]) -> u
 
 // The whole line is known to fit before the first byte is written. The room is a difference, since
 // sums of lengths can wrap.
+#[tactic(auto, using(crate::proofs::LayLaws::both_laid, crate::proofs::LayLaws::no_room_lem), unfolding(text::specs::Draft::drafted))]
 fn lay(out: &mut [u8], at: usize, head: Draft, payload: &[u8]) -> Laid
     requires { head.used ≤ most_draft }
     ensures { LineAs out.old at (drafted head ++ hex_of payload.now) result out.new }

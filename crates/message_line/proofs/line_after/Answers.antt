@@ -1,0 +1,10 @@
+-- The three pieces, one after the other.
+use Rattle.text.specs.Ascii.{ascii}
+use Rattle.message_line.proofs.LayLaws.{line_page, three_pieces}
+use Rattle.message_line.proofs.line_after.Goals as goal
+
+pub returns : goal.returns
+unfolding ascii
+returns c =
+    let line = c.line-laid in
+    three_pieces _ _ _ _ _ _ _ c.lay-start.ensures (line_page _ _ _ line.result _ line.ensures) c.lay.ensures
