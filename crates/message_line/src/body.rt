@@ -16,7 +16,6 @@ use text::Draft;
 // An advantage is printed as a frame is, with its own bias.
 const ADVANTAGE_BIAS: u32 = BIAS16 as u32;
 
-#[tactic(auto, using(text::proofs::PieceLaws::both, text::proofs::PieceLaws::empty_holds, text::proofs::PieceLaws::wider), unfolding(text::specs::Ascii::ascii, crate::specs::Line::kind_name))]
 pub(crate) fn kind(body: MessageBody) -> Draft
     ensures { Holds (ascii (kind_name body)) 14 result }
 {

@@ -5,7 +5,6 @@ ghost use Rattle.text.specs.Draft.{most_draft, Adds};
 
 use text::Draft;
 
-#[tactic(auto, using(text::proofs::PieceLaws::put_adds))]
 pub(crate) fn put(draft: Draft, piece: &[u8]) -> Draft
     requires { draft.used + length piece.now ≤ most_draft }
     ensures { Adds draft piece.now (length piece.now) result }

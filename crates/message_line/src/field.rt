@@ -8,7 +8,6 @@ use crate::draft::put;
 use codec::Wide;
 use text::Draft;
 
-#[tactic(auto, using(text::proofs::DecimalLaws::decimal_64, text::proofs::PieceLaws::then_put))]
 pub(crate) fn number(draft: Draft, name: &[u8], n: u64) -> Draft
     requires { draft.used + (length name.now + 20) ≤ most_draft }
     ensures { Adds draft (name.now ++ decimal_of n) (length name.now + 20) result }
@@ -17,7 +16,6 @@ pub(crate) fn number(draft: Draft, name: &[u8], n: u64) -> Draft
 }
 
 // A u128 is one number.
-#[tactic(auto, using(text::proofs::DecimalLaws::decimal_length, text::proofs::PieceLaws::then_put, text::proofs::NumeralLaws::words_fit))]
 pub(crate) fn wide(draft: Draft, name: &[u8], n: Wide) -> Draft
     requires { draft.used + (length name.now + 39) ≤ most_draft }
     ensures { Adds draft (name.now ++ wide_text n) (length name.now + 39) result }
@@ -26,7 +24,6 @@ pub(crate) fn wide(draft: Draft, name: &[u8], n: Wide) -> Draft
 }
 
 // What people read of a frame or an advantage is signed.
-#[tactic(auto, using(text::proofs::PieceLaws::then_put))]
 pub(crate) fn signed(draft: Draft, name: &[u8], n: u32, bias: u32) -> Draft
     requires { draft.used + (length name.now + 11) ≤ most_draft }
     ensures { Adds draft (name.now ++ signed_of bias n) (length name.now + 11) result }

@@ -14,7 +14,6 @@ use codec::{StatusReport, StatusReports};
 use frame::BIAS32;
 use text::Draft;
 
-#[tactic(auto, using(text::proofs::PieceLaws::both_adds, crate::proofs::TextLaws::input_fields, text::proofs::PieceLaws::same_piece, base::proofs::Arrays::unmap, text::proofs::PieceLaws::wider), unfolding(text::specs::Ascii::ascii, crate::specs::Line::field))]
 pub(crate) fn input(
     draft: Draft,
     reports: StatusReports,
@@ -50,7 +49,6 @@ fn statuses(draft: Draft, reports: StatusReports) -> Draft
     next
 }
 
-#[tactic(auto, using(text::proofs::PieceLaws::wider), unfolding(text::specs::Ascii::ascii, crate::specs::Line::field, crate::specs::Line::report_text))]
 fn status(draft: Draft, report: StatusReport) -> Draft
     requires { draft.used ≤ 231 }
     ensures { Adds draft (report_text report) 25 result }
@@ -62,7 +60,6 @@ fn status(draft: Draft, report: StatusReport) -> Draft
     }
 }
 
-#[tactic(auto, using(text::proofs::PieceLaws::wider), unfolding(text::specs::Ascii::ascii, crate::specs::Line::field))]
 fn disconnect(draft: Draft, requested: bool) -> Draft
     requires { draft.used ≤ 239 }
     ensures { Adds draft (field "disconnect" (ascii (pick requested "true" "false"))) 17 result }

@@ -37,7 +37,6 @@ pub fn line(out: &mut [u8], at: usize, datagram: &[u8]) -> Laid
 }
 
 // The line after some words, with a newline at its end: each of the three where it fits. Gives the place after them.
-#[tactic(auto, using(crate::proofs::LayLaws::line_page, crate::proofs::LayLaws::three_pieces), unfolding(text::specs::Ascii::ascii))]
 pub fn line_after(out: &mut [u8], at: usize, words: &[u8], datagram: &[u8]) -> usize
     ensures { page out.new result
         ≡ written_all (words.now ∷ line_of datagram.now ∷ ascii "\n" ∷ []) (page out.old at) }

@@ -1,5 +1,5 @@
 -- The sum of the lengths does not fit, or the head and the payload's digits stand one after the other.
-use Rattle.std.proofs.Common.{◌≡◌, ◌≤◌, length, arith, rules}
+use Rattle.std.proofs.Common.{arith, rules}
 use Rattle.text.specs.Draft.{drafted}
 use Rattle.message_line.proofs.LayLaws.{no_room_lem, both_laid}
 use Rattle.message_line.proofs.lay.Goals as goal

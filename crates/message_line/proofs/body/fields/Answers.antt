@@ -1,5 +1,5 @@
 -- The advantage and then the ping.
-use Rattle.std.proofs.Common.{◌≤◌, arith}
+use Rattle.std.proofs.Common.{arith}
 use Rattle.text.specs.Ascii.{ascii}
 use Rattle.text.proofs.PieceLaws.{wider, both_adds}
 use Rattle.message_line.specs.Line.{field, fields_text}

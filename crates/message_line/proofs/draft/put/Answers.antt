@@ -1,5 +1,5 @@
 -- There is room for the piece.
-use Rattle.std.proofs.Common.{◌≤◌, length, arith}
+use Rattle.std.proofs.Common.{arith}
 use Rattle.text.proofs.PieceLaws.{put_adds}
 use Rattle.message_line.proofs.draft.put.Goals as goal
 

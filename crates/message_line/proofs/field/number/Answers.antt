@@ -1,5 +1,5 @@
 -- A number of one word has at most 20 digits.
-use Rattle.std.proofs.Common.{◌≤◌, length, rules}
+use Rattle.std.proofs.Common.{rules}
 use native.Mathlib.Nat.{add-zero}
 use Rattle.text.specs.Decimal.{decimal_of}
 use Rattle.text.proofs.DecimalLaws.{decimal_64}

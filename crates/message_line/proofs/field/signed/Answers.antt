@@ -1,5 +1,5 @@
 -- A sign and at most 10 digits.
-use Rattle.std.proofs.Common.{◌≤◌, length, rules}
+use Rattle.std.proofs.Common.{rules}
 use Rattle.text.specs.Decimal.{signed_of}
 use Rattle.text.proofs.DecimalLaws.{signed-length}
 use Rattle.text.proofs.PieceLaws.{then_put}

@@ -1,5 +1,5 @@
 -- A number of two words has at most 39 digits.
-use Rattle.std.proofs.Common.{◌≤◌, length, arith, rules}
+use Rattle.std.proofs.Common.{arith, rules}
 use Rattle.text.proofs.DecimalLaws.{decimal_length}
 use Rattle.text.proofs.NumeralLaws.{words_fit}
 use Rattle.text.proofs.PieceLaws.{then_put}
