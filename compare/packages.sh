@@ -4,7 +4,7 @@
 #   compare/packages.sh TOOL...              installs them; says nothing where all are there
 #   compare/packages.sh --missing TOOL...    installs nothing, writes the names of those that are missing in one line
 #
-# TOOL is vectors, judge, bench or native. With NO_INSTALL set (to anything) nothing is installed.
+# TOOL is vectors, judge or bench. With NO_INSTALL set (to anything) nothing is installed.
 # Exit status: 0 all are there, or are listed; 2 bad usage; 3 they cannot be had (a line on standard error says which).
 set -euo pipefail
 
@@ -15,12 +15,7 @@ packages_of() {
         packages_of vectors
         echo librust-tracing-dev
         ;;
-    # The toolchain compiles and links for x86-64 by itself.
-    native) [ "$(uname -m)" = x86_64 ] || command -v cc >/dev/null || echo gcc libc6-dev ;;
-    bench)
-        packages_of judge
-        [ "$(uname -m)" = x86_64 ] || echo binutils-x86-64-linux-gnu
-        ;;
+    bench) packages_of judge ;;
     *) return 2 ;;
     esac
 }
@@ -37,7 +32,7 @@ fi
 missing=()
 for tool in "${@:-none}"; do
     packages=$(packages_of "$tool") || {
-        echo "usage: packages.sh [--missing] vectors|judge|bench|native ..." >&2
+        echo "usage: packages.sh [--missing] vectors|judge|bench ..." >&2
         exit 2
     }
     for package in $packages; do

@@ -4,21 +4,22 @@
 Copies: `copies.c` is loaded before the C library and counts memcpy by size; a run of 200 less one of 100 is that of 100 calls. Stack: the frames
 in the disassembly, added up along the deepest chain of calls; and the smallest stack in which a run ends well. What of a call is a function of its
 own depends on the program: `test_replay` makes every call, so the larger of the two counts."""
-import os, pathlib, platform, re, resource, shutil, subprocess, sys, tempfile
+import os, pathlib, re, resource, shutil, subprocess, sys, tempfile
 from items import CALLS, KEEP_ALIVE
 
 HERE = pathlib.Path(__file__).resolve().parent
 TOP = HERE.parent.parent
-PROGRAMS = TOP / "target/bin"
-MACHINE = platform.machine()
-# Debian's name for it, on every machine; on x86-64 the plain one does as well.
 OBJDUMP = shutil.which("x86_64-linux-gnu-objdump") or "objdump"
-TOOLS = pathlib.Path(shutil.which("rt")).resolve().parent.parent / "on" / MACHINE / "toolchain"
+TOOLS = pathlib.Path(shutil.which("rt")).resolve().parent.parent / "toolchain"
 
 REPEATED = 100
 
 # The stores and their sizes (docs/SPEED.md, "The state"). A copy may leave a store's count out, or its padding: no more than 16 bytes.
 STORES = {"events": 20488, "pending": 8784, "history": 2256, "checksums": 1544, "nonces": 1032}
+
+
+def built(program):
+    return TOP / "crates" / program / "out" / program
 
 
 def copied(counter, item, count):
@@ -31,7 +32,6 @@ def copies():
     print(f"| {'item':48} | copies | bytes copied | in states |\n|{'-' * 50}|-------:|-------------:|----------:|")
     with tempfile.TemporaryDirectory() as folder:
         counter = f"{folder}/copies.so"
-        # The program is for x86-64 on every machine, so what is loaded into it is too.
         compiler = [TOOLS / "bin/clang", "--target=x86_64-unknown-linux-gnu", "-fuse-ld=lld", "-nostdlib"]
         subprocess.run([*compiler, "-O2", "-shared", "-fPIC", "-fno-builtin", "-o", counter, HERE / "copies.c", TOOLS / "lib/libc.so.6"], check=True)
         each = {}
@@ -52,7 +52,7 @@ def copies():
 
 def frames(program):
     """Each function's frame in bytes, and what it calls."""
-    text = subprocess.run([OBJDUMP, "-d", "-C", "--no-show-raw-insn", PROGRAMS / program], capture_output=True, text=True, check=True).stdout
+    text = subprocess.run([OBJDUMP, "-d", "-C", "--no-show-raw-insn", built(program)], capture_output=True, text=True, check=True).stdout
     frame, calls = {}, {}
     for block in re.split(r"\n\n", text):
         head = re.match(r"[0-9a-f]+ <(.*)>:\n", block)
@@ -77,11 +77,7 @@ def ends_within(item, kib):
     def limit():
         resource.setrlimit(resource.RLIMIT_STACK, (kib * 1024, kib * 1024))
 
-    loaded = [TOOLS / "lib/ld-linux-x86-64.so.2", "--library-path", TOOLS / "lib", PROGRAMS / "test_bench"]
-    if MACHINE == "x86_64":
-        run = subprocess.run(loaded, input=item.record(REPEATED), capture_output=True, preexec_fn=limit)
-    else:
-        run = subprocess.run([TOOLS / "bin/qemu-x86_64", "-s", str(kib * 1024), *loaded], input=item.record(REPEATED), capture_output=True)
+    run = subprocess.run([built("test_bench")], input=item.record(REPEATED), capture_output=True, preexec_fn=limit)
     return run.returncode == 0
 
 

@@ -29,11 +29,10 @@ class Fault(Exception):
 
 def copied(room):
     """Our sources, with a script of no calls for `test_replay`: whoever builds it has it run that script."""
-    shutil.copytree(TOP / "crates", room / "crates")
+    shutil.copytree(TOP / "crates", room / "crates", ignore=shutil.ignore_patterns("out"))
     shutil.copy(TOP / "crates.txt", room)
     (room / "compare").mkdir()
-    for tool in "native", "packages.sh":
-        shutil.copy(TOP / "compare" / tool, room / "compare")
+    shutil.copy(TOP / "compare/native", room / "compare")
     (room / "crates/test_replay/stdin").write_bytes(b"GGSC\1\0\0\0")
     (room / "crates/test_replay/stdout").write_bytes(b"")
 
@@ -102,7 +101,6 @@ def main(names):
         return 3
     with tempfile.TemporaryDirectory() as room, ThreadPoolExecutor(os.cpu_count()) as pool:
         room = Path(room)
-        room.chmod(0o755)  # rt, where it is root, runs a program as nobody
         generated = room / "generated"
         generated.mkdir()
         subprocess.run([JUDGE, "check", "0", str(SEEDS), generated], stdout=subprocess.DEVNULL, check=True)
