@@ -46,6 +46,7 @@ fn oldest(frame: u32, interval: u32) -> u64
 }
 
 // The oldest frame to keep would lie below all frames: tested only where the clean-up needs it.
+#[tactic(auto, unfolding(crate::specs::Checksums::too_early))]
 fn too_early(count: usize, frame: u32, interval: u32) -> bool
     ensures { result ≡ too_early count frame interval }
 {
@@ -56,6 +57,7 @@ fn too_early(count: usize, frame: u32, interval: u32) -> bool
 }
 
 // The clean-up keeps from this frame on: with fewer than 32 stored, from the least, so all.
+#[tactic(auto, unfolding(crate::specs::Checksums::keep_line))]
 fn keep_line(count: usize, frame: u32, interval: u32) -> u64
     ensures { result ≡ keep_line count frame interval }
 {
@@ -68,6 +70,7 @@ fn keep_line(count: usize, frame: u32, interval: u32) -> u64
 
 // In firm mode, where 32 or more are stored and the frame is none of them, the smallest is dropped: those above it are kept. Else all are. In u64 the
 // greatest frame has a successor too.
+#[tactic(auto, unfolding(crate::specs::Firm::firm_line))]
 fn firm_line(count: usize, held: bool, smallest: u32) -> u64
     ensures { result ≡ firm_line count held smallest }
 {
@@ -78,6 +81,7 @@ fn firm_line(count: usize, held: bool, smallest: u32) -> u64
 }
 
 impl Checksums {
+    #[tactic(auto, unfolding(crate::specs::Checksums::stored))]
     pub fn new() -> Checksums
         ensures { stored result ≡ [] }
     {
@@ -91,6 +95,7 @@ impl Checksums {
         }
     }
 
+    #[tactic(auto, using(base::proofs::Arrays::unmap), unfolding(crate::specs::Checksums::stored))]
     pub fn count(self) -> usize
         ensures { result ≡ length (stored self) }
     {
@@ -98,6 +103,7 @@ impl Checksums {
     }
 
     // The i-th, or zeros.
+    #[tactic(auto, using(base::proofs::Arrays::unmap, base::proofs::Arrays::view_at, base::proofs::Arrays::view_le), unfolding(crate::specs::Checksums::stored))]
     pub fn entry(self, i: usize) -> Checksum
         ensures { result ≡ get_or (stored self) i blank_checksum }
     {
@@ -113,6 +119,7 @@ impl Checksums {
     }
 
     // The first place of a frame, or the count.
+    #[tactic(auto, using(base::proofs::Removal::place_end, base::proofs::Removal::place_here, base::proofs::Removal::place_later, base::proofs::Arrays::unmap, base::proofs::Arrays::view_le), unfolding(crate::specs::Checksums::stored))]
     fn place(self, frame: u32) -> usize
         ensures { result ≡ place checksum_frame frame (stored self) }
     {

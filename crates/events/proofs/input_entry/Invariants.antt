@@ -1,3 +1,4 @@
+-- The invariant: i bytes of the part are laid over zeros.
 use mathlib.Core.List.{◌++◌}
 use mathlib.Core.Path.{◌≡◌}
 use Prim.Native.Nat.{◌-◌, ◌≤◌}

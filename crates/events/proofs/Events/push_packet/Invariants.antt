@@ -1,3 +1,4 @@
+-- The outer invariant: what is written, with what is left to announce, is the whole; the inner one is that of one frame, from where the frame began.
 use mathlib.Core.List.{◌++◌}
 use mathlib.Core.Path.{◌≡◌}
 use Prim.Native.Nat.{◌+◌, ◌-◌, ◌^◌, ◌<◌, ◌≤◌}
