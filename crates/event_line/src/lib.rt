@@ -19,6 +19,7 @@ pub fn line(out: &mut [u8], at: usize, entry: Entry, size: usize) -> usize
 }
 
 // Every event on a line of its own, each where it fits; one line that says so where there is none.
+#[tactic(auto, using(crate::proofs::EachLaws::none_lines, crate::proofs::EachLaws::some_lines))]
 pub fn lines(out: &mut [u8], at: usize, name: u8, events: Events, size: usize) -> usize
     ensures { page out.new result ≡ written_all (lines_of name size (held_events events)) (page out.old at) }
 {
@@ -28,6 +29,7 @@ pub fn lines(out: &mut [u8], at: usize, name: u8, events: Events, size: usize) -
     each(out, at, name, events, size)
 }
 
+#[tactic(auto, using(crate::proofs::EachLaws::all_laid, crate::proofs::EachLaws::turn))]
 fn each(out: &mut [u8], at: usize, name: u8, events: Events, size: usize) -> usize
     ensures { page out.new result ≡ written_all (each_of name size (held_events events)) (page out.old at) }
 {
