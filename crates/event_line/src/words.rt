@@ -35,7 +35,6 @@ pub(crate) fn event(draft: Draft, entry: Entry, size: usize) -> Draft
     }
 }
 
-#[tactic(auto, unfolding(text::specs::Ascii::ascii))]
 fn moved(draft: Draft, frame: u32, player: u32, input: [u8; MOST_INPUT_SIZE], size: usize) -> Draft
     requires { draft.used ≤ 3 }
     ensures { Adds draft (input_text frame player size input) 75 result }
@@ -52,7 +51,6 @@ fn moved(draft: Draft, frame: u32, player: u32, input: [u8; MOST_INPUT_SIZE], si
 }
 
 // A line begins with a letter, and ends with a newline.
-#[tactic(auto, using(text::proofs::PieceLaws::both, text::proofs::PieceLaws::empty_holds, text::proofs::PieceLaws::put_adds), unfolding(text::specs::Ascii::ascii))]
 fn begun(name: u8) -> Draft
     ensures { Holds (name ∷ ascii ": ") 3 result }
 {
@@ -60,14 +58,12 @@ fn begun(name: u8) -> Draft
     Draft::new().put(&letter).put(b": ")
 }
 
-#[tactic(auto, using(text::proofs::PieceLaws::both, text::proofs::PieceLaws::put_adds), unfolding(text::specs::Ascii::ascii, crate::specs::Lines::under))]
 pub(crate) fn named(name: u8, entry: Entry, size: usize) -> Draft
     ensures { Holds (under name (entry_line size entry)) 79 result }
 {
     event(begun(name), entry, size).put(b"\n")
 }
 
-#[tactic(auto, using(text::proofs::PieceLaws::both, text::proofs::PieceLaws::put_adds, text::proofs::PieceLaws::wider), unfolding(text::specs::Ascii::ascii, crate::specs::Lines::under))]
 pub(crate) fn none(name: u8) -> Draft
     ensures { Holds (under name (ascii "no event")) 79 result }
 {

@@ -1,5 +1,5 @@
 -- Each variant's words.
-use Rattle.std.proofs.Common.{◌<◌, ◌^◌, arith, rules}
+use Rattle.std.proofs.Common.{rules}
 use native.Mathlib.Nat.{add-zero}
 use lib.Dec.{lit≤}
 use Rattle.text.specs.Ascii.{ascii}
