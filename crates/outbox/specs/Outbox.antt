@@ -73,4 +73,5 @@ unfolding two_inputs pending_input report_of first_frame payload pack xors
 two_inputs_are = refl
 
 two_inputs_size : table_size two_inputs ≡ 38
-two_inputs_size = rw two_inputs_are
+unfolding two_inputs pending_input report_of first_frame payload pack xors
+two_inputs_size = refl

@@ -1,3 +1,4 @@
+-- The invariant: the first i of the array are those of the reports.
 use mathlib.Core.List.{map}
 use mathlib.Core.Path.{◌≡◌}
 use Prim.Native.Nat.{◌-◌, ◌≤◌}
