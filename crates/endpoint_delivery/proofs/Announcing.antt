@@ -14,7 +14,6 @@ use Rattle.packing.proofs.Pads.{padded-length}
 use Rattle.history.specs.History.{numbered}
 use Rattle.events.specs.declared.Entry.{Entry}
 use Rattle.events.specs.declared.Event.{Event}
-use Rattle.events.specs.declared.Event.TheVariants as Event
 use Rattle.events.specs.Events.{announced, input_entry, input_of, announced_each}
 use Rattle.endpoint_invariant.specs.Each.{Each}
 use Rattle.endpoint_delivery.specs.Frames.{Given, Announced, joined, read, announced_in, shares, all_bytes, announced_to}

@@ -30,7 +30,6 @@ use Rattle.codec.proofs.Meant.{input_is}
 use Rattle.events.specs.Events.{has_room, input_of, without_input, input_entry, announced, announced_each}
 use Rattle.events.specs.declared.Entry.{Entry}
 use Rattle.events.specs.declared.Event.{Event}
-use Rattle.events.specs.declared.Event.TheVariants as Event
 use Rattle.quality.specs.Quality.{started_at, fresh_quality}
 use Rattle.setup.specs.declared.Setup.{Setup}
 use Rattle.setup.specs.Setup.{bad_setup, any_above, any_twice, inserted, sorted, terms_with}

@@ -24,7 +24,6 @@ use Rattle.history.proofs.Laws.{found_frame}
 use Rattle.codec.specs.Message.{Wire}
 use Rattle.events.specs.declared.Entry.{Entry}
 use Rattle.events.specs.declared.Event.{Event}
-use Rattle.events.specs.declared.Event.TheVariants as Event
 use Rattle.setup.specs.Setup.{Terms, SoundSetup, receiving_width}
 use Rattle.setup.proofs.Laws.{receiving_within}
 use Rattle.events.specs.Events.{announced_each}

@@ -1,6 +1,6 @@
 -- Values of the code's types are typed: a message with the payload beside it, one that is read, a list of statuses, a setup. `Is` says that a value is what a machine value of its type means;
 -- every function may take this of its parameters as given.
-use mathlib.Core.List.{List, [], ◌∷◌, map}
+use mathlib.Core.List.{List, [], ◌∷◌}
 use mathlib.Core.Path.{◌≡◌, refl, ◌∙◌}
 use Prim.Native.Nat.{ℕ, zero, suc}
 use native.Mathlib.Omega.{arith}

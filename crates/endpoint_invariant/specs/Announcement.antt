@@ -6,7 +6,6 @@ use Rattle.ceilings.specs.Ceilings.{most_input_size}
 use Rattle.frame.specs.Bias.{bias32}
 use Rattle.events.specs.declared.Entry.{Entry}
 use Rattle.events.specs.declared.Event.{Event}
-use Rattle.events.specs.declared.Event.TheVariants as Event
 use Rattle.setup.specs.Setup.{Terms, Between, most_handle, most_timeout}
 
 -- an Input: a frame that is not negative, a player at the other end, and beside it an input of as many bytes as the setup says, zeros behind it

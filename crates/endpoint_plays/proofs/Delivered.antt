@@ -10,7 +10,6 @@ use Rattle.pending.specs.Pending.{waiting}
 use Rattle.history.specs.History.{newest_of}
 use Rattle.packing.specs.declared.input_bytes.InputBytes.{InputBytes}
 use Rattle.codec.specs.Message.{Wire, meant}
-use Rattle.codec.specs.Read.{datagram}
 use Rattle.codec.proofs.Meant.{meant_body, meant_magic, meant-payload}
 use Rattle.setup.specs.Setup.{Terms, terms_with, sending_width, receiving_width}
 use Rattle.endpoint_rules.specs.Value.{value_of}

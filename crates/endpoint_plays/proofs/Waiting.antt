@@ -13,7 +13,6 @@ use Rattle.base.specs.Pick.{pick}
 use Rattle.base.specs.Lay.{laid_at}
 use Rattle.codec.specs.Message.{Wire, FitAll}
 use Rattle.codec.specs.Bytes.{bytes, queue_of}
-use Rattle.codec.specs.Read.{datagram}
 use Rattle.codec.specs.Calls.{cut}
 use Rattle.codec.proofs.Queue.{cut_none}
 use Rattle.outbox.specs.Outbox.{queue_size}

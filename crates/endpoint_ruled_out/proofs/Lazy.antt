@@ -26,7 +26,6 @@ use Rattle.endpoint_invariant.specs.Typed.{IsU32, IsU64}
 use Rattle.endpoint.specs.declared.Endpoint.{Endpoint}
 use Rattle.endpoint.specs.declared.getters.StatusResult.TheVariants as StatusResult
 use Rattle.endpoint.specs.declared.getters.StatsResult.{StatsResult}
-use Rattle.endpoint.specs.declared.getters.StatsResult.TheVariants as StatsResult
 use Rattle.endpoint.specs.Endpoint.{seen}
 use Rattle.endpoint_version.specs.Values.{IsSlice, IsEndpoint}
 use Rattle.endpoint_version.specs.Version.{Version, Asked, function_of, number_from, endpoint_after}

@@ -16,7 +16,6 @@ use Rattle.codec.specs.declared.MessageBody.TheVariants.{SyncRequest, SyncReply,
 use Rattle.events.specs.Events.{without_input, input_entry, announced, announced_each}
 use Rattle.events.specs.declared.Entry.{Entry}
 use Rattle.events.specs.declared.Event.{Event}
-use Rattle.events.specs.declared.Event.TheVariants as Event
 use Rattle.endpoint_rules.specs.declared.Phase.{Phase}
 use Rattle.endpoint_rules.specs.declared.Phase.TheVariants.{Initializing, Synchronizing, Running, Disconnected, Shutdown}
 use Rattle.endpoint_rules.specs.Seen.{Seen}

@@ -10,7 +10,6 @@ use Rattle.nonces.specs.Nonces.{outstanding, is_outstanding}
 use Rattle.events.specs.Events.{held_events}
 use Rattle.events.specs.declared.Entry.{Entry}
 use Rattle.events.specs.declared.Event.{Event}
-use Rattle.events.specs.declared.Event.TheVariants as Event
 use Rattle.quality.specs.declared.NetworkStats.{NetworkStats}
 use Rattle.outbox.specs.Outbox.{queue_size}
 use Rattle.endpoint_rules.specs.Seen.{is_synchronizing, is_shutdown}

@@ -17,7 +17,6 @@ use Rattle.status.specs.Status.{default_status}
 use Rattle.codec.specs.declared.MessageBody.TheVariants.{SyncRequest, SyncReply}
 use Rattle.events.specs.declared.Entry.{Entry}
 use Rattle.events.specs.declared.Event.{Event}
-use Rattle.events.specs.declared.Event.TheVariants as Event
 use Rattle.events.specs.Events.{has_room}
 use Rattle.setup.specs.Setup.{terms_with}
 use Rattle.outbox.specs.Outbox.{queue_size}

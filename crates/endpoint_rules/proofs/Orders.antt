@@ -17,7 +17,6 @@ use Rattle.status.specs.Statuses.{merged_all, default_statuses}
 use Rattle.codec.specs.declared.MessageBody.TheVariants.{SyncReply, Input, KeepAlive}
 use Rattle.events.specs.declared.Entry.{Entry}
 use Rattle.events.specs.declared.Event.{Event}
-use Rattle.events.specs.declared.Event.TheVariants as Event
 use Rattle.events.specs.Events.{has_room, input_of, input_entry, announced, announced_each}
 use Rattle.endpoint_rules.specs.declared.Phase.TheVariants.{Running, Shutdown}
 use Rattle.setup.specs.Setup.{bad_setup, any_above, any_twice, inserted, sorted, terms_with}

@@ -13,7 +13,6 @@ use Rattle.status.specs.Statuses.{default_statuses}
 use Rattle.codec.specs.declared.MessageBody.TheVariants.{SyncRequest, QualityReport, KeepAlive}
 use Rattle.events.specs.declared.Entry.{Entry}
 use Rattle.events.specs.declared.Event.{Event}
-use Rattle.events.specs.declared.Event.TheVariants as Event
 use Rattle.events.specs.Events.{has_room}
 use Rattle.timers.specs.declared.Clocks.{Clocks}
 use Rattle.setup.specs.Setup.{bad_setup, any_above, any_twice, inserted, sorted, terms_with}

@@ -35,9 +35,7 @@ use Rattle.endpoint_invariant.specs.Sound.{Sound}
 use Rattle.endpoint.specs.declared.Endpoint.{Endpoint}
 use Rattle.endpoint.specs.declared.Ended.{Ended}
 use Rattle.endpoint.specs.declared.getters.StatusResult.{StatusResult}
-use Rattle.endpoint.specs.declared.getters.StatusResult.TheVariants as StatusResult
 use Rattle.endpoint.specs.declared.getters.StatsResult.{StatsResult}
-use Rattle.endpoint.specs.declared.getters.StatsResult.TheVariants as StatsResult
 use Rattle.endpoint.specs.Endpoint.{seen, SameTerms, DidAs, DoneAs}
 use Rattle.endpoint.specs.Taken.{shorter}
 use Rattle.endpoint.specs.Made.{MadeAs}

@@ -14,7 +14,6 @@ use Rattle.status.specs.declared.ConnectionStatus.{ConnectionStatus}
 use Rattle.checksums.specs.Checksums.{blank_checksum}
 use Rattle.events.specs.Events.{held_events, blank_entry}
 use Rattle.events.specs.declared.Event.{Event}
-use Rattle.events.specs.declared.Event.TheVariants as Event
 use Rattle.events.specs.declared.Entry.{Entry}
 use Rattle.setup.specs.Setup.{Terms, most_handle, handle_list, sorted, terms_with, Sorted}
 use Rattle.setup.specs.declared.Setup.{Setup}

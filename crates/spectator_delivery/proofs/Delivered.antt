@@ -12,7 +12,6 @@ use Rattle.packing.proofs.Pads.{padded-length}
 use Rattle.history.specs.History.{numbered}
 use Rattle.events.specs.declared.Entry.{Entry}
 use Rattle.events.specs.declared.Event.{Event}
-use Rattle.events.specs.declared.Event.TheVariants as Event
 use Rattle.events.specs.Events.{input_of, input_entry, announced, announced_each}
 use Rattle.endpoint_invariant.specs.Each.{Each}
 use Rattle.endpoint_delivery.specs.Frames.{shares, announced_to}

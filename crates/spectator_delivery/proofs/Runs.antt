@@ -12,7 +12,6 @@ use Rattle.base.proofs.Bools.{neither}
 use Rattle.codec.specs.Message.{Wire}
 use Rattle.events.specs.declared.Entry.{Entry}
 use Rattle.events.specs.declared.Event.{Event}
-use Rattle.events.specs.declared.Event.TheVariants as Event
 use Rattle.setup.specs.Setup.{Terms, bad_setup}
 use Rattle.timers.specs.Timers.{bad_clock}
 use Rattle.endpoint_rules.specs.Seen.{Seen}

@@ -18,7 +18,6 @@ use Rattle.status.specs.Status.{default_status}
 use Rattle.status.specs.declared.ConnectionStatus.{ConnectionStatus}
 use Rattle.events.specs.declared.Entry.{Entry}
 use Rattle.events.specs.declared.Event.{Event}
-use Rattle.events.specs.declared.Event.TheVariants as Event
 use Rattle.setup.specs.Setup.{Terms}
 use Rattle.endpoint_rules.specs.Seen.{made}
 use Rattle.endpoint_invariant.specs.Each.{Each}

@@ -8,7 +8,6 @@ use Rattle.codec.specs.Message.{Wire}
 use Rattle.codec.specs.Read.{datagram, number_in, wire_in}
 use Rattle.events.specs.declared.Entry.{Entry}
 use Rattle.events.specs.declared.Event.{Event}
-use Rattle.events.specs.declared.Event.TheVariants as Event
 use Rattle.setup.specs.declared.Setup.{Setup}
 use Rattle.endpoint_rules.specs.Call.{Call as EndpointCall}
 use Rattle.endpoint_rules.specs.Step.{fresh as endpoint_fresh, step as endpoint_step}

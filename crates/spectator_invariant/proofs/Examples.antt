@@ -19,7 +19,6 @@ use Rattle.status.specs.Statuses.{merged_all, default_statuses}
 use Rattle.codec.specs.declared.StatusReport.{StatusReport}
 use Rattle.events.specs.declared.Entry.{Entry}
 use Rattle.events.specs.declared.Event.{Event}
-use Rattle.events.specs.declared.Event.TheVariants as Event
 use Rattle.events.specs.Events.{has_room, input_of, without_input, input_entry, announced, announced_each}
 use Rattle.setup.specs.Setup.{bad_setup, any_above, any_twice, inserted, sorted, terms_with}
 use Rattle.quality.specs.Advantage.{advantage_of, advantage_overflows}

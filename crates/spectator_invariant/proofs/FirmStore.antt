@@ -12,7 +12,6 @@ use Rattle.checksums.specs.Largest.{HoldsLargest}
 use Rattle.checksums.proofs.Largest.{none_held, largest_few}
 use Rattle.events.specs.declared.Entry.{Entry}
 use Rattle.events.specs.declared.Event.{Event}
-use Rattle.events.specs.declared.Event.TheVariants as Event
 use Rattle.setup.specs.Setup.{Terms, terms_with}
 use Rattle.endpoint_rules.specs.Seen.{Seen, made, with_events}
 use Rattle.endpoint_rules.specs.Checksum.{firm_in}

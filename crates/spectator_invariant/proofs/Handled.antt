@@ -17,7 +17,6 @@ use Rattle.base.specs.First.{first_of}
 use Rattle.frame.specs.Bias.{null_frame}
 use Rattle.events.specs.declared.Entry.{Entry}
 use Rattle.events.specs.declared.Event.{Event}
-use Rattle.events.specs.declared.Event.TheVariants as Event
 use Rattle.setup.specs.Setup.{Terms, terms_with}
 use Rattle.endpoint_rules.specs.Seen.{made}
 use Rattle.endpoint_invariant.specs.Each.{Each}

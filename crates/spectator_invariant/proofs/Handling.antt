@@ -10,7 +10,6 @@ use Rattle.base.specs.Pick.{pick}
 use Rattle.history.specs.History.{newest_of}
 use Rattle.events.specs.declared.Entry.{Entry}
 use Rattle.events.specs.declared.Event.{Event}
-use Rattle.events.specs.declared.Event.TheVariants as Event
 use Rattle.setup.specs.Setup.{Terms}
 use Rattle.endpoint_rules.specs.Seen.{Seen}
 use Rattle.endpoint_rules.specs.Did.{Did, refused}
@@ -25,7 +24,6 @@ use Rattle.endpoint_invariant.proofs.Sound.{step_sound}
 use Rattle.spectator_rules.specs.declared.PlayerInput.{PlayerInput}
 use Rattle.spectator_rules.specs.declared.SessionEntry.{SessionEntry}
 use Rattle.spectator_rules.specs.declared.SessionEvent.{SessionEvent}
-use Rattle.spectator_rules.specs.declared.SessionEvent.TheVariants as SessionEvent
 use Rattle.spectator_rules.specs.declared.SessionState.TheVariants.{Running}
 use Rattle.spectator_rules.specs.Inputs.{blank_input, slot_of, place_of, input_stored}
 use Rattle.spectator_rules.specs.Watch.{Watch, with_state, with_events}

@@ -16,7 +16,6 @@ use Rattle.packing.specs.declared.input_bytes.InputBytes.{InputBytes}
 use Rattle.history.specs.History.{above, numbered, newest_after}
 use Rattle.events.specs.declared.Entry.{Entry}
 use Rattle.events.specs.declared.Event.{Event}
-use Rattle.events.specs.declared.Event.TheVariants as Event
 use Rattle.events.specs.Events.{input_of, input_entry, announced, announced_each}
 use Rattle.endpoint_delivery.proofs.Lists.{Mem, cases_cons, not-nil}
 use Rattle.endpoint_delivery.proofs.Moves.{is_input, inputs_in}

@@ -6,7 +6,6 @@ use Rattle.frame.specs.Bias.{bias32, null_frame}
 use Rattle.history.specs.History.{newest_of}
 use Rattle.events.specs.declared.Entry.{Entry}
 use Rattle.events.specs.declared.Event.{Event}
-use Rattle.events.specs.declared.Event.TheVariants as Event
 use Rattle.setup.specs.Setup.{Between}
 use Rattle.spectator_rules.specs.Setup.{most_frames}
 use Rattle.endpoint_invariant.specs.Each.{Each}

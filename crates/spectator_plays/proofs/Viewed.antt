@@ -1,9 +1,8 @@
 -- What a viewer gets, of the functions that people call: `watched` and `viewed`.
 use mathlib.Core.List.{◌++◌}
 use mathlib.Core.Path.{◌≡◌, refl, sym, ◌∙◌, ap}
-use Prim.Native.Nat.{ℕ, ◌+◌}
+use Prim.Native.Nat.{ℕ}
 use Rattle.setup.specs.Setup.{Terms, terms_with}
-use Rattle.endpoint_rules.specs.Seen.{made}
 use Rattle.endpoint_rules.specs.Call.{Call as HostCall}
 use Rattle.endpoint_rules.specs.Step.{fresh as host_fresh}
 use Rattle.endpoint_version.specs.Version as Endpoint

@@ -4,7 +4,7 @@ use mathlib.Core.List.{List, [], ◌∷◌, ◌++◌, flatten}
 use mathlib.Core.Logic.{inl, inr}
 use mathlib.Core.Path.{◌≡◌, refl, sym, ◌∙◌, ap}
 use borrow.Author.Tests.{eqb-true, eqb-false}
-use Prim.Native.Nat.{ℕ, ◌+◌, ◌-◌}
+use Prim.Native.Nat.{ℕ}
 use lib.Dec.{eqb}
 use lib.ListN.{length}
 use Rattle.base.specs.Pick.{pick}
@@ -15,7 +15,6 @@ use Rattle.codec.specs.Bytes.{queue_of}
 use Rattle.endpoint_rules.specs.Seen.{Seen, is_shutdown}
 use Rattle.events.specs.declared.Entry.{Entry}
 use Rattle.events.specs.declared.Event.{Event}
-use Rattle.events.specs.declared.Event.TheVariants as Event
 use Rattle.endpoint_rules.specs.Did.{Did as HostDid, refused as host_refused}
 use Rattle.endpoint_rules.specs.Advantage.{both_known, local_advantage, advantage_updated}
 use Rattle.endpoint_rules.specs.Call.{Call as HostCall}

@@ -19,7 +19,6 @@ use Rattle.codec.specs.declared.StatusReport.{StatusReport}
 use Rattle.codec.specs.Read.{body_only}
 use Rattle.codec.specs.declared.MessageBody.TheVariants.{SyncRequest, SyncReply, Input, QualityReply}
 use Rattle.events.specs.declared.Event.{Event}
-use Rattle.events.specs.declared.Event.TheVariants as Event
 use Rattle.events.specs.Events.{has_room, input_of, without_input, input_entry, announced, announced_each}
 use Rattle.timers.specs.Timers.{made_at}
 use Rattle.endpoint_rules.specs.declared.Phase.TheVariants as Phase
@@ -43,7 +42,6 @@ use Rattle.endpoint_rules.proofs.Bouts.{fr, wire, none, epoch_at}
 use Rattle.spectator_rules.specs.declared.InputStatus.TheVariants.{Confirmed, Disconnected}
 use Rattle.spectator_rules.specs.declared.SessionEntry.{SessionEntry}
 use Rattle.spectator_rules.specs.declared.SessionEvent.{SessionEvent}
-use Rattle.spectator_rules.specs.declared.SessionEvent.TheVariants as SessionEvent
 use Rattle.spectator_rules.specs.declared.SessionSetup.{SessionSetup}
 use Rattle.spectator_rules.specs.declared.SessionState.TheVariants.{Synchronizing, Running}
 use Rattle.spectator_rules.specs.declared.SyncedInput.{SyncedInput}

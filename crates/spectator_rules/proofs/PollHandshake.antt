@@ -13,7 +13,6 @@ use Rattle.codec.specs.declared.MessageBody.TheVariants.{SyncRequest}
 use Rattle.timers.specs.declared.Clocks.{Clocks}
 use Rattle.events.specs.declared.Entry.{Entry}
 use Rattle.events.specs.declared.Event.{Event}
-use Rattle.events.specs.declared.Event.TheVariants as Event
 use Rattle.endpoint_rules.specs.declared.Phase.TheVariants.{Synchronizing}
 use Rattle.endpoint_rules.specs.Seen.{Seen, Sync, is_shutdown, with_events, with_queued}
 use Rattle.endpoint_rules.specs.Did.{tested, refused as host_refused, Did as HostDid}

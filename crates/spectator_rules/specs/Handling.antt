@@ -4,11 +4,9 @@ use Rattle.base.specs.Last.{last_of}
 use Rattle.ceilings.specs.Ceilings.{most_session_events}
 use Rattle.events.specs.declared.Entry.{Entry}
 use Rattle.events.specs.declared.Event.{Event}
-use Rattle.events.specs.declared.Event.TheVariants as Event
 use Rattle.endpoint_rules.specs.Step.{advantage_step}
 use Rattle.spectator_rules.specs.declared.SessionEntry.{SessionEntry}
 use Rattle.spectator_rules.specs.declared.SessionEvent.{SessionEvent}
-use Rattle.spectator_rules.specs.declared.SessionEvent.TheVariants as SessionEvent
 use Rattle.spectator_rules.specs.declared.SessionState.TheVariants.{Running}
 use Rattle.spectator_rules.specs.Inputs.{input_stored}
 use Rattle.spectator_rules.specs.Watch.{Watch, with_host, with_state, with_inputs, with_statuses, with_events, with_newest}

@@ -10,7 +10,6 @@ use Rattle.ceilings.specs.Ceilings.{most_session_events}
 use Rattle.events.specs.Events.{held_events}
 use Rattle.events.specs.declared.Entry.{Entry}
 use Rattle.events.specs.declared.Event.{Event}
-use Rattle.events.specs.declared.Event.TheVariants as Event
 use Rattle.setup.specs.Setup.{terms_with}
 use Rattle.endpoint_rules.specs.Seen.{Seen, with_events}
 use Rattle.endpoint_rules.specs.Did.{Did as HostDid, refused as host_refused}
@@ -34,7 +33,6 @@ use Rattle.endpoint_version.proofs.Values.{anew_value}
 use Rattle.spectator_rules.specs.declared.PlayerInput.{PlayerInput}
 use Rattle.spectator_rules.specs.declared.SessionEntry.{SessionEntry}
 use Rattle.spectator_rules.specs.declared.SessionEvent.{SessionEvent}
-use Rattle.spectator_rules.specs.declared.SessionEvent.TheVariants as SessionEvent
 use Rattle.spectator_rules.specs.declared.SessionState.TheVariants.{Running}
 use Rattle.spectator_rules.specs.Inputs.{place_of, input_stored}
 use Rattle.spectator_rules.specs.Watch.{Watch, with_host, with_state}

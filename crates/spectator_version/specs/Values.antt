@@ -10,7 +10,6 @@ use Rattle.spectator_rules.specs.declared.Limits.{Limits}
 use Rattle.spectator_rules.specs.declared.PlayerInput.{PlayerInput}
 use Rattle.spectator_rules.specs.declared.SessionEntry.{SessionEntry}
 use Rattle.spectator_rules.specs.declared.SessionEvent.{SessionEvent}
-use Rattle.spectator_rules.specs.declared.SessionEvent.TheVariants as SessionEvent
 use Rattle.spectator_rules.specs.declared.SessionSetup.{SessionSetup}
 use Rattle.spectator_invariant.specs.Typed.{TypedSession}
 use Rattle.spectator.specs.declared.inputs.Inputs.{Inputs}

@@ -8,7 +8,6 @@ use mathlib.Core.List.{List, append-nil}
 use lib.ListN.{length}
 use Rattle.base.specs.Pick.{pick}
 use Rattle.answer.specs.declared.Answer.{Answer}
-use Rattle.answer.specs.declared.Answer.TheVariants as Answer
 use Rattle.frame.specs.Bias.{null_frame}
 use Rattle.setup.specs.Setup.{terms_with}
 use Rattle.history.specs.History.{received, newest_of}

@@ -1,5 +1,5 @@
 -- Over every run the setup is the one that `new` was given, its handles sorted, and the count of the statuses is the one that `new` made.
-use mathlib.Core.Path.{◌≡◌, sym, ◌∙◌, ap}
+use mathlib.Core.Path.{◌≡◌, ◌∙◌, ap}
 use Prim.Native.Nat.{ℕ, min}
 use Rattle.ceilings.specs.Ceilings.{most_players}
 use Rattle.setup.specs.declared.Setup.{Setup}

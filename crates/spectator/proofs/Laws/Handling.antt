@@ -12,7 +12,6 @@ use Rattle.base.specs.Pick.{pick}
 use Rattle.frame.specs.Bias.{null_frame}
 use Rattle.events.specs.declared.Entry.{Entry}
 use Rattle.events.specs.declared.Event.{Event}
-use Rattle.events.specs.declared.Event.TheVariants as Event
 use Rattle.events.specs.Events.{blank_entry}
 use Rattle.quality.specs.declared.Quality.{Quality}
 use Rattle.quality.specs.declared.Advantage.TheVariants.{Frames, Overflow}
@@ -27,7 +26,6 @@ use Rattle.endpoint_rules.specs.Sending.{newest}
 use Rattle.endpoint_rules.specs.Advantage.{both_known, local_advantage, advantage_updated}
 use Rattle.endpoint_rules.specs.Step.{changed, advantage_step}
 use Rattle.spectator_rules.specs.declared.SessionEvent.{SessionEvent}
-use Rattle.spectator_rules.specs.declared.SessionEvent.TheVariants as SessionEvent
 use Rattle.spectator_rules.specs.Inputs.{input_stored}
 use Rattle.spectator_rules.specs.Watch.{Watch}
 use Rattle.spectator_rules.specs.Handling.{event_added, announce, input_handled, on_event, handled, handled_all}

@@ -15,7 +15,6 @@ use Rattle.packing.specs.Packing.{frame_count, frames_of}
 use Rattle.history.specs.declared.History.{History}
 use Rattle.history.specs.History.{received, newest_of, packet_of, taken_in, taken_above}
 use Rattle.history.proofs.TakenIn.{taken_known}
-use Rattle.status.specs.Statuses.{held_statuses}
 use Rattle.codec.specs.declared.Message.{Message}
 use Rattle.codec.specs.declared.StatusReport.{StatusReport}
 use Rattle.codec.specs.declared.MessageBody.TheVariants.{Input, InputAck}
