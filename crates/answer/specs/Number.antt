@@ -33,29 +33,29 @@ answers =
 abbrev pub answer_of : ℕ → Answer
 answer_of n = get_or answers n SpectatorTooFarBehind
 
-back : (a : Answer) → answer_of (number_of a) ≡ a
-back Done = refl
-back BadSetup = refl
-back WrongState = refl
-back BadLength = refl
-back BadFrame = refl
-back Full = refl
-back Overflow = refl
-back BadHandle = refl
-back BadClock = refl
-back Short = refl
-back BadKind = refl
-back BadBool = refl
-back TooLong = refl
-back Extra = refl
-back NotSynchronized = refl
-back NotEnoughData = refl
-back PredictionThreshold = refl
-back SpectatorTooFarBehind = refl
-
 -- two answers with one number are equal
 pub number_determines : (a b : Answer) → number_of a ≡ number_of b → a ≡ b
 number_determines a b e = sym (back a) ∙ ap answer_of e ∙ back b
+  where
+    back : (a : Answer) → answer_of (number_of a) ≡ a
+    back Done = refl
+    back BadSetup = refl
+    back WrongState = refl
+    back BadLength = refl
+    back BadFrame = refl
+    back Full = refl
+    back Overflow = refl
+    back BadHandle = refl
+    back BadClock = refl
+    back Short = refl
+    back BadKind = refl
+    back BadBool = refl
+    back TooLong = refl
+    back Extra = refl
+    back NotSynchronized = refl
+    back NotEnoughData = refl
+    back PredictionThreshold = refl
+    back SpectatorTooFarBehind = refl
 
 -- and every number up to 17 is its answer's
 abbrev from : (first count : ℕ) → List ℕ
