@@ -20,6 +20,7 @@ use setup::Setup;
 use status::Statuses;
 use timers::Clocks;
 
+#[tactic(auto, using(crate::proofs::Laws::Creation::not_refused, crate::proofs::Laws::Creation::refused_clock, crate::proofs::Laws::Creation::refused_setup))]
 fn refusal(setup: Setup, now: u64) -> Answer
     ensures { number_of result ≡ (fresh setup now).0 }
 {
@@ -33,6 +34,7 @@ fn refusal(setup: Setup, now: u64) -> Answer
 }
 
 impl Endpoint {
+    #[tactic(auto, using(crate::proofs::Laws::Creation::makes))]
     fn made(setup: Setup, now: u64) -> Endpoint
         ensures { (seen result ≡ made setup now) × (result.setup.handles.count ≡ setup.handles.count) × (result.statuses.count ≡ min setup.num_players most_players) }
     {
@@ -69,6 +71,7 @@ impl Endpoint {
         }
     }
 
+    #[tactic(auto, using(crate::proofs::Laws::Creation::made_as))]
     pub fn new(setup: Setup, now: u64) -> Ended
         ensures { MadeAs setup now result }
     {

@@ -12,6 +12,7 @@ const UDP_SHUTDOWN_TIMER: u64 = 5000;
 
 impl Endpoint {
     // Each time the wait begins again, except in Shutdown.
+    #[tactic(auto, using(crate::proofs::Laws::Disconnecting::disconnect_clock, crate::proofs::Laws::Disconnecting::disconnect_done, crate::proofs::Laws::Disconnecting::disconnect_ignored, crate::proofs::Laws::Disconnecting::low, crate::proofs::Laws::Phases::not_shutdown))]
     pub fn disconnect(mut self, now: u64) -> Ended
         ensures { DoneAs self (step (Call.disconnect now) (seen self)) result }
     {

@@ -65,6 +65,7 @@ fn is_early(start: u64, epoch: u64) -> bool
 
 impl Endpoint {
     // Ascending, with a count that is their number.
+    #[tactic(auto, using(crate::proofs::Laws::Getters::shows_handles))]
     pub fn handles(self) -> Handles
         ensures { HandlesAs (seen self) result }
     {
@@ -77,6 +78,7 @@ impl Endpoint {
     }
 
     // Also after the end.
+    #[tactic(auto, using(crate::proofs::Laws::Getters::shows_synchronized))]
     pub fn is_synchronized(self) -> bool
         ensures { Value.flag result ≡ value_of (Call.ask Question.is_synchronized) (seen self) }
     {
@@ -85,6 +87,7 @@ impl Endpoint {
         is_synchronized_in(phase)
     }
 
+    #[tactic(auto, using(crate::proofs::Laws::Phases::not_running, crate::proofs::Laws::Getters::shows_running))]
     pub fn is_running(self) -> bool
         ensures { Value.flag result ≡ value_of (Call.ask Question.is_running) (seen self) }
     {
@@ -97,6 +100,7 @@ impl Endpoint {
     }
 
     // Whether a peer is the one that this endpoint serves.
+    #[tactic(auto, using(crate::proofs::Laws::Getters::shows_peer))]
     pub fn is_handling_message(self, from: u32) -> bool
         ensures { Value.flag result ≡ value_of (Call.ask (Question.is_handling_message from)) (seen self) }
     {
@@ -104,12 +108,14 @@ impl Endpoint {
     }
 
     // The newest frame received, -1 while there is none.
+    #[tactic(auto, using(crate::proofs::Laws::Getters::shows_newest))]
     pub fn last_recv_frame(self) -> u32
         ensures { Value.frame result ≡ value_of (Call.ask Question.newest_frame) (seen self) }
     {
         self.history.newest()
     }
 
+    #[tactic(auto, using(crate::proofs::Laws::Getters::shows_phase))]
     pub fn state(self) -> Phase
         ensures { Value.phase result ≡ value_of (Call.ask Question.state) (seen self) }
     {
@@ -118,6 +124,7 @@ impl Endpoint {
     }
 
     // Those that the other end reported, with a count that is their number.
+    #[tactic(auto, using(crate::proofs::Laws::Getters::shows_checksums))]
     pub fn checksums(self) -> Checksums
         ensures { ChecksumsAs (seen self) result }
     {
@@ -127,6 +134,7 @@ impl Endpoint {
     }
 
     // What the other end reported of a player.
+    #[tactic(auto, using(crate::proofs::Laws::Getters::status_refused, crate::proofs::Laws::Getters::status_shown))]
     pub fn peer_connect_status(self, handle: usize) -> StatusResult
         ensures { shown_status result ≡ shown (Call.peer_connect_status handle) (seen self) }
     {
@@ -136,6 +144,7 @@ impl Endpoint {
         StatusResult::Status(self.statuses.get(handle))
     }
 
+    #[tactic(auto, using(crate::proofs::Laws::Getters::stats_clock, crate::proofs::Laws::Getters::stats_early, crate::proofs::Laws::Getters::stats_phase, crate::proofs::Laws::Getters::stats_shown))]
     pub fn network_stats(self, epoch: u64) -> StatsResult
         ensures { shown_stats result ≡ shown (Call.network_stats epoch) (seen self) }
     {

@@ -129,6 +129,7 @@ pub(crate) fn count_reply(
 
 impl Endpoint {
     // The handshake begins: all replies are to come, and the network's statistics count from this epoch.
+    #[tactic(auto, using(crate::proofs::Laws::Lengths::no_event_fits, crate::proofs::Laws::Phases::not_initializing, crate::proofs::Laws::Handshake::synchronize_clocks, crate::proofs::Laws::Handshake::synchronize_done, crate::proofs::Laws::Handshake::synchronize_full, crate::proofs::Laws::Handshake::synchronize_state))]
     pub fn synchronize(mut self, now: u64, epoch: u64, nonce: u32, out: &mut [u8]) -> Ended
         ensures { DidAs self (step (Call.synchronize now epoch nonce (length out.old)) (seen self)) out.old result out.new }
     {

@@ -12,6 +12,7 @@ use quality::Advantage;
 
 impl Endpoint {
     // The own checksum of a frame is sent to the other end.
+    #[tactic(auto, using(crate::proofs::Laws::Lengths::no_event_fits, crate::proofs::Laws::Reports::send_checksum_clock, crate::proofs::Laws::Reports::send_checksum_done, crate::proofs::Laws::Reports::send_checksum_full))]
     pub fn send_checksum_report(
         mut self,
         frame: u32,
@@ -49,6 +50,7 @@ impl Endpoint {
     }
 
     // Both frames must be known (E-41).
+    #[tactic(auto, using(crate::proofs::Laws::Reports::local_unknown, crate::proofs::Laws::Reports::newest_unknown))]
     pub fn update_local_frame_advantage(mut self, local_frame: u32) -> Ended
         ensures { DoneAs self (step (Call.update_local_frame_advantage local_frame) (seen self)) result }
     {

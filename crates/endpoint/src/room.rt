@@ -16,6 +16,7 @@ pub(crate) fn events_full(announces: bool, count: usize) -> bool
 }
 
 // No bytes need no room.
+#[tactic(auto, using(base::proofs::Orders::same_test), unfolding(endpoint_rules::specs::Room::buffer_full))]
 pub(crate) fn buffer_full(len: usize, queued: usize, size: usize) -> bool
     ensures { result ≡ buffer_full len queued size }
 {

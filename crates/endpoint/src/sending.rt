@@ -27,6 +27,7 @@ fn is_bad_frame(frame: u32, last: u32) -> bool
 
 impl Endpoint {
     // Outside Running nothing is sent (E-56). The 129th pending input announces a disconnect, which is not marked as announced (E-59).
+    #[tactic(auto, using(crate::proofs::Laws::Sending::Announcing, crate::proofs::Laws::Lengths::acked_long, crate::proofs::Laws::Sending::announces_none, crate::proofs::Laws::Sending::announces_one, crate::proofs::Laws::Lengths::no_event_fits, crate::proofs::Laws::Phases::not_running, crate::proofs::Laws::Sending::send_choked, crate::proofs::Laws::Sending::send_clock, crate::proofs::Laws::Sending::send_crowded, crate::proofs::Laws::Sending::send_done, crate::proofs::Laws::Sending::send_frame, crate::proofs::Laws::Sending::send_ignored, crate::proofs::Laws::Sending::send_length, crate::proofs::Laws::Sending::send_unannounced))]
     pub fn send_input(
         mut self,
         frame: u32,

@@ -53,6 +53,7 @@ fn filled(phase: Phase, queued: usize, room: usize) -> usize
 
 impl Endpoint {
     // The events held, with a count that is their number, and the endpoint without them.
+    #[tactic(auto, using(crate::proofs::Laws::Taking::takes_events))]
     pub fn take_events(mut self) -> TakenEvents
         ensures { TakenAs self result }
     {
@@ -66,6 +67,7 @@ impl Endpoint {
     }
 
     // The queue is emptied, where the buffer holds what is queued. Whoever wants the messages asks `messages` before.
+    #[tactic(auto, using(crate::proofs::Laws::Taking::take_done, crate::proofs::Laws::Taking::take_short))]
     pub fn take_messages(mut self, out: &[u8]) -> Ended
         ensures { DoneAs self (step (Call.take_messages (length out.now)) (seen self)) result }
     {
@@ -85,6 +87,7 @@ impl Endpoint {
     }
 
     // The filled part of the buffer, to be asked for before `take_messages` empties the queue: empty where that refuses, and in Shutdown.
+    #[tactic(auto, using(crate::proofs::Laws::Taking::filled_part_lem, crate::proofs::Laws::Taking::handed_is))]
     pub fn messages(self, out: &[u8]) -> &[u8]
         ensures { result.now ≡ take (handed_back (length out.now) (seen self)) out.now }
     {
@@ -95,6 +98,7 @@ impl Endpoint {
     }
 
     // `messages` and `take_messages` in one: the filled part of `out` is copied to the front of `into`. Refused where either is shorter than what is queued.
+    #[tactic(auto, using(crate::proofs::Laws::Taking::into_done, crate::proofs::Laws::Taking::into_fits, crate::proofs::Laws::Taking::into_short))]
     pub fn take_messages_into(mut self, out: &[u8], into: &mut [u8]) -> TakenMessages
         ensures { TakenIntoAs self out.now into.old result into.new }
     {

@@ -11,6 +11,7 @@ use codec::{FIXED_SIZES, MessageBody, Wide};
 use pending::Pending;
 use status::Statuses;
 
+#[tactic(auto, using(crate::proofs::Laws::Act::Batch::written_none, crate::proofs::Laws::Act::Batch::written_one))]
 fn body_only_if(due: bool, out: &mut [u8], at: usize, magic: u16, body: MessageBody) -> usize
     ensures { WrittenWhere out.old at (pick due (body_only magic body ∷ []) []) result out.new }
 {
@@ -22,6 +23,7 @@ fn body_only_if(due: bool, out: &mut [u8], at: usize, magic: u16, body: MessageB
 }
 
 // The bytes that are due, whatever they are.
+#[tactic(auto, using(status::proofs::Held::held_le, crate::proofs::Laws::Act::Batch::size_if, crate::proofs::Laws::Act::Batch::size_if_most, crate::proofs::Laws::Act::Batch::sizes_append, base::proofs::Arrays::unmap), unfolding(crate::specs::Inside::Batch::batch, crate::specs::Inside::Batch::due_reports))]
 pub(crate) fn size(due: Due, statuses: Statuses, pending: Pending, width: usize) -> usize
     ensures { SizedWith due (held_statuses statuses) (waiting pending) width result }
 {
@@ -32,6 +34,7 @@ pub(crate) fn size(due: Due, statuses: Statuses, pending: Pending, width: usize)
 }
 
 // Quality report and keepalive, each where it is due; where the queue then ends.
+#[tactic(auto, using(crate::proofs::Laws::Act::Batch::written_then), unfolding(crate::specs::Inside::Batch::due_reports))]
 pub(crate) fn write_reports(
     due: Due,
     out: &mut [u8],

@@ -26,6 +26,7 @@ pub struct Due {
 }
 
 // The keepalive looks at the send time as the messages before it leave it.
+#[tactic(auto, unfolding(crate::specs::Inside::Due::due_of))]
 pub(crate) fn due_at(
     now: u64,
     clocks: Clocks,
@@ -71,12 +72,14 @@ pub(crate) fn sends(due: Due) -> bool
     due.input | due.report | due.keep_alive
 }
 
+#[tactic(auto, unfolding(crate::specs::Inside::Due::clocks_by))]
 pub(crate) fn clocks_after(due: Due, now: u64, clocks: Clocks) -> Clocks
     ensures { result ≡ clocks_by due now clocks }
 {
     clocks.fired(due.resend, due.report, sends(due), now)
 }
 
+#[tactic(auto, unfolding(crate::specs::Inside::Due::flags_by))]
 pub(crate) fn flags_after(due: Due, flags: Flags) -> Flags
     ensures { result ≡ flags_by due flags }
 {
@@ -87,6 +90,7 @@ pub(crate) fn flags_after(due: Due, flags: Flags) -> Flags
 }
 
 // Both events in their order; where not all that is due fits, unchanged. What is left of the timeout is announced with an interruption.
+#[tactic(auto, unfolding(events::specs::Events::both, crate::specs::Inside::Due::due_events))]
 pub(crate) fn announce(
     events: Events,
     due: Due,

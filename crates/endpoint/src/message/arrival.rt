@@ -14,6 +14,7 @@ pub(crate) fn unread() -> Message {
     }
 }
 
+#[tactic(auto, unfolding(crate::specs::Inside::Arrival::ArrivedAs))]
 pub(crate) fn read(is_datagram: bool, given: Message, bytes: &[u8]) -> Received
     ensures { ArrivedAs is_datagram given bytes.now result }
 {
@@ -26,6 +27,7 @@ pub(crate) fn read(is_datagram: bool, given: Message, bytes: &[u8]) -> Received
     }
 }
 
+#[tactic(auto, unfolding(crate::specs::Inside::Arrival::payload_of))]
 pub(crate) fn payload_of(is_datagram: bool, bytes: &[u8]) -> &[u8]
     ensures { result.now ≡ payload_of is_datagram bytes.now }
 {

@@ -23,6 +23,7 @@ pub struct Informed {
     pub statuses: Statuses,
 }
 
+#[tactic(auto, using(status::proofs::MergeAll::all_none, crate::proofs::Laws::Message::Informing::reports_end, crate::proofs::Laws::Message::Informing::reports_turn, base::proofs::Arrays::unmap))]
 fn merge_reports(statuses: Statuses, reports: StatusReports) -> Statuses
     ensures { HeldAs (merged_all (held_statuses statuses) (statuses_of (report_list reports))) statuses.count result }
 {

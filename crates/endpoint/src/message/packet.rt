@@ -48,6 +48,7 @@ fn is_discarded(disconnect_requested: bool, count: usize, players: u32, start_fr
 }
 
 // Whether a payload has more frames than may be pending at the other end.
+#[tactic(auto, using(base::proofs::Arrays::view_le), unfolding(setup::specs::Setup::terms_with))]
 fn is_too_long(setup: Setup, length: usize) -> bool
     ensures { result ≡ too_long_by (receiving_width (terms_of setup)) length }
 {
@@ -71,6 +72,7 @@ fn overflows(start_frame: u32, count: usize) -> bool
     FRAMES - (start_frame as usize) < count
 }
 
+#[tactic(auto, unfolding(history::specs::History::looked_at))]
 pub(crate) fn open(
     history: History,
     setup: Setup,

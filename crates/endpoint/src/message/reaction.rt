@@ -15,6 +15,7 @@ pub struct Reacted {
 }
 
 // By the number of its kind, which is one of these four. `full`: what it announces has no room.
+#[tactic(auto, using(crate::proofs::Laws::Handshake::false_true, codec::proofs::KindNumbers::kind_other, codec::proofs::KindNumbers::kind_quality_reply, codec::proofs::KindNumbers::kind_quality_report, codec::proofs::KindNumbers::kind_sync_request))]
 pub(crate) fn react(
     body: MessageBody,
     full: bool,
