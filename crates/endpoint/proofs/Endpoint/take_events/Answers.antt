@@ -1,0 +1,7 @@
+use borrow.Author.Rules.{rules}
+use Rattle.endpoint.proofs.Laws.Taking.{takes_events}
+use Rattle.endpoint.proofs.Endpoint.take_events.Goals as goal
+
+pub returns : goal.returns
+returns c =
+    takes_events c.args.self c.count.result c.count.ensures

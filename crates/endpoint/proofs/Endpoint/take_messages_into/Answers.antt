@@ -1,0 +1,21 @@
+-- `take_messages_into` copies the filled part to the front of the other buffer, and empties the queue.
+use mathlib.Core.Path.{sym, ◌∙◌}
+use Prim.Native.Nat.{◌≤◌}
+use native.Mathlib.Omega.{arith}
+use lib.ListN.{length-take}
+use lib.Seq.{length-take-le}
+use Rattle.endpoint.specs.Taken.{shorter}
+use Rattle.endpoint.proofs.Laws.Taking.{into_short, into_done, into_fits}
+use borrow.Author.Rules.{rules}
+use Rattle.endpoint.proofs.Endpoint.take_messages_into.Goals as goal
+
+pub returns-then-is_short : goal.returns-then-is_short
+returns-then-is_short c =
+    let a = c.args in
+    into_short a.self a.out.now a.into.now (rw c.least-room.ensures at (sym c.is_short.ensures ∙ c.if-is_short.true))
+
+pub returns : goal.returns
+returns c =
+    let a = c.args in
+    into_done a.self a.out.now a.into.now (rw c.least-room.ensures at (sym c.is_short.ensures ∙ c.if-is_short.false)) c.filled-count.result
+    (rw c.least-room.ensures at c.filled-count.ensures) _ copied.copy.ensures.1
