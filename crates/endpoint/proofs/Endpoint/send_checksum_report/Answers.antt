@@ -9,5 +9,5 @@ pub returns : goal.returns
 returns c =
     let a = c.args in
     let w = c.body_only-queued in
-    send_checksum_done a.self a.out.now a.frame a.checksum a.now (sym c.is_bad.ensures ∙ c.if-is_bad.false) w.result w.last.0 w.ensures c.sent-clocks.result
+    send_checksum_done a.self a.out.now a.frame a.checksum a.now (sym c.is_bad.ensures ∙ c.if-is_bad.false) w.result w.new.out w.ensures c.sent-clocks.result
     (no_event_fits a.self _ c.well_formed.0) (not-false _ c.if-not-queued.false) c.sent-clocks.ensures

@@ -1,5 +1,4 @@
 use borrow.Author.Tests.{not-true, not-false}
-use mathlib.Core.Logic.{⊎_elim}
 use mathlib.Core.Path.{sym, ◌∙◌, ap}
 use Rattle.endpoint_rules.specs.Seen.{is_running}
 use Rattle.endpoint.proofs.Laws.Lengths.{no_event_fits, acked_long}
@@ -7,7 +6,7 @@ use Rattle.endpoint.proofs.Laws.Phases.{not_running}
 use Rattle.endpoint.proofs.Laws.Sending.{Announcing, announces_one, announces_none, send_clock, send_length, send_ignored, send_frame, send_crowded, send_unannounced, send_choked, send_done}
 use borrow.Author.Rules.{rules}
 use Rattle.endpoint.proofs.Endpoint.send_input.Goals as goal
-use Rattle.endpoint.proofs.Endpoint.send_input.Goals.{After-count-announces, After-push-pushed, Else-statuses-self, Joined-announces, Start}
+use Rattle.endpoint.proofs.Endpoint.send_input.Goals.{Joined-announces, then-announces, else-announces}
 
 pub returns-then-not-pushed : goal.returns-then-not-pushed
 returns-then-not-pushed c =
@@ -32,28 +31,16 @@ returns-then-buffer_full c =
     (sym c.is_bad_frame.ensures ∙ c.if-is_bad_frame.false) (not-false _ c.if-not-pushed.false) c.count-announces.result c.count-announces.ensures
     c.input_size-size.result c.input_size-size.ensures (acked_long a.self _ c.well_formed.0) c.buffer_full.result c.buffer_full.ensures c.if-buffer_full.true
 
--- the points that the statement below speaks of, each from a later one
-abbrev count_of : Joined-announces → After-count-announces
-count_of c = c.before.before.before.before.before.before.before
-
-abbrev push-of : After-count-announces → After-push-pushed
-push-of c = c.before.before.before.before.before.before
-
-abbrev sized_of : After-push-pushed → Else-statuses-self
-sized_of c = c.before.before.before.before.before.before
-
-abbrev start_of : Else-statuses-self → Start
-start_of c = c.before.before.before.before.before.before.before.before
-
 -- the endpoint after what is announced
-after-announcing : (c : Joined-announces) → Announcing (start_of (sized_of (push-of (count_of c)))).args.self (count_of c).count.result c.if-announces.self
-after-announcing c =
-    let s = start_of (sized_of (push-of (count_of c))) in
-    let n = (count_of c).count.result in
-    ⊎_elim {0, 0, 0}
-    (λ w. announces_one s.args.self n c.count.result c.count.ensures w.1.result (sym c.events_full.ensures ∙ c.if-events_full.false) w.0.true w.1.ensures c.if-announces.self w.3)
-    (λ w. announces_none s.args.self n w.0.false (no_event_fits s.args.self _ s.good.0) c.if-announces.self w.1)
-    c.if-announces.branch
+after_announcing : (c : Joined-announces) → Announcing c.args.self c.count-announces.result c.if-announces.self
+after_announcing c =
+    let s = c.args in
+    let n = c.count-announces.result in
+    elim c.if-announces.branch [
+      then-announces w ↦
+        announces_one s.self n c.count.result c.count.ensures w.push-pushed-then-announces.result (sym c.events_full.ensures ∙ c.if-events_full.false) w.if-announces.true w.push-pushed-then-announces.ensures c.if-announces.self w.self-is
+    | else-announces w ↦ announces_none s.self n w.if-announces.false (no_event_fits s.self _ c.well_formed.0) c.if-announces.self w.self-is
+    ]
 
 pub returns : goal.returns
 returns c =
@@ -63,4 +50,4 @@ returns c =
     c.if-statuses-self.false (ap is_running c.in-Running.is) c.frame_at-padded.result c.frame_at-padded.ensures c.push-pushed.result c.push-pushed.ensures
     (sym c.is_bad_frame.ensures ∙ c.if-is_bad_frame.false) (not-false _ c.if-not-pushed.false) c.count-announces.result c.count-announces.ensures
     c.input_size-size.result c.input_size-size.ensures (acked_long a.self _ c.well_formed.0) c.buffer_full.result c.buffer_full.ensures c.if-buffer_full.false
-    c.if-announces.self (after-announcing joined7) c.newest.result c.newest.ensures c.pending_input-queued.result c.pending_input-queued.new.out c.pending_input-queued.ensures c.sent-clocks.result c.sent-clocks.ensures
+    c.if-announces.self (after_announcing joined7) c.newest.result c.newest.ensures c.pending_input-queued.result c.pending_input-queued.new.out c.pending_input-queued.ensures c.sent-clocks.result c.sent-clocks.ensures

@@ -18,4 +18,4 @@ pub returns : goal.returns
 returns c =
     let a = c.args in
     into_done a.self a.out.now a.into.now (rw c.least-room.ensures at (sym c.is_short.ensures ∙ c.if-is_short.false)) c.filled-count.result
-    (rw c.least-room.ensures at c.filled-count.ensures) _ copied.copy.ensures.1
+    (rw c.least-room.ensures at c.filled-count.ensures) _ c.copy_from_slice.ensures.after

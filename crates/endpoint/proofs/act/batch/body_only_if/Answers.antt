@@ -8,7 +8,7 @@ pub returns-then-due : goal.returns-then-due
 returns-then-due c =
     let w = c.body_only-queued in
     let a = c.args in
-    rw c.if-due.true (written_one a.out.now a.at (body_only a.magic a.body) w.result w.last.0 w.ensures)
+    rw c.if-due.true (written_one a.out.now a.at (body_only a.magic a.body) w.result w.new.out w.ensures)
 
 pub returns : goal.returns
 returns c =

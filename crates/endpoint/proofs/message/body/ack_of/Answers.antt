@@ -5,4 +5,4 @@ use borrow.Author.Rules.{rules}
 use Rattle.endpoint.proofs.message.body.ack_of.Goals as goal
 
 pub returns-in_default : goal.returns-in_default
-returns-in_default c = λ h. absurd (kind_other c.args.body 3 _ (0 ∷ 1 ∷ 2 ∷ 4 ∷ 5 ∷ 6 ∷ 7 ∷ []) refl h tt c.??match.keys2)
+returns-in_default c = λ h. absurd (kind_other c.args.body 3 _ (0 ∷ 1 ∷ 2 ∷ 4 ∷ 5 ∷ 6 ∷ 7 ∷ []) refl h tt c.in_default.not-InputAck)

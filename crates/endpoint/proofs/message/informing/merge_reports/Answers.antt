@@ -20,6 +20,6 @@ loop-i-preserved c =
       omega arith,
       omega (arith, ltb-true),
       l.invariant.2,
-      c.merge_report-next.ensures.0 ∙ rw l.invariant.3 (sym (reports_turn (held_statuses a.statuses) a.t2 l.i _ (omega (arith, ltb-true, l.invariant.2, length-take a.t2.count a.t2.list)))),
+      c.merge_report-next.ensures.0 ∙ rw l.invariant.3 (sym (reports_turn (held_statuses a.statuses) a.reports l.i _ (omega (arith, ltb-true, l.invariant.2, length-take a.reports.count a.reports.list)))),
       c.merge_report-next.ensures.1 ∙ l.invariant.4,
     )
