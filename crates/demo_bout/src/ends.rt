@@ -140,6 +140,7 @@ impl End {
         self.receive_all(rt, other.seat.name as u32, filled, now)
     }
 
+    #[tactic(auto, using(codec::proofs::Queue::message_end_inside))]
     fn receive_all(self, rt: &impl Print, from: u32, queue: &[u8], now: u32) -> io::Result<End> {
         let mut next = self;
         let mut at = 0;

@@ -54,6 +54,7 @@ pub(crate) fn events(rt: &impl Print, name: u8, events: Events) -> io::Result<()
 }
 
 // A queue, message by message, after the word for what becomes of it.
+#[tactic(auto, using(codec::proofs::Queue::message_end_inside))]
 pub(crate) fn messages(rt: &impl Print, name: u8, fate: &[u8], queue: &[u8]) -> io::Result<()> {
     let mut at = 0;
     while at < queue.len() {

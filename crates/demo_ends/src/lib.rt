@@ -10,6 +10,7 @@ ghost use Rattle.demo_ends.specs.Running.{two_players, synchronized_with};
 use endpoint::{Choices, DesyncDetection, Endpoint, Handles, Phase, Setup, Sync};
 
 // Two players, one at each end, whose inputs are a byte; `player` is the one at the other end.
+#[tactic(auto, unfolding(crate::specs::Running::two_players))]
 pub fn two_players(magic: u16, peer: u32, player: u32) -> Setup
     ensures { result ≡ two_players magic peer player }
 {
@@ -32,6 +33,7 @@ pub fn two_players(magic: u16, peer: u32, player: u32) -> Setup
 }
 
 // The endpoint in Running: no reply is to come, and only messages of the other end's magic are heard.
+#[tactic(auto, unfolding(endpoint::specs::Endpoint::seen, crate::specs::Running::synchronized_with))]
 pub fn synchronized(endpoint: Endpoint, magic: u16) -> Endpoint
     ensures { seen result ≡ synchronized_with magic (seen endpoint) }
 {
@@ -46,6 +48,7 @@ pub fn synchronized(endpoint: Endpoint, magic: u16) -> Endpoint
 }
 
 // An end of such a bout, running. The other end's number as a peer is its magic.
+#[tactic(auto, unfolding(endpoint_rules::specs::Step::fresh))]
 pub fn end(own: u16, other: u16, player: u32, now: u64) -> Endpoint
     ensures { seen result ≡ synchronized_with other (made (two_players own other player) now) }
 {

@@ -79,6 +79,7 @@ impl Viewer {
     }
 
     // What the host has sent arrives, a message in each datagram.
+    #[tactic(auto, using(codec::proofs::Queue::message_end_inside))]
     pub(crate) fn receive(self, rt: &impl Print, sent: &[u8], now: u32) -> io::Result<Viewer> {
         let mut next = self;
         let mut at = 0;

@@ -87,6 +87,7 @@ fn other_end() -> Setup {
 }
 
 // Each datagram of the queue goes to the other end.
+#[tactic(auto, using(codec::proofs::Queue::message_end_inside))]
 fn deliver(queue: &[u8], to: Endpoint, now: u64, out: &mut [u8]) -> Endpoint {
     let mut end = to;
     let mut at = 0;

@@ -100,6 +100,7 @@ fn put_players(out: Out, setup: Setup) -> Out {
         .u32(setup.fps)
 }
 
+#[tactic(auto, using(base::proofs::Arrays::view_le), unfolding(nonces::specs::Nonces::outstanding))]
 fn put_nonces(out: Out, nonces: Nonces) -> Out {
     let list = nonces.list;
     put_list(out, &list, nonces.count())
@@ -149,6 +150,7 @@ fn put_input(out: Out, input: InputBytes, width: usize) -> Out {
     out.frame(input.frame).bytes(text::filled(&bytes, width))
 }
 
+#[tactic(auto, using(base::proofs::Arrays::view_le), unfolding(pending::specs::Pending::waiting))]
 fn put_pending(out: Out, pending: Pending, width: usize) -> Out {
     let n = pending.count();
     let mut to = out.count(n);
@@ -162,6 +164,7 @@ fn put_pending(out: Out, pending: Pending, width: usize) -> Out {
 }
 
 // Ascending as it stands: only frames above its newest are taken in, and they go to its end.
+#[tactic(auto, using(base::proofs::Arrays::view_le), unfolding(history::specs::History::received))]
 fn put_history(out: Out, history: History, width: usize) -> Out {
     let n = history.count();
     let mut to = out.count(n);

@@ -141,6 +141,7 @@ fn put_state(out: Out, state: SessionState) -> Out {
 }
 
 // Four places a slot; those above the players are none.
+#[tactic(auto, using(base::proofs::Arrays::view_le), unfolding(spectator::specs::Stores::inputs_of))]
 fn put_inputs(out: Out, inputs: Inputs, players: u32, size: u32) -> Out {
     let n = inputs.count();
     let mut to = out;
