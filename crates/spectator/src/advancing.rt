@@ -55,6 +55,7 @@ fn most_frames(slots: u32) -> u32
     numbers::least_u32(slots - 1, MOST_ADVANCED)
 }
 
+#[tactic(auto, unfolding(spectator_rules::specs::Advance::frames_by))]
 fn frames_to_advance(limits: Limits, behind: u32) -> u32
     ensures { result ≡ frames_by limits behind }
 {

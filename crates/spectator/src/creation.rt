@@ -22,6 +22,7 @@ const MOST_SESSION_EVENTS: u32 = ceilings::MOST_SESSION_EVENTS as u32;
 const MOST_FRAMES: u32 = 65535;
 
 // The setup of the host's endpoint: a handle for each player, and one local player, who never sends.
+#[tactic(auto, unfolding(spectator_rules::specs::Setup::host_setup))]
 fn host_setup(setup: SessionSetup) -> Setup
     ensures { result ≡ host_setup setup }
 {
@@ -44,6 +45,7 @@ fn host_setup(setup: SessionSetup) -> Setup
     }
 }
 
+#[tactic(auto, using(setup::proofs::Tests::or_any), unfolding(spectator_rules::specs::Setup::bad_limits))]
 fn is_bad(limits: Limits) -> bool
     ensures { result ≡ bad_limits limits }
 {

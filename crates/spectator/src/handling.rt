@@ -35,6 +35,7 @@ pub struct Parts {
 // The local advantage with the frame of an Input; as it was where it leaves its range, or while nothing is received. The endpoint's
 // `update_local_frame_advantage` tests the same, but over a whole endpoint, whose newest frame it searches at each call, and it answers 6 where this one
 // goes on: called here it would copy the host for each Input.
+#[tactic(auto, using(crate::proofs::Laws::Handling::frame_unknown, crate::proofs::Laws::Handling::newest_unknown, crate::proofs::Laws::Handling::quality_kept, crate::proofs::Laws::Handling::quality_set))]
 fn quality_after(quality: Quality, newest: u32, fps: u32, frame: u32) -> Quality
     ensures { result ≡ quality_after newest fps frame quality }
 {
@@ -49,6 +50,7 @@ fn quality_after(quality: Quality, newest: u32, fps: u32, frame: u32) -> Quality
 }
 
 impl Parts {
+    #[tactic(auto, using(crate::proofs::Laws::Handling::announce_changes))]
     fn announce(self, terms: Terms, event: SessionEvent) -> Parts
         ensures { ChangedAs terms (announce event) self result }
     {
@@ -60,6 +62,7 @@ impl Parts {
         Parts { events, ..self }
     }
 
+    #[tactic(auto, using(crate::proofs::Laws::Handling::store_changes))]
     fn store(self, terms: Terms, frame: u32, player: u32, input: [u8; MOST_INPUT_SIZE]) -> Parts
         ensures { ChangedAs terms (input_handled frame player input) self result }
     {
@@ -85,6 +88,7 @@ impl Parts {
     }
 
     // An Input is stored; every other event is announced, and Synchronized sets the session running.
+    #[tactic(auto, using(crate::proofs::Laws::Handling::by_kind, crate::proofs::Laws::Handling::by_running))]
     fn handle(self, terms: Terms, entry: Entry) -> Parts
         ensures { ChangedAs terms (handled entry) self result }
     {
@@ -107,6 +111,7 @@ impl Parts {
     }
 
     // Oldest first.
+    #[tactic(auto, using(crate::proofs::Laws::Handling::handled_end, crate::proofs::Laws::Handling::handled_turn))]
     pub(crate) fn handle_all(self, terms: Terms, events: Events) -> Parts
         ensures { ChangedAs terms (handled_all (held_events events)) self result }
     {

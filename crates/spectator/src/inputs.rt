@@ -39,6 +39,7 @@ fn place_of(slots: u32, frame: u32, player: u32) -> usize
 
 impl Inputs {
     // Every place blank, of at most 64 slots.
+    #[tactic(auto, unfolding(spectator_rules::specs::Inputs::blank_input, spectator_rules::specs::Inputs::fresh_inputs, crate::specs::Stores::inputs_of))]
     pub(crate) fn new(slots: u32) -> Inputs
         ensures { InputsAs (fresh_inputs slots) result }
     {
@@ -50,6 +51,7 @@ impl Inputs {
     }
 
     // How many places there are, four a slot.
+    #[tactic(auto, using(base::proofs::Arrays::unmap), unfolding(crate::specs::Stores::inputs_of))]
     pub fn count(self) -> usize
         ensures { result ≡ length (inputs_of self) }
     {
@@ -57,6 +59,7 @@ impl Inputs {
     }
 
     // What stands at the place of a player's input of a frame; blank where there is no such place.
+    #[tactic(auto, using(base::proofs::Orders::get_or_within, base::proofs::Arrays::unmap, base::proofs::Arrays::view_at, base::proofs::Arrays::view_le), unfolding(spectator_rules::specs::Inputs::blank_input, crate::specs::Stores::inputs_of, spectator_rules::specs::Inputs::player_input_at))]
     pub(crate) fn at(self, slots: u32, frame: u32, player: u32) -> PlayerInput
         ensures { result ≡ player_input_at slots frame player (inputs_of self) }
     {
@@ -68,6 +71,7 @@ impl Inputs {
     }
 
     // A player's input of a frame goes to its place, over what stood there.
+    #[tactic(auto, using(crate::proofs::Laws::Counts::counted_view, base::proofs::Arrays::unmap, base::proofs::Arrays::view_le), unfolding(spectator_rules::specs::Inputs::input_stored, crate::specs::Stores::inputs_of))]
     pub(crate) fn store(
         mut self,
         slots: u32,

@@ -59,6 +59,7 @@ impl Inputs {
         )
     }
 
+    #[tactic(auto, using(crate::proofs::Laws::Requests::players_counted), unfolding(spectator_rules::specs::Advance::frame_inputs_by, crate::specs::Stores::request_of))]
     fn request_at(self, statuses: Statuses, slots: u32, frame: u32, players: usize) -> Request
         requires { players ≤ most_players }
         ensures { RequestAs (frame_inputs_by slots frame players (inputs_of self) (held_statuses statuses)) result }
@@ -105,6 +106,7 @@ impl Inputs {
         Answer::Done
     }
 
+    #[tactic(auto, using(crate::proofs::Laws::Requests::count_turn, crate::proofs::Laws::Requests::frames_counted, crate::proofs::Laws::Requests::request_turn, base::proofs::Arrays::unmap), unfolding(crate::specs::Stores::request_counts, crate::specs::Stores::request_frames, spectator_rules::specs::Advance::requests_by))]
     pub(crate) fn requests_from(
         self,
         statuses: Statuses,
@@ -129,6 +131,7 @@ impl Inputs {
 }
 
 impl Request {
+    #[tactic(auto, unfolding(crate::specs::Stores::request_of))]
     fn none() -> Request
         ensures { RequestAs [] result }
     {
@@ -139,6 +142,7 @@ impl Request {
     }
 
     // How many players the frame is of.
+    #[tactic(auto, using(base::proofs::Arrays::unmap), unfolding(crate::specs::Stores::request_of))]
     pub fn count(self) -> usize
         ensures { result ≡ length (request_of self) }
     {
@@ -146,6 +150,7 @@ impl Request {
     }
 
     // What the player does in this frame; past the last player, zeros, Confirmed.
+    #[tactic(auto, using(base::proofs::Orders::get_or_within, base::proofs::Arrays::unmap, base::proofs::Arrays::view_at, base::proofs::Arrays::view_le), unfolding(crate::specs::Stores::blank_synced, crate::specs::Stores::request_of))]
     pub fn input(self, player: usize) -> SyncedInput
         ensures { result ≡ get_or (request_of self) player blank_synced }
     {
@@ -158,6 +163,7 @@ impl Request {
 }
 
 impl Requests {
+    #[tactic(auto, unfolding(crate::specs::Stores::request_counts, crate::specs::Stores::request_frames))]
     pub(crate) fn none() -> Requests
         ensures { RequestsAs [] result }
     {
@@ -169,6 +175,7 @@ impl Requests {
     }
 
     // How many frames are advanced.
+    #[tactic(auto, using(base::proofs::Arrays::unmap), unfolding(crate::specs::Stores::request_frames))]
     pub fn count(self) -> usize
         ensures { result ≡ length (request_frames self) }
     {
@@ -176,6 +183,7 @@ impl Requests {
     }
 
     // The i-th of them, in the order in which they are to be played; past the last, a frame of no players.
+    #[tactic(auto, using(crate::proofs::Laws::Requests::frame_at, crate::proofs::Laws::Requests::frames_fit, base::proofs::Arrays::unmap))]
     pub fn frame(self, i: usize) -> Request
         ensures { RequestAs (get_or (request_frames self) i []) result }
     {

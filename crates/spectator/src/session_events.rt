@@ -20,6 +20,7 @@ const BLANK_ENTRY: SessionEntry = SessionEntry {
 };
 
 impl SessionEvents {
+    #[tactic(auto, unfolding(crate::specs::Stores::events_of))]
     pub(crate) fn new() -> SessionEvents
         ensures { EventsAs [] result }
     {
@@ -29,6 +30,7 @@ impl SessionEvents {
         }
     }
 
+    #[tactic(auto, using(base::proofs::Arrays::unmap), unfolding(crate::specs::Stores::events_of))]
     pub fn count(self) -> usize
         ensures { result ≡ length (events_of self) }
     {
@@ -36,6 +38,7 @@ impl SessionEvents {
     }
 
     // The i-th, oldest first; past the last, Synchronized of peer 0.
+    #[tactic(auto, using(base::proofs::Orders::get_or_within, base::proofs::Arrays::unmap, base::proofs::Arrays::view_at, base::proofs::Arrays::view_le), unfolding(crate::specs::Stores::blank_session_entry, crate::specs::Stores::events_of))]
     pub fn entry(self, i: usize) -> SessionEntry
         ensures { result ≡ get_or (events_of self) i blank_session_entry }
     {
@@ -47,6 +50,7 @@ impl SessionEvents {
     }
 
     // The store after all its events are taken.
+    #[tactic(auto, unfolding(crate::specs::Stores::events_of))]
     pub(crate) fn take_all(mut self) -> SessionEvents
         ensures { EventsAs [] result }
     {
@@ -55,6 +59,7 @@ impl SessionEvents {
     }
 
     // Those from the k-th on, moved to the front.
+    #[tactic(auto, using(base::proofs::Shifts::move_rest, base::proofs::Shifts::move_turn, base::proofs::Arrays::shifted, base::proofs::Arrays::unmap, base::proofs::Arrays::view_le), unfolding(crate::specs::Stores::events_of))]
     fn shift(mut self, k: usize) -> SessionEvents
         ensures { EventsAs (drop k (events_of self)) result }
     {
@@ -75,6 +80,7 @@ impl SessionEvents {
     }
 
     // One more at the end.
+    #[tactic(auto, using(base::proofs::Arrays::store_end, base::proofs::Arrays::unmap), unfolding(crate::specs::Stores::events_of))]
     fn push(mut self, entry: SessionEntry) -> SessionEvents
         requires { length (events_of self) < most_session_events }
         ensures { EventsAs (events_of self ++ entry ∷ []) result }
@@ -86,6 +92,7 @@ impl SessionEvents {
     }
 
     // One more at the end; the oldest are dropped beyond `most`.
+    #[tactic(auto, using(crate::proofs::Laws::SessionEvents::announced_dropped, crate::proofs::Laws::SessionEvents::announced_none, base::proofs::Arrays::unmap, base::proofs::Arrays::view_le), unfolding(crate::specs::Stores::events_of))]
     pub(crate) fn announce(self, entry: SessionEntry, most: u32) -> SessionEvents
         ensures { EventsAs (event_added most entry (events_of self)) result }
     {
