@@ -1,8 +1,7 @@
 -- Each return of `handle_message`, by the law of its way out in Laws/Message.
 use borrow.Author.Tests.{not-true, not-false}
-use mathlib.Core.Bool.{Bool, true, false, ◌&&◌, ◌||◌}
+use mathlib.Core.Bool.{false, ◌&&◌, ◌||◌}
 use mathlib.Core.List.{List, [], ◌∷◌, ◌++◌}
-use mathlib.Core.Logic.{inl, inr}
 use mathlib.Core.Path.{◌≡◌, sym, ◌∙◌, ap, subst, refl}
 use native.Mathlib.Omega.{arith}
 use Prim.Native.Nat.{ℕ}
@@ -108,8 +107,8 @@ returns-then-full c =
     let a = c.args in
     let u : is_synchronizing a.self.sync.phase && is_outstanding c.reply_of-reply.result (outstanding a.self.nonces) ≡ false =
     elim c.match-phase.branch [
-      in-Synchronizing+else-spent v ↦ rw (ap is_synchronizing v.in-Synchronizing.is) (sym v.spend-spent.ensures.found ∙ v.if-spent.false)
-    | in_default-phase v ↦ rw (other_phase a.self.sync.phase v.in_default-phase.not-Synchronizing)
+      | in-Synchronizing+else-spent v ↦ rw (ap is_synchronizing v.in-Synchronizing.is) (sym v.spend-spent.ensures.found ∙ v.if-spent.false)
+      | in_default-phase v ↦ rw (other_phase a.self.sync.phase v.in_default-phase.not-Synchronizing)
     ] in
     arrives h _ _ (only_crowded a.self a.from (heard h) (lent h) a.now a.epoch a.nonce a.out.now (good h) (heeded h)
     c.is_resuming-resumes.result c.is_resuming-resumes.ensures c.count.result c.count.ensures c.events_full-full.result c.events_full-full.ensures
@@ -143,22 +142,22 @@ announcing c =
     let a = c.args in
     let wide : length c.open-opened.result.input.bytes ≡ 64 = search rules in
     elim c.if-informed-news.branch [
-      then-informed-news+else-not-pushed v ↦ packet_announced a.self a.from (heard h) (lent h) a.now a.epoch a.nonce a.out.now (good h) (heeded h)
-        _ _ _ (c.input_of-head.ensures (sym c.kind_of-kind.ensures ∙ c.in-2.is)) c.open-opened.result c.open-opened.ensures (not-true _ c.if-not-opened.true) c.inform-informed.result c.inform-informed.ensures
-    c.admit-door-then-not-opened.result c.admit-door-then-not-opened.ensures c.if-door-2.false c.receiving_width-width.result c.receiving_width-width.ensures
-        wide c.news_of-news.result c.news_of-news.ensures v.push_packet-pushed.result v.push_packet-pushed.ensures (not-false _ v.if-not-pushed.false) c.if-informed-news.self v.self-is
-    | else-informed-news v ↦ packet_quiet a.self a.from (heard h) (lent h) a.now a.epoch a.nonce a.out.now (good h) (heeded h)
-        _ _ _ (c.input_of-head.ensures (sym c.kind_of-kind.ensures ∙ c.in-2.is)) c.open-opened.result c.open-opened.ensures (not-true _ c.if-not-opened.true) c.inform-informed.result c.inform-informed.ensures
-    c.admit-door-then-not-opened.result c.admit-door-then-not-opened.ensures c.if-door-2.false c.receiving_width-width.result c.receiving_width-width.ensures
-        wide c.news_of-news.result c.news_of-news.ensures v.if-informed-news.false (no_event_fits a.self _ c.well_formed.0) c.if-informed-news.self v.self-is
+      | then-informed-news+else-not-pushed v ↦ packet_announced a.self a.from (heard h) (lent h) a.now a.epoch a.nonce a.out.now (good h) (heeded h)
+          _ _ _ (c.input_of-head.ensures (sym c.kind_of-kind.ensures ∙ c.in-2.is)) c.open-opened.result c.open-opened.ensures (not-true _ c.if-not-opened.true) c.inform-informed.result c.inform-informed.ensures
+          c.admit-door-then-not-opened.result c.admit-door-then-not-opened.ensures c.if-door-2.false c.receiving_width-width.result c.receiving_width-width.ensures
+          wide c.news_of-news.result c.news_of-news.ensures v.push_packet-pushed.result v.push_packet-pushed.ensures (not-false _ v.if-not-pushed.false) c.if-informed-news.self v.self-is
+      | else-informed-news v ↦ packet_quiet a.self a.from (heard h) (lent h) a.now a.epoch a.nonce a.out.now (good h) (heeded h)
+          _ _ _ (c.input_of-head.ensures (sym c.kind_of-kind.ensures ∙ c.in-2.is)) c.open-opened.result c.open-opened.ensures (not-true _ c.if-not-opened.true) c.inform-informed.result c.inform-informed.ensures
+          c.admit-door-then-not-opened.result c.admit-door-then-not-opened.ensures c.if-door-2.false c.receiving_width-width.result c.receiving_width-width.ensures
+          wide c.news_of-news.result c.news_of-news.ensures v.if-informed-news.false (no_event_fits a.self _ c.well_formed.0) c.if-informed-news.self v.self-is
     ]
 
 -- and after what is dropped
 dropping : (c : Joined-drops) → Drops c.input_of-head.result.ack_frame c.if-informed-news.self c.if-drops.self
 dropping c =
     elim c.if-drops.branch [
-      then-drops v ↦ drops_some _ c.if-informed-news.self c.if-drops.self v.drop_to-dropped.result v.drop_to-dropped.ensures v.self-is
-    | else-drops v ↦ drops_none _ c.if-informed-news.self c.if-drops.self (rw (← c.drops.ensures) v.if-drops.false) v.self-is
+      | then-drops v ↦ drops_some _ c.if-informed-news.self c.if-drops.self v.drop_to-dropped.result v.drop_to-dropped.ensures v.self-is
+      | else-drops v ↦ drops_none _ c.if-informed-news.self c.if-drops.self (rw (← c.drops.ensures) v.if-drops.false) v.self-is
     ]
 
 pub returns-then-opened : goal.returns-then-opened
@@ -208,10 +207,11 @@ returns-then-door-3 c =
 -- a number above 7 is no body's
 pub returns-in_default : goal.returns-in_default
 returns-in_default c =
-    let r = c.in_default.in_default-own.rest in
-    let above = c.in_default.if-kind-lt6-own.false in
-    absurd (kind_is_one c.read-received.result.message.body c.kind_of-kind.result c.kind_of-kind.ensures
-    (λ z. r.1 (inl z)) r.0.0.0.0.1 r.0.0.0.1 r.0.0.1 (λ z. omega (arith, above, z)) (λ z. omega (arith, above, z)) r.0.1 (λ z. r.1 (inr z)))
+    let k = c.kind_of-kind.result in
+    let n : (k ≡ 0 → ⊥) × (k ≡ 1 → ⊥) × (k ≡ 2 → ⊥) × (k ≡ 3 → ⊥) × (k ≡ 6 → ⊥) × (k ≡ 7 → ⊥) =
+    (grind arith, grind arith, grind arith, grind arith, grind arith, grind arith) in
+    absurd (kind_is_one c.read-received.result.message.body k c.kind_of-kind.ensures
+    n.0 n.1 n.2 n.3 (λ z. omega arith) (λ z. omega arith) n.4 n.5)
 
 -- a kind that is only reacted to has a number of its own
 abbrev Others : ℕ → Type 0
@@ -228,8 +228,8 @@ returns-then-not-reacted c =
     let a = c.args in
     let o : Others c.kind_of-kind.result =
     elim c.in-0-1.branch [
-      in-0-1 v ↦ one_other c.kind_of-kind.result v.in-0-1.keys5
-    | in_default+then-kind-lt6 v ↦ (v.in_default-1.rest.0.0.0.0.1, v.in_default-1.rest.0.0.0.1, v.in_default-1.rest.0.0.1, v.in_default-1.rest.0.1)
+      | in-0-1 v ↦ one_other c.kind_of-kind.result v.in-0-1.keys5
+      | in_default+then-kind-lt6 v ↦ (v.in_default-1.rest.0.0.0.0.1, v.in_default-1.rest.0.0.0.1, v.in_default-1.rest.0.0.1, v.in_default-1.rest.0.1)
     ] in
     arrives h _ _ (react_refuses a.self a.from (heard h) (lent h) a.now a.epoch a.nonce a.out.now (good h) (heeded h)
     c.is_resuming-resumes.result c.is_resuming-resumes.ensures c.count.result c.count.ensures c.events_full-full.result c.events_full-full.ensures
@@ -246,38 +246,38 @@ left c =
     let h = (goal.at.Joined-kind c).Else-door in
     let a = c.args in
     elim c.match-kind.branch [
-      in-1+else-full w ↦
-        let u : is_synchronizing a.self.sync.phase && is_outstanding w.reply_of-reply.result (outstanding a.self.nonces) ≡ false =
-    elim w.match-phase.branch [
-      in-Synchronizing+else-spent v ↦ rw (ap is_synchronizing v.in-Synchronizing.is) (sym v.spend-spent.ensures.found ∙ v.if-spent.false)
-    | in_default-phase v ↦ rw (other_phase a.self.sync.phase v.in_default-phase.not-Synchronizing)
-    ] in
-        rw (w.self-is, w.out-is) (only_left a.self a.from (heard h) (lent h) a.now a.epoch a.nonce a.out.now (good h) (heeded h)
-        c.is_resuming-resumes.result c.is_resuming-resumes.ensures c.count.result c.count.ensures c.events_full-full.result c.events_full-full.ensures
-        (reply_passes a.self a.from (heard h) (lent h) a.now a.epoch a.nonce a.out.now (good h) (heeded h)
-        _ (w.reply_of-reply.ensures (sym c.kind_of-kind.ensures ∙ w.in-1.is)) u) w.if-full.false)
-    | in-2+else-not-opened+else-full-2 w ↦
-        rw (w.self-is, w.out-is) (only_left a.self a.from (heard h) (lent h) a.now a.epoch a.nonce a.out.now (good h) (heeded h)
-        c.is_resuming-resumes.result c.is_resuming-resumes.ensures c.count.result c.count.ensures c.events_full-full.result c.events_full-full.ensures
-        (input_passes a.self a.from (heard h) (lent h) a.now a.epoch a.nonce a.out.now (good h) (heeded h)
-        _ _ _ (w.input_of-head.ensures (sym c.kind_of-kind.ensures ∙ w.in-2.is)) w.open-opened.result w.open-opened.ensures (not-false _ w.if-not-opened.false)) w.if-full-2.false)
-    | in-3+else-full-3 w ↦
-        rw (w.self-is, w.out-is) (ack_left a.self a.from (heard h) (lent h) a.now a.epoch a.nonce a.out.now (good h) (heeded h)
-        c.is_resuming-resumes.result c.is_resuming-resumes.ensures c.count.result c.count.ensures c.events_full-full.result c.events_full-full.ensures
-        _ (w.ack_of-ack_frame.ensures (sym c.kind_of-kind.ensures ∙ w.in-3.is)) w.if-full-3.false w.drop_to-dropped-in-3.result w.drop_to-dropped-in-3.ensures)
-    | in-6+else-door-3 w ↦
-        rw (w.self-is, w.out-is) (report_left a.self a.from (heard h) (lent h) a.now a.epoch a.nonce a.out.now (good h) (heeded h)
-        c.is_resuming-resumes.result c.is_resuming-resumes.ensures c.count.result c.count.ensures c.events_full-full.result c.events_full-full.ensures
-        _ _ (w.checksum_of-checksum.ensures (sym c.kind_of-kind.ensures ∙ w.in-6.is)) w.interval.result w.interval.ensures w.report-reported.result w.report-reported.ensures w.weigh-door.result w.weigh-door.ensures w.if-door-3.false)
-    | in-0+else-not-reacted w ↦
-        let o : Others c.kind_of-kind.result =
-    elim w.in-0-1.branch [
-      in-0-1 v ↦ one_other c.kind_of-kind.result v.in-0-1.keys5
-    | in_default+then-kind-lt6 v ↦ (v.in_default-1.rest.0.0.0.0.1, v.in_default-1.rest.0.0.0.1, v.in_default-1.rest.0.0.1, v.in_default-1.rest.0.1)
-    ] in
-        rw (w.self-is, w.out-is) (react_left a.self a.from (heard h) (lent h) a.now a.epoch a.nonce a.out.now (good h) (heeded h)
-        c.is_resuming-resumes.result c.is_resuming-resumes.ensures c.count.result c.count.ensures c.events_full-full.result c.events_full-full.ensures
-        w.react-reacted.result w.react-reacted.new.out w.react-reacted.ensures c.kind_of-kind.result c.kind_of-kind.ensures o (not-false _ w.if-not-reacted.false))
+      | in-1+else-full w ↦
+          let u : is_synchronizing a.self.sync.phase && is_outstanding w.reply_of-reply.result (outstanding a.self.nonces) ≡ false =
+          elim w.match-phase.branch [
+            | in-Synchronizing+else-spent v ↦ rw (ap is_synchronizing v.in-Synchronizing.is) (sym v.spend-spent.ensures.found ∙ v.if-spent.false)
+            | in_default-phase v ↦ rw (other_phase a.self.sync.phase v.in_default-phase.not-Synchronizing)
+          ] in
+          rw (w.self-is, w.out-is) (only_left a.self a.from (heard h) (lent h) a.now a.epoch a.nonce a.out.now (good h) (heeded h)
+          c.is_resuming-resumes.result c.is_resuming-resumes.ensures c.count.result c.count.ensures c.events_full-full.result c.events_full-full.ensures
+          (reply_passes a.self a.from (heard h) (lent h) a.now a.epoch a.nonce a.out.now (good h) (heeded h)
+          _ (w.reply_of-reply.ensures (sym c.kind_of-kind.ensures ∙ w.in-1.is)) u) w.if-full.false)
+      | in-2+else-not-opened+else-full-2 w ↦
+          rw (w.self-is, w.out-is) (only_left a.self a.from (heard h) (lent h) a.now a.epoch a.nonce a.out.now (good h) (heeded h)
+          c.is_resuming-resumes.result c.is_resuming-resumes.ensures c.count.result c.count.ensures c.events_full-full.result c.events_full-full.ensures
+          (input_passes a.self a.from (heard h) (lent h) a.now a.epoch a.nonce a.out.now (good h) (heeded h)
+          _ _ _ (w.input_of-head.ensures (sym c.kind_of-kind.ensures ∙ w.in-2.is)) w.open-opened.result w.open-opened.ensures (not-false _ w.if-not-opened.false)) w.if-full-2.false)
+      | in-3+else-full-3 w ↦
+          rw (w.self-is, w.out-is) (ack_left a.self a.from (heard h) (lent h) a.now a.epoch a.nonce a.out.now (good h) (heeded h)
+          c.is_resuming-resumes.result c.is_resuming-resumes.ensures c.count.result c.count.ensures c.events_full-full.result c.events_full-full.ensures
+          _ (w.ack_of-ack_frame.ensures (sym c.kind_of-kind.ensures ∙ w.in-3.is)) w.if-full-3.false w.drop_to-dropped-in-3.result w.drop_to-dropped-in-3.ensures)
+      | in-6+else-door-3 w ↦
+          rw (w.self-is, w.out-is) (report_left a.self a.from (heard h) (lent h) a.now a.epoch a.nonce a.out.now (good h) (heeded h)
+          c.is_resuming-resumes.result c.is_resuming-resumes.ensures c.count.result c.count.ensures c.events_full-full.result c.events_full-full.ensures
+          _ _ (w.checksum_of-checksum.ensures (sym c.kind_of-kind.ensures ∙ w.in-6.is)) w.interval.result w.interval.ensures w.report-reported.result w.report-reported.ensures w.weigh-door.result w.weigh-door.ensures w.if-door-3.false)
+      | in-0+else-not-reacted w ↦
+          let o : Others c.kind_of-kind.result =
+          elim w.in-0-1.branch [
+            | in-0-1 v ↦ one_other c.kind_of-kind.result v.in-0-1.keys5
+            | in_default+then-kind-lt6 v ↦ (v.in_default-1.rest.0.0.0.0.1, v.in_default-1.rest.0.0.0.1, v.in_default-1.rest.0.0.1, v.in_default-1.rest.0.1)
+          ] in
+          rw (w.self-is, w.out-is) (react_left a.self a.from (heard h) (lent h) a.now a.epoch a.nonce a.out.now (good h) (heeded h)
+          c.is_resuming-resumes.result c.is_resuming-resumes.ensures c.count.result c.count.ensures c.events_full-full.result c.events_full-full.ensures
+          w.react-reacted.result w.react-reacted.new.out w.react-reacted.ensures c.kind_of-kind.result c.kind_of-kind.ensures o (not-false _ w.if-not-reacted.false))
     ]
 
 pub returns : goal.returns
@@ -286,10 +286,10 @@ returns c =
     let a = c.args in
     let l = left (goal.at.returns c).Joined-kind in
     arrives h _ _ (elim c.if-resumes.branch [
-      then-resumes w ↦ rw w.self-is (ends_announced a.self a.from (heard h) (lent h) a.now a.epoch a.nonce a.out.now (good h) (heeded h)
-        c.is_resuming-resumes.result c.is_resuming-resumes.ensures c.count.result c.count.ensures c.events_full-full.result c.events_full-full.ensures
-        c.match-kind.self c.match-kind.out l c.heard-clocks.result (rw w.self-is at c.heard-clocks.ensures) w.if-resumes.true _ refl w.push-pushed-then-resumes.result w.push-pushed-then-resumes.ensures)
-    | else-resumes w ↦ rw w.self-is (ends_quiet a.self a.from (heard h) (lent h) a.now a.epoch a.nonce a.out.now (good h) (heeded h)
-        c.is_resuming-resumes.result c.is_resuming-resumes.ensures c.count.result c.count.ensures c.events_full-full.result c.events_full-full.ensures
-        c.match-kind.self c.match-kind.out l c.heard-clocks.result (rw w.self-is at c.heard-clocks.ensures) w.if-resumes.false (entries_long a.self _ c.well_formed.0))
+      | then-resumes w ↦ rw w.self-is (ends_announced a.self a.from (heard h) (lent h) a.now a.epoch a.nonce a.out.now (good h) (heeded h)
+          c.is_resuming-resumes.result c.is_resuming-resumes.ensures c.count.result c.count.ensures c.events_full-full.result c.events_full-full.ensures
+          c.match-kind.self c.match-kind.out l c.heard-clocks.result (rw w.self-is at c.heard-clocks.ensures) w.if-resumes.true _ refl w.push-pushed-then-resumes.result w.push-pushed-then-resumes.ensures)
+      | else-resumes w ↦ rw w.self-is (ends_quiet a.self a.from (heard h) (lent h) a.now a.epoch a.nonce a.out.now (good h) (heeded h)
+          c.is_resuming-resumes.result c.is_resuming-resumes.ensures c.count.result c.count.ensures c.events_full-full.result c.events_full-full.ensures
+          c.match-kind.self c.match-kind.out l c.heard-clocks.result (rw w.self-is at c.heard-clocks.ensures) w.if-resumes.false (entries_long a.self _ c.well_formed.0))
     ])
