@@ -4,6 +4,7 @@ pub mod Admission
 pub mod Hearing
 pub mod Informing
 pub mod Packet
+pub mod OtherKinds
 pub mod Reaction
 pub mod Bodies
 pub mod Quiet

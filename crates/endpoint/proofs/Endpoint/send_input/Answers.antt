@@ -1,4 +1,4 @@
-use borrow.Author.Tests.{not-true, not-false}
+use borrow.Author.Tests.{not-true, not-false, le-leb, lt-leb}
 use mathlib.Core.Path.{sym, ◌∙◌, ap}
 use Rattle.endpoint_rules.specs.Seen.{is_running}
 use Rattle.endpoint.proofs.Laws.Lengths.{no_event_fits, acked_long}
@@ -37,17 +37,17 @@ after_announcing c =
     let s = c.args in
     let n = c.count-announces.result in
     elim c.if-announces.branch [
-      then-announces w ↦
-        announces_one s.self n c.count.result c.count.ensures w.push-pushed-then-announces.result (sym c.events_full.ensures ∙ c.if-events_full.false) w.if-announces.true w.push-pushed-then-announces.ensures c.if-announces.self w.self-is
-    | else-announces w ↦ announces_none s.self n w.if-announces.false (no_event_fits s.self _ c.well_formed.0) c.if-announces.self w.self-is
+      | then-announces w ↦
+          announces_one s.self n c.count.result c.count.ensures w.push-pushed-then-announces.result (sym c.events_full.ensures ∙ c.if-events_full.false) (le-leb _ _ w.if-announces.true) w.push-pushed-then-announces.ensures c.if-announces.self w.self-is
+      | else-announces w ↦ announces_none s.self n (lt-leb _ _ w.if-announces.false) (no_event_fits s.self _ c.well_formed.0) c.if-announces.self w.self-is
     ]
 
 pub returns : goal.returns
 returns c =
-    let joined7 : Joined-announces = search in
+    let joined = c.before.before.before.before.before.before.before.before.before.before in
     let a = c.args in
     send_done a.self a.frame a.bytes.now a.statuses a.now a.out.now (sym c.is_bad.ensures ∙ c.if-is_bad.false) c.sending_width-width.result c.sending_width-width.ensures
     c.if-statuses-self.false (ap is_running c.in-Running.is) c.frame_at-padded.result c.frame_at-padded.ensures c.push-pushed.result c.push-pushed.ensures
     (sym c.is_bad_frame.ensures ∙ c.if-is_bad_frame.false) (not-false _ c.if-not-pushed.false) c.count-announces.result c.count-announces.ensures
     c.input_size-size.result c.input_size-size.ensures (acked_long a.self _ c.well_formed.0) c.buffer_full.result c.buffer_full.ensures c.if-buffer_full.false
-    c.if-announces.self (after_announcing joined7) c.newest.result c.newest.ensures c.pending_input-queued.result c.pending_input-queued.new.out c.pending_input-queued.ensures c.sent-clocks.result c.sent-clocks.ensures
+    c.if-announces.self (after_announcing joined) c.newest.result c.newest.ensures c.pending_input-queued.result c.pending_input-queued.new.out c.pending_input-queued.ensures c.sent-clocks.result c.sent-clocks.ensures

@@ -3,7 +3,7 @@ use mathlib.Core.Path.{sym, ◌∙◌}
 use Prim.Native.Nat.{◌≤◌}
 use native.Mathlib.Omega.{arith}
 use lib.ListN.{length-take}
-use lib.Seq.{length-take-le}
+use lib.Seq.{length-take-le, take-length}
 use Rattle.endpoint.specs.Taken.{shorter}
 use Rattle.endpoint.proofs.Laws.Taking.{into_short, into_done, into_fits}
 use borrow.Author.Rules.{rules}
@@ -18,4 +18,5 @@ pub returns : goal.returns
 returns c =
     let a = c.args in
     into_done a.self a.out.now a.into.now (rw c.least-room.ensures at (sym c.is_short.ensures ∙ c.if-is_short.false)) c.filled-count.result
-    (rw c.least-room.ensures at c.filled-count.ensures) _ c.copy_from_slice.ensures.after
+    (rw c.least-room.ensures at c.filled-count.ensures) _
+    (rw (c.copy_from_slice.ensures.after, take-length, length-take-le c.filled-count.result a.out.now (omega (arith, into_fits a.self a.out.now a.into.now c.filled-count.result (rw c.least-room.ensures at c.filled-count.ensures)))))

@@ -1,8 +1,6 @@
-use mathlib.Core.List.{[], ◌∷◌}
-use mathlib.Core.Path.{refl}
-use Rattle.codec.proofs.KindNumbers.{kind_other}
-use borrow.Author.Rules.{rules}
+-- Where the body is no InputAck, its kind is another.
+use Rattle.endpoint.proofs.Laws.Message.OtherKinds.{other_than_ack}
 use Rattle.endpoint.proofs.message.body.ack_of.Goals as goal
 
 pub returns-in_default : goal.returns-in_default
-returns-in_default c = λ h. absurd (kind_other c.args.body 3 _ (0 ∷ 1 ∷ 2 ∷ 4 ∷ 5 ∷ 6 ∷ 7 ∷ []) refl h tt c.in_default.not-InputAck)
+returns-in_default c = λ h. absurd (other_than_ack c.args.body c.in_default.not-InputAck h)
