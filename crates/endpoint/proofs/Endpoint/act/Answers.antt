@@ -1,18 +1,11 @@
 -- `act` tests clocks and count, and does what its phase brings.
 use mathlib.Core.Bool.{false}
 use mathlib.Core.Logic.{inl, inr}
-use mathlib.Core.Path.{◌≡◌, sym, ◌∙◌, ap, subst, subst₂}
-use native.Mathlib.Omega.{arith}
-use Prim.Native.Nat.{◌≤◌}
-use lib.ListN.{length}
+use mathlib.Core.Path.{◌≡◌, sym, ◌∙◌, subst, subst₂}
 use borrow.Author.Tests.{not-true, not-false}
-use Rattle.base.proofs.Arrays.{view_le}
 use Rattle.timers.specs.Timers.{bad_clocks}
-use Rattle.events.specs.Events.{held_events}
-use Rattle.endpoint.proofs.Laws.Lengths.{entries_long, acked_long, no_event_fits}
-use Rattle.endpoint.proofs.Laws.Act.Batch.{size_if_most}
-use Rattle.endpoint.proofs.Laws.Act.Ways.{Resent, Packed, Announced, resent_none, resent_some, packed_none, size_is, packed_some, announced_full, announced_fits, announced_none, announced_some, running_unannounced, running_full, running-done, synchronizing_idle, synchronizing_full, synchronizing_done, disconnected_idle, disconnected_over, act_clocks, act_count, act_synchronizing, act_running, act_disconnected, act_idle}
-use borrow.Author.Rules.{rules}
+use Rattle.endpoint.proofs.Laws.Lengths.{acked_long, no_event_fits}
+use Rattle.endpoint.proofs.Laws.Act.Ways.{Resent, Packed, Announced, resent_none, resent_some, packed_none, size_is, packed_some, announced_full, announced_fits, announced_none, announced_some, running_unannounced, running_full, running-done, synchronizing_idle, synchronizing_full, synchronizing_done, disconnected_idle, disconnected_over, act_synchronizing, act_running, act_disconnected, act_idle}
 use Rattle.endpoint.proofs.Endpoint.act.Goals as goal
 use Rattle.endpoint.proofs.Endpoint.act.Goals.{Joined-announced-gt0, Joined-sends, then-sends+else-buffer_full, else-sends, then-due, else-due, then-announced-gt0, else-announced-gt0}
 
@@ -69,14 +62,14 @@ packed c =
     let a = c.args in
     let d = c.due_at-due.result in
     elim c.if-sends.branch [
-      then-sends+else-buffer_full w ↦
-        let width = w.sending_width-width.result in
-        let resent : Resent a.self a.out.now a.statuses a.now a.epoch d width w.if-due.self w.if-due.out = elim w.if-due.branch [
-          then-due v ↦ subst₂ (Resent a.self a.out.now a.statuses a.now a.epoch d width) (sym v.self-is) (sym v.out-is) (resent_some a.self a.out.now a.statuses a.now a.epoch d width v.if-due.true v.newest.result v.newest.ensures v.pending_input-queued.result _ v.pending_input-queued.ensures)
-        | else-due v ↦ subst₂ (Resent a.self a.out.now a.statuses a.now a.epoch d width) (sym v.self-is) (sym v.out-is) (resent_none a.self a.out.now a.statuses a.now a.epoch d width v.if-due.false)
-        ] in
-        subst₂ (Packed a.self a.out.now a.statuses a.now a.epoch d) (sym w.self-is) (sym w.out-is) (packed_some a.self a.out.now a.statuses a.now a.epoch d width w.size-size.result w.buffer_full.result w.sending_width-width.ensures (acked_long a.self _ c.well_formed.0) w.size-size.ensures w.buffer_full.ensures w.if-due.self w.if-due.out resent w.write_reports.result _ w.write_reports.ensures w.if-buffer_full.false)
-    | else-sends w ↦ subst₂ (Packed a.self a.out.now a.statuses a.now a.epoch d) (sym w.self-is) (sym w.out-is) (packed_none a.self a.out.now a.statuses a.now a.epoch d (sym c.sends.ensures ∙ w.if-sends.false))
+      | then-sends+else-buffer_full w ↦
+          let width = w.sending_width-width.result in
+          let resent : Resent a.self a.out.now a.statuses a.now a.epoch d width w.if-due.self w.if-due.out = elim w.if-due.branch [
+            | then-due v ↦ subst₂ (Resent a.self a.out.now a.statuses a.now a.epoch d width) (sym v.self-is) (sym v.out-is) (resent_some a.self a.out.now a.statuses a.now a.epoch d width v.if-due.true v.newest.result v.newest.ensures v.pending_input-queued.result _ v.pending_input-queued.ensures)
+            | else-due v ↦ subst₂ (Resent a.self a.out.now a.statuses a.now a.epoch d width) (sym v.self-is) (sym v.out-is) (resent_none a.self a.out.now a.statuses a.now a.epoch d width v.if-due.false)
+          ] in
+          subst₂ (Packed a.self a.out.now a.statuses a.now a.epoch d) (sym w.self-is) (sym w.out-is) (packed_some a.self a.out.now a.statuses a.now a.epoch d width w.size-size.result w.buffer_full.result w.sending_width-width.ensures (acked_long a.self _ c.well_formed.0) w.size-size.ensures w.buffer_full.ensures w.if-due.self w.if-due.out resent w.write_reports.result _ w.write_reports.ensures w.if-buffer_full.false)
+      | else-sends w ↦ subst₂ (Packed a.self a.out.now a.statuses a.now a.epoch d) (sym w.self-is) (sym w.out-is) (packed_none a.self a.out.now a.statuses a.now a.epoch d (sym c.sends.ensures ∙ w.if-sends.false))
     ]
 
 -- and announced
@@ -87,8 +80,8 @@ announced c =
     let n = c.count in
     let m = c.event_count-announced in
     elim c.if-announced-gt0.branch [
-      then-announced-gt0 w ↦ subst (Announced a.self a.out.now a.statuses a.now a.epoch d c.if-sends.self) (sym w.self-is) (announced_some a.self a.out.now a.statuses a.now a.epoch d n.result m.result n.ensures m.ensures c.if-sends.self (packed c.before).0 c.if-count-announced-gt-MOST_EVENTS.false w.announce-pushed.result w.announce-pushed.ensures)
-    | else-announced-gt0 w ↦ subst (Announced a.self a.out.now a.statuses a.now a.epoch d c.if-sends.self) (sym w.self-is) (announced_none a.self a.out.now a.statuses a.now a.epoch d n.result m.result n.ensures m.ensures c.if-sends.self (packed c.before).0 w.if-announced-gt0.false)
+      | then-announced-gt0 w ↦ subst (Announced a.self a.out.now a.statuses a.now a.epoch d c.if-sends.self) (sym w.self-is) (announced_some a.self a.out.now a.statuses a.now a.epoch d n.result m.result n.ensures m.ensures c.if-sends.self (packed c.before).0 c.if-count-announced-gt-MOST_EVENTS.false w.announce-pushed.result w.announce-pushed.ensures)
+      | else-announced-gt0 w ↦ subst (Announced a.self a.out.now a.statuses a.now a.epoch d c.if-sends.self) (sym w.self-is) (announced_none a.self a.out.now a.statuses a.now a.epoch d n.result m.result n.ensures m.ensures c.if-sends.self (packed c.before).0 w.if-announced-gt0.false)
     ]
 
 pub returns-in-Running : goal.returns-in-Running

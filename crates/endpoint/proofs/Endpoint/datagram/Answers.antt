@@ -1,4 +1,3 @@
-use borrow.Author.Rules.{rules}
 use Rattle.endpoint.specs.Inside.Arrival.{arrival_call}
 use Rattle.endpoint.proofs.Endpoint.datagram.Goals as goal
 

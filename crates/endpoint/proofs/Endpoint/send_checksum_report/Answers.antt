@@ -1,8 +1,7 @@
-use borrow.Author.Tests.{not-true, not-false}
+use borrow.Author.Tests.{not-false}
 use mathlib.Core.Path.{sym, ◌∙◌}
 use Rattle.endpoint.proofs.Laws.Lengths.{no_event_fits}
-use Rattle.endpoint.proofs.Laws.Reports.{send_checksum_clock, send_checksum_full, send_checksum_done}
-use borrow.Author.Rules.{rules}
+use Rattle.endpoint.proofs.Laws.Reports.{send_checksum_done}
 use Rattle.endpoint.proofs.Endpoint.send_checksum_report.Goals as goal
 
 pub returns : goal.returns

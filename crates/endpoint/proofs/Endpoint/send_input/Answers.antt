@@ -2,9 +2,7 @@ use borrow.Author.Tests.{not-true, not-false, le-leb, lt-leb}
 use mathlib.Core.Path.{sym, ◌∙◌, ap}
 use Rattle.endpoint_rules.specs.Seen.{is_running}
 use Rattle.endpoint.proofs.Laws.Lengths.{no_event_fits, acked_long}
-use Rattle.endpoint.proofs.Laws.Phases.{not_running}
-use Rattle.endpoint.proofs.Laws.Sending.{Announcing, announces_one, announces_none, send_clock, send_length, send_ignored, send_frame, send_crowded, send_unannounced, send_choked, send_done}
-use borrow.Author.Rules.{rules}
+use Rattle.endpoint.proofs.Laws.Sending.{Announcing, announces_one, announces_none, send_crowded, send_unannounced, send_choked, send_done}
 use Rattle.endpoint.proofs.Endpoint.send_input.Goals as goal
 use Rattle.endpoint.proofs.Endpoint.send_input.Goals.{then-announces, else-announces}
 
@@ -35,9 +33,9 @@ pub returns : goal.returns
 returns c =
     let a = c.args in
     let announcing : Announcing a.self c.count-announces.result c.if-announces.self = elim c.if-announces.branch [
-      then-announces w ↦
-        announces_one a.self c.count-announces.result c.count.result c.count.ensures w.push-pushed-then-announces.result (sym c.events_full.ensures ∙ c.if-events_full.false) (le-leb _ _ w.if-announces.true) w.push-pushed-then-announces.ensures c.if-announces.self w.self-is
-    | else-announces w ↦ announces_none a.self c.count-announces.result (lt-leb _ _ w.if-announces.false) (no_event_fits a.self _ c.well_formed.0) c.if-announces.self w.self-is
+      | then-announces w ↦
+          announces_one a.self c.count-announces.result c.count.result c.count.ensures w.push-pushed-then-announces.result (sym c.events_full.ensures ∙ c.if-events_full.false) (le-leb _ _ w.if-announces.true) w.push-pushed-then-announces.ensures c.if-announces.self w.self-is
+      | else-announces w ↦ announces_none a.self c.count-announces.result (lt-leb _ _ w.if-announces.false) (no_event_fits a.self _ c.well_formed.0) c.if-announces.self w.self-is
     ] in
     send_done a.self a.frame a.bytes.now a.statuses a.now a.out.now (sym c.is_bad.ensures ∙ c.if-is_bad.false) c.sending_width-width.result c.sending_width-width.ensures
     c.if-statuses-self.false (ap is_running c.in-Running.is) c.frame_at-padded.result c.frame_at-padded.ensures c.push-pushed.result c.push-pushed.ensures

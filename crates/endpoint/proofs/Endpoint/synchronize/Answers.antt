@@ -1,13 +1,9 @@
 use borrow.Author.Tests.{not-true, not-false}
-use mathlib.Core.Logic.{⊎_elim}
 use mathlib.Core.Bool.{Bool, false, ◌||◌}
 use mathlib.Core.Path.{◌≡◌, sym, ◌∙◌, ap}
-use Rattle.timers.specs.Timers.{bad_clocks}
 use Rattle.endpoint_rules.specs.Seen.{is_initializing}
-use Rattle.endpoint.proofs.Laws.Phases.{not_initializing}
 use Rattle.endpoint.proofs.Laws.Lengths.{no_event_fits}
-use Rattle.endpoint.proofs.Laws.Handshake.{synchronize_clocks, synchronize_state, synchronize_full, synchronize_done}
-use borrow.Author.Rules.{rules}
+use Rattle.endpoint.proofs.Laws.Handshake.{synchronize_full, synchronize_done}
 use Rattle.endpoint.proofs.Endpoint.synchronize.Goals as goal
 
 none_bad : (x y : Bool) → x ≡ false → y ≡ false → x || y ≡ false

@@ -1,4 +1,3 @@
-use borrow.Author.Rules.{rules}
 use Rattle.endpoint.proofs.Laws.Taking.{takes_events}
 use Rattle.endpoint.proofs.Endpoint.take_events.Goals as goal
 

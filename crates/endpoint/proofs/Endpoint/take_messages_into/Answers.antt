@@ -1,12 +1,8 @@
 -- `take_messages_into` copies the filled part to the front of the other buffer, and empties the queue.
 use mathlib.Core.Path.{sym, ◌∙◌}
-use Prim.Native.Nat.{◌≤◌}
 use native.Mathlib.Omega.{arith}
-use lib.ListN.{length-take}
 use lib.Seq.{length-take-le, take-length}
-use Rattle.endpoint.specs.Taken.{shorter}
 use Rattle.endpoint.proofs.Laws.Taking.{into_short, into_done, into_fits}
-use borrow.Author.Rules.{rules}
 use Rattle.endpoint.proofs.Endpoint.take_messages_into.Goals as goal
 
 pub returns-then-is_short : goal.returns-then-is_short

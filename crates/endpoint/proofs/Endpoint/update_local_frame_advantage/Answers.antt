@@ -1,9 +1,6 @@
-use borrow.Author.Tests.{eqb-true}
 use mathlib.Core.Path.{sym, ◌∙◌, ap}
-use mathlib.Core.Logic.{⊎_elim}
 use Rattle.quality.specs.Advantage.{shown_advantage}
-use Rattle.endpoint.proofs.Laws.Reports.{local_unknown, newest_unknown, advantage-overflows, advantage-shown}
-use borrow.Author.Rules.{rules}
+use Rattle.endpoint.proofs.Laws.Reports.{advantage-overflows, advantage-shown}
 use Rattle.endpoint.proofs.Endpoint.update_local_frame_advantage.Goals as goal
 
 pub returns-in_default : goal.returns-in_default

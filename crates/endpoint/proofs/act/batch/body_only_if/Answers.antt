@@ -1,7 +1,6 @@
 -- `body_only_if` writes one message or none.
 use Rattle.codec.specs.Read.{body_only}
 use Rattle.endpoint.proofs.Laws.Act.Batch.{written_none, written_one}
-use borrow.Author.Rules.{rules}
 use Rattle.endpoint.proofs.act.batch.body_only_if.Goals as goal
 
 pub returns-then-due : goal.returns-then-due

@@ -1,7 +1,6 @@
 -- `write_reports` writes twice, the second time where the first message ends.
 use Rattle.endpoint.specs.Inside.Batch.{due_reports}
 use Rattle.endpoint.proofs.Laws.Act.Batch.{written_then}
-use borrow.Author.Rules.{rules}
 use Rattle.endpoint.proofs.act.batch.write_reports.Goals as goal
 
 pub returns : goal.returns

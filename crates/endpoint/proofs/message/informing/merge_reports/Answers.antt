@@ -1,16 +1,10 @@
 -- `merge_reports` merges one report after another. The invariant: what is held is what was held, merged with the first i reports, and as many.
-use borrow.Author.Rules.{rules}
-use borrow.Author.Tests.{ltb-true, ltb-false}
-use mathlib.Core.Path.{◌≡◌, refl, sym, ◌∙◌}
-use Prim.Native.Nat.{◌-◌, ◌≤◌}
+use borrow.Author.Tests.{ltb-true}
+use mathlib.Core.Path.{sym, ◌∙◌}
 use native.Mathlib.Omega.{arith}
-use lib.ListN.{length, take, length-take}
-use Rattle.base.proofs.Arrays.{unmap}
-use Rattle.codec.specs.Message.{report_list}
-use Rattle.status.specs.Statuses.{held_statuses, merged_all}
-use Rattle.status.proofs.MergeAll.{all_none}
-use Rattle.endpoint.proofs.Laws.Message.Informing.{reports_turn, reports_end}
-use Rattle.endpoint.specs.Inside.Informing.{statuses_of}
+use lib.ListN.{length-take}
+use Rattle.status.specs.Statuses.{held_statuses}
+use Rattle.endpoint.proofs.Laws.Message.Informing.{reports_turn}
 use Rattle.endpoint.proofs.message.informing.merge_reports.Goals as goal
 
 pub loop-i-preserved : goal.loop-i-preserved

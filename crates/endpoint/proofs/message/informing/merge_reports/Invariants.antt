@@ -1,21 +1,13 @@
-use borrow.Author.Rules.{rules}
-use borrow.Author.Tests.{ltb-true, ltb-false}
-use mathlib.Core.Path.{◌≡◌, refl, sym, ◌∙◌}
+use mathlib.Core.Path.{◌≡◌}
 use Prim.Native.Nat.{◌-◌, ◌≤◌}
-use native.Mathlib.Omega.{arith}
-use lib.ListN.{length, take, length-take}
-use Rattle.base.proofs.Arrays.{unmap}
+use lib.ListN.{length, take}
 use Rattle.codec.specs.Message.{report_list}
 use Rattle.status.specs.Statuses.{held_statuses, merged_all}
-use Rattle.status.proofs.MergeAll.{all_none}
-use Rattle.endpoint.proofs.Laws.Message.Informing.{reports_turn, reports_end}
 use Rattle.endpoint.specs.Inside.Informing.{statuses_of}
-use Rattle.std.proofs.Common.{◌-◌, ◌≡◌, true, ◌&&◌, ℕ, ◌+◌, ◌*◌, ◌<◌, ◌≤◌, length}
-use Rattle.base.specs.Pick.{pick}
-use Rattle.status.specs.Statuses.{held_statuses, HeldAs, merged_all}
+use Rattle.std.proofs.Common.{◌-◌, ◌≡◌, ◌≤◌, length}
+use Rattle.status.specs.Statuses.{held_statuses, merged_all}
 use Rattle.codec.specs.Message.{report_list}
-use Rattle.endpoint_rules.specs.Receiving.{announces_by}
-use Rattle.endpoint.specs.Inside.Informing.{statuses_of, InformedAs}
+use Rattle.endpoint.specs.Inside.Informing.{statuses_of}
 use Rattle.endpoint.proofs.message.informing.merge_reports.Given as goal
 
 abbrev pub invariant-loop-i : goal.invariant-loop-i
