@@ -70,6 +70,7 @@ fn frames_to_advance(limits: Limits, behind: u32) -> u32
 
 impl SpectatorSession {
     // 14, then 6.
+    #[tactic(auto, unfolding(crate::specs::Session::seen))]
     fn advance_refusal(self) -> Answer
         ensures { number_of result ≡ first_of (advance_tests (seen self)) }
     {
@@ -97,6 +98,7 @@ impl SpectatorSession {
         }
     }
 
+    #[tactic(auto, using(crate::proofs::Laws::Advancing::advances, crate::proofs::Laws::Advancing::counted_as, crate::proofs::Laws::Advancing::frames_most, crate::proofs::Laws::Advancing::frames_within, crate::proofs::Laws::Advancing::given_as, crate::proofs::Laws::Advancing::next_fits, answer::proofs::Done::not_done, crate::proofs::Laws::Advancing::refused_as, crate::proofs::Laws::Advancing::refused_early, crate::proofs::Laws::Advancing::refused_late))]
     pub fn advance_frame(self) -> Advanced
         ensures { AdvancedAs self result }
     {

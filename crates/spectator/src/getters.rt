@@ -23,6 +23,7 @@ pub struct TakenEvents {
 }
 
 impl SpectatorSession {
+    #[tactic(auto, using(crate::proofs::Laws::Getters::shows_state))]
     pub fn current_state(self) -> SessionState
         ensures { Value.state result ≡ value_of Call.current_state (seen self) }
     {
@@ -30,6 +31,7 @@ impl SpectatorSession {
     }
 
     // How many frames are received and not advanced yet.
+    #[tactic(auto, using(crate::proofs::Laws::Getters::behind_overflow))]
     pub fn frames_behind_host(self) -> FramesBehind
         ensures { shown_behind result ≡ shown Call.frames_behind_host (seen self) }
     {
@@ -53,12 +55,14 @@ impl SpectatorSession {
         }
     }
 
+    #[tactic(auto, using(crate::proofs::Laws::Getters::shows_frame))]
     pub fn current_frame(self) -> u32
         ensures { Value.frame result ≡ value_of Call.current_frame (seen self) }
     {
         self.current_frame
     }
 
+    #[tactic(auto, using(crate::proofs::Laws::Getters::shows_players))]
     pub fn num_players(self) -> u32
         ensures { Value.count result ≡ value_of Call.num_players (seen self) }
     {

@@ -76,6 +76,7 @@ impl SpectatorSession {
     }
 
     // The queue is emptied, where the buffer holds what is queued. Whoever wants the messages asks `messages` before.
+    #[tactic(auto, using(crate::proofs::Laws::Hosting::host_done), unfolding(endpoint_rules::specs::Step::step, crate::specs::Session::seen, spectator_rules::specs::Step::step))]
     pub fn take_messages(self, out: &[u8]) -> Ended
         ensures { DoneAs self (step (Call.take_messages (length out.now)) (seen self)) result }
     {
@@ -84,6 +85,7 @@ impl SpectatorSession {
     }
 
     // The filled part of the buffer, to be asked for before `take_messages` empties the queue: empty where that refuses, and in Shutdown.
+    #[tactic(auto, unfolding(crate::specs::Session::seen))]
     pub fn messages(self, out: &[u8]) -> &[u8]
         ensures { result.now ≡ take (handed_back (length out.now) (seen self).host) out.now }
     {
@@ -104,6 +106,7 @@ impl SpectatorSession {
         }
     }
 
+    #[tactic(auto, using(crate::proofs::Laws::Getters::shows_stats))]
     pub fn network_stats(self, epoch: u64) -> StatsResult
         ensures { shown_stats result ≡ shown (Call.network_stats epoch) (seen self) }
     {

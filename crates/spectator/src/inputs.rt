@@ -39,7 +39,7 @@ fn place_of(slots: u32, frame: u32, player: u32) -> usize
 
 impl Inputs {
     // Every place blank, of at most 64 slots.
-    #[tactic(auto, unfolding(spectator_rules::specs::Inputs::blank_input, spectator_rules::specs::Inputs::fresh_inputs, crate::specs::Stores::inputs_of))]
+    #[tactic(auto, using(crate::proofs::Laws::Creation::makes))]
     pub(crate) fn new(slots: u32) -> Inputs
         ensures { InputsAs (fresh_inputs slots) result }
     {

@@ -70,6 +70,7 @@ impl SpectatorSession {
         }
     }
 
+    #[tactic(auto, unfolding(crate::specs::Session::seen, endpoint::specs::Endpoint::seen))]
     fn with_parts(self, parts: Parts) -> SpectatorSession
         ensures { (seen result ≡ assembled (seen self) parts) × (PartsCounted parts → Counted result) × SameTerms self.host result.host }
     {
