@@ -1,5 +1,5 @@
 -- A message of the code's types has every field in its range. `Is` says that a value is what a machine value of its type means; every function knows that of its
--- parameters (`c.good`) and of what a call hands back.
+-- parameters (`c.type_inv`) and of what a call hands back.
 use mathlib.Core.Bool.{Bool, true, false}
 use mathlib.Core.List.{List, [], ◌∷◌}
 use Prim.Native.Nat.{ℕ, zero, suc, ◌^◌, ◌<◌}
