@@ -124,6 +124,7 @@ impl SpectatorSession {
     }
 
     // The host's old events are put aside while it acts, so that there is room for its new ones.
+    #[tactic(auto, using(crate::proofs::Laws::Polling::act_done_polls, crate::proofs::Laws::Polling::act_refuses, answer::proofs::Done::other_than_done))]
     pub fn poll_remote_clients(self, now: u64, epoch: u64, nonce: u32, out: &mut [u8]) -> Polled
         ensures { PolledAs self (step (Call.poll_remote_clients now epoch nonce (length out.old)) (seen self)) (polled_part now epoch nonce (length out.old) (seen self)) out.old result out.new }
     {
