@@ -2,7 +2,6 @@
 // computed from them. The calls themselves are the crate `endpoint`.
 #![tactic(auto)]
 
-
 // The crate's ProtocolState.
 #[derive(Clone, Copy)]
 pub enum Phase {
