@@ -33,7 +33,6 @@ impl SpectatorSession {
     }
 
     // The handshake with the host begins.
-    #[tactic(auto, using(crate::proofs::Laws::Hosting::host_did), unfolding(endpoint_rules::specs::Step::step, crate::specs::Session::seen, spectator_rules::specs::Step::step))]
     pub fn synchronize(self, now: u64, epoch: u64, nonce: u32, out: &mut [u8]) -> Ended
         ensures { DidAs self (step (Call.synchronize now epoch nonce (length out.old)) (seen self)) out.old result out.new }
     {
@@ -42,7 +41,6 @@ impl SpectatorSession {
     }
 
     // Another peer's message is ignored.
-    #[tactic(auto, using(crate::proofs::Laws::Hosting::host_did), unfolding(endpoint_rules::specs::Step::step, crate::specs::Session::seen, spectator_rules::specs::Step::step))]
     pub fn message(
         self,
         from: u32,
@@ -62,7 +60,6 @@ impl SpectatorSession {
     }
 
     // The reader's refusal comes first.
-    #[tactic(auto, using(crate::proofs::Laws::Hosting::host_did), unfolding(endpoint_rules::specs::Step::step, crate::specs::Session::seen, spectator_rules::specs::Step::step))]
     pub fn datagram(
         self,
         from: u32,
@@ -96,7 +93,6 @@ impl SpectatorSession {
     }
 
     // `messages` and `take_messages` in one: the filled part of `out` is copied to the front of `into`. Refused where either is shorter than what is queued.
-    #[tactic(auto, using(crate::proofs::Laws::Hosting::host_done), unfolding(endpoint_rules::specs::Step::step, crate::specs::Session::seen, spectator_rules::specs::Step::step))]
     pub fn take_messages_into(self, out: &[u8], into: &mut [u8]) -> TakenMessages
         ensures { TakenIntoAs self out.now into.old result into.new }
     {
