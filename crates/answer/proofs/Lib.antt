@@ -1,2 +1,3 @@
 pub mod Done
+pub mod Number
 pub mod Settled

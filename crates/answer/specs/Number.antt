@@ -1,6 +1,6 @@
--- The number of each answer (N-1 to N-18), and that the number determines the answer.
-use Rattle.std.specs.Prelude.{List, [], ◌∷◌, ◌≡◌, refl, ℕ, zero, suc, ◌+◌, ◌≤◌, ◌<◌, get_or}
-use Rattle.std.proofs.Common.{sym, ◌∙◌, ap, zero-add, add-zero, arith}
+-- The number of each answer (N-1 to N-18), and the answer of each number; that the number determines the answer stands in proofs/Number.antt.
+use Rattle.std.specs.Prelude.{List, [], ◌∷◌, ◌≡◌, ℕ, zero, suc, ◌+◌, ◌≤◌, ◌<◌, get_or}
+use Rattle.std.proofs.Common.{sym, ◌∙◌, zero-add, add-zero, arith}
 use Rattle.std.proofs.Math.ListN.{get_or-map}
 use Rattle.answer.specs.declared.Answer.{Answer}
 use Rattle.answer.specs.declared.Answer.TheVariants.{Done, BadSetup, WrongState, BadLength, BadFrame, Full, Overflow, BadHandle, BadClock, Short, BadKind, BadBool, TooLong, Extra, NotSynchronized, NotEnoughData, PredictionThreshold, SpectatorTooFarBehind}
@@ -33,31 +33,7 @@ answers =
 abbrev pub answer_of : ℕ → Answer
 answer_of n = get_or answers n SpectatorTooFarBehind
 
--- two answers with one number are equal
-pub number_determines : (a b : Answer) → number_of a ≡ number_of b → a ≡ b
-number_determines a b e = sym (back a) ∙ ap answer_of e ∙ back b
-  where
-    back : (a : Answer) → answer_of (number_of a) ≡ a
-    back Done = refl
-    back BadSetup = refl
-    back WrongState = refl
-    back BadLength = refl
-    back BadFrame = refl
-    back Full = refl
-    back Overflow = refl
-    back BadHandle = refl
-    back BadClock = refl
-    back Short = refl
-    back BadKind = refl
-    back BadBool = refl
-    back TooLong = refl
-    back Extra = refl
-    back NotSynchronized = refl
-    back NotEnoughData = refl
-    back PredictionThreshold = refl
-    back SpectatorTooFarBehind = refl
-
--- and every number up to 17 is its answer's
+-- every number up to 17 is its answer's
 abbrev from : (first count : ℕ) → List ℕ
 from first zero = []
 from first (suc count) = first ∷ from (suc first) count

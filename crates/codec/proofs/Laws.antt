@@ -12,7 +12,8 @@ use Rattle.base.specs.Little.{Bytes, le}
 use Rattle.base.specs.Lay.{no_room, laid_at}
 use Rattle.base.proofs.Little.{le_pieces}
 use Rattle.base.proofs.Lay.{laid_join}
-use Rattle.answer.specs.Number.{number_of, number_determines}
+use Rattle.answer.specs.Number.{number_of}
+use Rattle.answer.proofs.Number.{number_determines}
 use Rattle.answer.specs.declared.Answer.TheVariants.{Done}
 use Rattle.ceilings.specs.Ceilings.{most_players, most_payload}
 use Rattle.codec.specs.Sizes.{fixed_size}

@@ -7,7 +7,7 @@ use Prim.Native.Nat.{ℕ}
 use native.Mathlib.Omega.{arith}
 use Rattle.base.specs.Little.{unle}
 use Rattle.base.specs.Pick.{pick}
-use Rattle.answer.specs.Number.{number_determines}
+use Rattle.answer.proofs.Number.{number_determines}
 use Rattle.answer.specs.declared.Answer.TheVariants.{Done}
 use Rattle.codec.specs.Message.{Wire, kind_of, is_input, report_list, meant}
 use Rattle.codec.specs.Read.{part, number, kinds, message, datagram, wire_in}

@@ -2,7 +2,7 @@
 use mathlib.Core.List.{List, [], ◌∷◌}
 use mathlib.Core.Path.{◌≡◌, sym, ◌∙◌}
 use Prim.Native.Nat.{ℕ}
-use Rattle.answer.specs.Number.{number_determines}
+use Rattle.answer.proofs.Number.{number_determines}
 use Rattle.text.specs.Ascii.{ascii}
 use Rattle.text.specs.Page.{page, written_all}
 use Rattle.message_line.specs.declared.Laid.{Laid}
