@@ -6,7 +6,8 @@ use Prim.Native.Nat.{ℕ, min}
 use lib.ListN.{replicate}
 use Rattle.ceilings.specs.Ceilings.{most_players}
 use Rattle.frame.specs.Bias.{null_frame}
-use Rattle.answer.specs.Number.{number_of, number_determines}
+use Rattle.answer.specs.Number.{number_of}
+use Rattle.answer.proofs.Number.{number_determines}
 use Rattle.answer.specs.declared.Answer.{Answer}
 use Rattle.answer.specs.declared.Answer.TheVariants.{Done, BadSetup, BadClock}
 use Rattle.packing.specs.Pad.{zeros}

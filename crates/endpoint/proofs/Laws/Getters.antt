@@ -6,7 +6,7 @@ use Prim.Native.Nat.{ℕ, ◌-◌, ◌≤◌, ◌<◌}
 use lib.Dec.{ltb, eqb}
 use lib.ListN.{length, take, get_or}
 use Rattle.base.proofs.Arrays.{take_count}
-use Rattle.answer.specs.Number.{number_determines}
+use Rattle.answer.proofs.Number.{number_determines}
 use Rattle.answer.specs.declared.Answer.TheVariants.{BadClock, NotSynchronized, NotEnoughData}
 use Rattle.pending.specs.Pending.{waiting}
 use Rattle.history.specs.History.{received, newest_of}

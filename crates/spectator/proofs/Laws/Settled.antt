@@ -7,7 +7,7 @@ use native.Mathlib.Decide.{ℕ_discrete}
 use lib.ListN.{length, take, get_or}
 use Rattle.base.specs.Lay.{laid_at}
 use Rattle.base.proofs.Settled.{settled}
-use Rattle.answer.specs.Number.{number_determines}
+use Rattle.answer.proofs.Number.{number_determines}
 use Rattle.codec.specs.Message.{Wire}
 use Rattle.endpoint_rules.specs.Value.{handed_back}
 use Rattle.endpoint.specs.Endpoint.{SameTerms}
