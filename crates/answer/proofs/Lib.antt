@@ -1,3 +1,3 @@
-pub mod Done
 pub mod Number
+pub mod Refused
 pub mod Settled

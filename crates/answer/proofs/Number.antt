@@ -1,29 +1,28 @@
 -- An answer back from its number, so that the number determines the answer (N-1 to N-18).
-use Rattle.std.proofs.Common.{◌≡◌, refl, sym, ◌∙◌, ap}
-use Rattle.answer.specs.declared.Answer.{Answer}
-use Rattle.answer.specs.declared.Answer.TheVariants.{Done, BadSetup, WrongState, BadLength, BadFrame, Full, Overflow, BadHandle, BadClock, Short, BadKind, BadBool, TooLong, Extra, NotSynchronized, NotEnoughData, PredictionThreshold, SpectatorTooFarBehind}
-use Rattle.answer.specs.Number.{number_of, answer_of}
+use Rattle.std.proofs.Common.{◌≡◌, refl, sym, ◌∙◌, ap, Ok, Err}
+use Rattle.answer.specs.declared.Refusal.TheVariants.{BadSetup, WrongState, BadLength, BadFrame, Full, Overflow, BadHandle, BadClock, Short, BadKind, BadBool, TooLong, Extra, NotSynchronized, NotEnoughData, PredictionThreshold, SpectatorTooFarBehind}
+use Rattle.answer.specs.Number.{Answered, number_of, answer_of}
 
-back : (a : Answer) → answer_of (number_of a) ≡ a
-back Done = refl
-back BadSetup = refl
-back WrongState = refl
-back BadLength = refl
-back BadFrame = refl
-back Full = refl
-back Overflow = refl
-back BadHandle = refl
-back BadClock = refl
-back Short = refl
-back BadKind = refl
-back BadBool = refl
-back TooLong = refl
-back Extra = refl
-back NotSynchronized = refl
-back NotEnoughData = refl
-back PredictionThreshold = refl
-back SpectatorTooFarBehind = refl
+back : (a : Answered) → answer_of (number_of a) ≡ a
+back (Ok u) = refl
+back (Err BadSetup) = refl
+back (Err WrongState) = refl
+back (Err BadLength) = refl
+back (Err BadFrame) = refl
+back (Err Full) = refl
+back (Err Overflow) = refl
+back (Err BadHandle) = refl
+back (Err BadClock) = refl
+back (Err Short) = refl
+back (Err BadKind) = refl
+back (Err BadBool) = refl
+back (Err TooLong) = refl
+back (Err Extra) = refl
+back (Err NotSynchronized) = refl
+back (Err NotEnoughData) = refl
+back (Err PredictionThreshold) = refl
+back (Err SpectatorTooFarBehind) = refl
 
 -- two answers with one number are equal
-pub number_determines : (a b : Answer) → number_of a ≡ number_of b → a ≡ b
+pub number_determines : (a b : Answered) → number_of a ≡ number_of b → a ≡ b
 number_determines a b e = sym (back a) ∙ ap answer_of e ∙ back b

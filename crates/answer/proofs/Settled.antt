@@ -1,9 +1,11 @@
 -- Two answers that a contract allows are equal, by name for each public function.
-use mathlib.Core.Path.{◌≡◌}
-use Prim.Native.Nat.{ℕ}
+use Rattle.std.proofs.Common.{◌≡◌, ℕ}
 use Rattle.base.proofs.Settled.{settled}
-use Rattle.answer.specs.Number.{number_of}
-use Rattle.answer.specs.declared.Answer.{Answer}
+use Rattle.answer.specs.Number.{Answered, number_of, refusal_number}
+use Rattle.answer.specs.declared.Refusal.{Refusal}
 
-pub number_settled : (a : Answer) (r s : ℕ) → r ≡ number_of a → s ≡ number_of a → r ≡ s
-number_settled a = settled (λ r. r) (number_of a)
+pub number_of_settled : (a : Answered) (r s : ℕ) → r ≡ number_of a → s ≡ number_of a → r ≡ s
+number_of_settled a = settled (λ r. r) (number_of a)
+
+pub number_settled : (a : Refusal) (r s : ℕ) → r ≡ refusal_number a → s ≡ refusal_number a → r ≡ s
+number_settled a = settled (λ r. r) (refusal_number a)

@@ -1,13 +1,12 @@
-// What a call answers: done, or one of the refusals N-1 to N-17. One enum for every crate, so that a
+// What a call answers: done, or one of the refusals N-1 to N-17. One error enum for every crate, so that a
 // caller reads one table.
 #![tactic(auto)]
 
 ghost use Rattle.std.specs.Prelude.{◌≡◌};
-ghost use Rattle.answer.specs.Number.{number_of};
+ghost use Rattle.answer.specs.Number.{number_of, refusal_number};
 
-#[derive(Clone, Copy)]
-pub enum Answer {
-    Done,
+#[derive(Clone, Copy, Debug, PartialEq, Eq)]
+pub enum Refusal {
     BadSetup,
     WrongState,
     BadLength,
@@ -27,30 +26,41 @@ pub enum Answer {
     SpectatorTooFarBehind,
 }
 
-impl Answer {
-    // The number of N-1 to N-17, 0 for done.
+pub type Answer = Result<(), Refusal>;
+
+// 0 for done, else the refusal's number.
+pub fn number_of(answer: Answer) -> u32
+    ensures { result ≡ number_of answer }
+{
+    match answer {
+        Ok(()) => 0,
+        Err(refusal) => refusal.number(),
+    }
+}
+
+impl Refusal {
+    // The number of N-1 to N-17.
     pub fn number(self) -> u32
-        ensures { result ≡ number_of self }
+        ensures { result ≡ refusal_number self }
     {
         match self {
-            Answer::Done => 0,
-            Answer::BadSetup => 1,
-            Answer::WrongState => 2,
-            Answer::BadLength => 3,
-            Answer::BadFrame => 4,
-            Answer::Full => 5,
-            Answer::Overflow => 6,
-            Answer::BadHandle => 7,
-            Answer::BadClock => 8,
-            Answer::Short => 9,
-            Answer::BadKind => 10,
-            Answer::BadBool => 11,
-            Answer::TooLong => 12,
-            Answer::Extra => 13,
-            Answer::NotSynchronized => 14,
-            Answer::NotEnoughData => 15,
-            Answer::PredictionThreshold => 16,
-            Answer::SpectatorTooFarBehind => 17,
+            Refusal::BadSetup => 1,
+            Refusal::WrongState => 2,
+            Refusal::BadLength => 3,
+            Refusal::BadFrame => 4,
+            Refusal::Full => 5,
+            Refusal::Overflow => 6,
+            Refusal::BadHandle => 7,
+            Refusal::BadClock => 8,
+            Refusal::Short => 9,
+            Refusal::BadKind => 10,
+            Refusal::BadBool => 11,
+            Refusal::TooLong => 12,
+            Refusal::Extra => 13,
+            Refusal::NotSynchronized => 14,
+            Refusal::NotEnoughData => 15,
+            Refusal::PredictionThreshold => 16,
+            Refusal::SpectatorTooFarBehind => 17,
         }
     }
 }

@@ -1,16 +1,13 @@
 -- A body that is known: the room that its fields have, and what putting them says of the message.
-use mathlib.Core.Path.{◌≡◌, refl}
-use mathlib.Core.Bool.{Bool, true, false}
+use mathlib.Core.Path.{◌≡◌}
 use mathlib.Core.List.{List, []}
-use Prim.Native.Nat.{ℕ, ◌+◌, ◌*◌, ◌≤◌}
+use Prim.Native.Nat.{ℕ, ◌+◌, ◌≤◌}
 use native.Mathlib.Omega.{arith}
 use lib.ListN.{length}
 use Rattle.base.specs.Pick.{pick}
-use Rattle.codec.specs.Sizes.{fixed_size}
-use Rattle.codec.specs.Message.{FitsBody, FitsReports, kind_of, is_input, report_list, meant}
+use Rattle.codec.specs.Message.{FitsBody, FitsReports, is_input, report_list, meant}
 use Rattle.codec.specs.Bytes.{body_bytes}
 use Rattle.codec.specs.Put.{PutAs, BodyPut}
-use Rattle.codec.proofs.Lengths.{body_length}
 use Rattle.codec.specs.declared.StatusReport.{StatusReport}
 use Rattle.codec.specs.declared.Message.{Message}
 use Rattle.codec.specs.declared.MessageBody.{MessageBody}
@@ -22,18 +19,10 @@ fits_none i d h = absurd (omega arith)
 abbrev pub reports_for : Message → MessageBody → List StatusReport
 reports_for m body = pick (is_input body) (report_list m.reports) []
 
-picked : (t : Bool) (l : List StatusReport) → pick t (5 * length (pick t l [])) 0 ≡ pick t (5 * length l) 0
-picked true l = refl
-picked false l = refl
-
 module _ (m : Message) (n : ℕ) (b : List ℕ) (at : ℕ) (body : MessageBody) (e : m.body ≡ body) where
-  pub room_as : at + length (body_bytes m.body (meant m []).reports n) ≤ length b
-      → at + (fixed_size (kind_of body) + pick (is_input body) (5 * length (report_list m.reports)) 0) ≤ length b + 6
+  pub room_as : at + length (body_bytes m.body (meant m []).reports n) ≤ length b → at + length (body_bytes body (reports_for m body) n) ≤ length b
   unfolding meant
-  room_as h =
-      let l = body_length body (reports_for m body) n in
-      let k : at + length (body_bytes body (reports_for m body) n) ≤ length b = rw e at h in
-      rw (← picked (is_input body) (report_list m.reports), ← l) (omega arith)
+  room_as h = rw e at h
 
   pub body_put : (r : ℕ) (b' : List ℕ) → PutAs b at (body_bytes body (reports_for m body) n) r b' → FitsBody body → FitsReports (reports_for m body)
       → BodyPut m n b at r b'

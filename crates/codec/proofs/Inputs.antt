@@ -7,27 +7,26 @@ use mathlib.Core.List.{List, []}
 use Prim.Native.Nat.{ℕ, ◌+◌, ◌<◌, ◌≤◌}
 use native.Mathlib.Omega.{arith}
 use native.Mathlib.Nat.{add_assoc}
-use lib.Dec.{ltb, eqb}
-use lib.ListN.{length, take, drop, get_or, length-drop}
+use lib.Dec.{ltb}
+use lib.ListN.{length, take, drop, length-drop}
 use lib.Seq.{drop-drop}
 use Rattle.base.proofs.Digits.{below_or_not}
 use Rattle.frame.specs.Bias.{bias32, bits_of}
 use Rattle.ceilings.specs.Ceilings.{most_players, most_payload}
 use Rattle.codec.specs.Message.{Wire}
-use Rattle.codec.specs.Read.{Reads, and_then, ◌>>=◌, give, part, refuse, reports, input, kinds, message}
+use Rattle.codec.specs.Read.{Reads, and_then, ◌>>=◌, give, part, refuse, flag, reports, input, kinds, message}
 use Rattle.codec.specs.Read.Reading.{got, fault}
 use Rattle.codec.specs.Front.{number_at, after_reports}
 use Rattle.codec.proofs.Takes.{takes_part, takes_number, takes_frame, head_whole}
-use Rattle.codec.proofs.Flags.{flag_none, flag_bad, flag_good}
 use Rattle.codec.specs.declared.StatusReport.{StatusReport}
 use Rattle.codec.specs.declared.MessageBody.TheVariants.{Input}
 
 -- the Input that stands there with b payload bytes
-abbrev pub input_at : ℕ → List StatusReport → ℕ → ℕ → List ℕ → Wire
-input_at magic rs at b d =
+abbrev pub input_at : ℕ → List StatusReport → Bool → ℕ → ℕ → List ℕ → Wire
+input_at magic rs disconnect at b d =
     record {
       magic = magic;
-      body = Input (eqb (get_or d at 0) 1) (bits_of bias32 (number_at 4 (at + 1) d)) (bits_of bias32 (number_at 4 (at + 5) d));
+      body = Input disconnect (bits_of bias32 (number_at 4 (at + 1) d)) (bits_of bias32 (number_at 4 (at + 5) d));
       reports = rs;
       payload = take b (drop (at + 17) d);
     }
@@ -40,83 +39,78 @@ ending magic rs disconnect start ack b = do
   give (record { magic = magic; body = Input disconnect start ack; reports = rs; payload = payload })
 
 module _ (d : List ℕ) (at magic : ℕ) (rs : List StatusReport) where
-  pub no_flag : length d ≡ at → after_reports magic rs (drop at d) ≡ fault 9
+  pub flag_fault : (n : ℕ) → flag (drop at d) ≡ fault n → after_reports magic rs (drop at d) ≡ fault n
   unfolding after_reports
-  no_flag e = rw (flag_none d at e)
+  flag_fault n e = rw e
 
-  module _ (h : at < length d) where
-    pub bad_flag : 1 < get_or d at 0 → after_reports magic rs (drop at d) ≡ fault 11
+  module _ (disconnect : Bool) (f : flag (drop at d) ≡ got disconnect (drop (at + 1) d)) where
+    pub few_bytes : length d < at + 17 → after_reports magic rs (drop at d) ≡ fault 9
     unfolding after_reports
-    bad_flag k = rw (flag_bad d at h k)
+    few_bytes l =
+        elim (below_or_not (length d) (at + 5)) [
+          | inl m ↦ rw (f, takes_frame.short (drop (at + 1) d) (rw length-drop (omega arith)))
+          | inr m ↦
+              elim (below_or_not (length d) (at + 9)) [
+                | inl n ↦
+                    rw (
+                      f,
+                      takes_frame.whole (drop (at + 1) d) (rw length-drop (omega arith)),
+                      drop-drop 4 (at + 1) d,
+                      add_assoc at 1 4,
+                      takes_frame.short (drop (at + 5) d) (rw length-drop (omega arith)),
+                    )
+                | inr n ↦
+                    rw (
+                      f,
+                      takes_frame.whole (drop (at + 1) d) (rw length-drop (omega arith)),
+                      drop-drop 4 (at + 1) d,
+                      add_assoc at 1 4,
+                      takes_frame.whole (drop (at + 5) d) (rw length-drop (omega arith)),
+                      drop-drop 4 (at + 5) d,
+                      add_assoc at 5 4,
+                      (takes_number 8).short (drop (at + 9) d) (rw length-drop (omega arith)),
+                    )
+              ]
+        ]
 
-    module _ (k : get_or d at 0 ≤ 1) where
-      pub few_bytes : length d < at + 17 → after_reports magic rs (drop at d) ≡ fault 9
-      unfolding after_reports
-      few_bytes l =
-          elim (below_or_not (length d) (at + 5)) [
-            | inl m ↦ rw (flag_good d at h k, takes_frame.short (drop (at + 1) d) (rw length-drop (omega arith)))
-            | inr m ↦
-                elim (below_or_not (length d) (at + 9)) [
-                  | inl n ↦
-                      rw (
-                        flag_good d at h k,
-                        takes_frame.whole (drop (at + 1) d) (rw length-drop (omega arith)),
-                        drop-drop 4 (at + 1) d,
-                        add_assoc at 1 4,
-                        takes_frame.short (drop (at + 5) d) (rw length-drop (omega arith)),
-                      )
-                  | inr n ↦
-                      rw (
-                        flag_good d at h k,
-                        takes_frame.whole (drop (at + 1) d) (rw length-drop (omega arith)),
-                        drop-drop 4 (at + 1) d,
-                        add_assoc at 1 4,
-                        takes_frame.whole (drop (at + 5) d) (rw length-drop (omega arith)),
-                        drop-drop 4 (at + 5) d,
-                        add_assoc at 5 4,
-                        (takes_number 8).short (drop (at + 9) d) (rw length-drop (omega arith)),
-                      )
-                ]
-          ]
+    module _ (l : at + 17 ≤ length d) where
+      -- the four fields, and the count's test and the payload left to read
+      fields : after_reports magic rs (drop at d) ≡ ending magic rs disconnect (bits_of bias32 (number_at 4 (at + 1) d)) (bits_of bias32 (number_at 4 (at + 5) d)) (number_at 8 (at + 9) d) (drop (at + 17) d)
+      unfolding after_reports number_at ending
+      fields =
+          rw (
+            f,
+            takes_frame.whole (drop (at + 1) d) (rw length-drop (omega arith)),
+            drop-drop 4 (at + 1) d,
+            add_assoc at 1 4,
+            takes_frame.whole (drop (at + 5) d) (rw length-drop (omega arith)),
+            drop-drop 4 (at + 5) d,
+            add_assoc at 5 4,
+            (takes_number 8).whole (drop (at + 9) d) (rw length-drop (omega arith)),
+            drop-drop 8 (at + 9) d,
+            add_assoc at 9 8,
+          )
 
-      module _ (l : at + 17 ≤ length d) where
-        -- the four fields, and the count's test and the payload left to read
-        fields : after_reports magic rs (drop at d) ≡ ending magic rs (eqb (get_or d at 0) 1) (bits_of bias32 (number_at 4 (at + 1) d)) (bits_of bias32 (number_at 4 (at + 5) d)) (number_at 8 (at + 9) d) (drop (at + 17) d)
-        unfolding after_reports number_at ending
-        fields =
-            rw (
-              flag_good d at h k,
-              takes_frame.whole (drop (at + 1) d) (rw length-drop (omega arith)),
-              drop-drop 4 (at + 1) d,
-              add_assoc at 1 4,
-              takes_frame.whole (drop (at + 5) d) (rw length-drop (omega arith)),
-              drop-drop 4 (at + 5) d,
-              add_assoc at 5 4,
-              (takes_number 8).whole (drop (at + 9) d) (rw length-drop (omega arith)),
-              drop-drop 8 (at + 9) d,
-              add_assoc at 9 8,
-            )
+      pub long_payload : most_payload < number_at 8 (at + 9) d → after_reports magic rs (drop at d) ≡ fault 12
+      unfolding ending
+      long_payload m = fields ∙ rw (lt-ltb most_payload (number_at 8 (at + 9) d) m)
 
-        pub long_payload : most_payload < number_at 8 (at + 9) d → after_reports magic rs (drop at d) ≡ fault 12
+      module _ (m : number_at 8 (at + 9) d ≤ most_payload) where
+        pub short_payload : length d < at + 17 + number_at 8 (at + 9) d → after_reports magic rs (drop at d) ≡ fault 9
         unfolding ending
-        long_payload m = fields ∙ rw (lt-ltb most_payload (number_at 8 (at + 9) d) m)
+        short_payload n =
+            fields ∙ rw (le-ltb most_payload (number_at 8 (at + 9) d) m, (takes_part (number_at 8 (at + 9) d)).short (drop (at + 17) d) (rw length-drop (omega arith)))
 
-        module _ (m : number_at 8 (at + 9) d ≤ most_payload) where
-          pub short_payload : length d < at + 17 + number_at 8 (at + 9) d → after_reports magic rs (drop at d) ≡ fault 9
-          unfolding ending
-          short_payload n =
-              fields ∙ rw (le-ltb most_payload (number_at 8 (at + 9) d) m, (takes_part (number_at 8 (at + 9) d)).short (drop (at + 17) d) (rw length-drop (omega arith)))
-
-          pub whole_input : at + 17 + number_at 8 (at + 9) d ≤ length d
-              → after_reports magic rs (drop at d) ≡ got (input_at magic rs at (number_at 8 (at + 9) d) d) (drop (at + 17 + number_at 8 (at + 9) d) d)
-          unfolding ending
-          whole_input n =
-              fields
-              ∙ rw (
-                le-ltb most_payload (number_at 8 (at + 9) d) m,
-                (takes_part (number_at 8 (at + 9) d)).whole (drop (at + 17) d) (rw length-drop (omega arith)),
-                drop-drop (number_at 8 (at + 9) d) (at + 17) d,
-              )
+        pub whole_input : at + 17 + number_at 8 (at + 9) d ≤ length d
+            → after_reports magic rs (drop at d) ≡ got (input_at magic rs disconnect at (number_at 8 (at + 9) d) d) (drop (at + 17 + number_at 8 (at + 9) d) d)
+        unfolding ending
+        whole_input n =
+            fields
+            ∙ rw (
+              le-ltb most_payload (number_at 8 (at + 9) d) m,
+              (takes_part (number_at 8 (at + 9) d)).whole (drop (at + 17) d) (rw length-drop (omega arith)),
+              drop-drop (number_at 8 (at + 9) d) (at + 17) d,
+            )
 
 -- the head of an Input
 module _ (d : List ℕ) (h : 6 ≤ length d) (two : number_at 4 2 d ≡ 2) where

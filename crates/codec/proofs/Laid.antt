@@ -1,46 +1,45 @@
 -- What a writer answers, one law for each way out.
-use borrow.Author.Tests.{lt-ltb, le-ltb, ltb-false, ne_eqb}
+use borrow.Author.Tests.{lt-ltb, le-ltb, ltb-false}
 use mathlib.Core.Path.{◌≡◌, refl, sym, ◌∙◌}
 use mathlib.Core.Bool.{Bool, true, false}
 use mathlib.Core.List.{List, [], ◌++◌, append-nil}
+use Rattle.std.specs.Prelude.{Ok, Err}
 use Prim.Native.Nat.{ℕ, ◌+◌, ◌<◌, ◌≤◌}
 use native.Mathlib.Omega.{arith}
 use native.Mathlib.Nat.{add_assoc}
-use lib.Dec.{eqb}
 use lib.ListN.{length, length-append, length-take}
 use Rattle.base.specs.Lay.{laid_at, no_room}
 use Rattle.base.specs.Little.{Bytes}
 use Rattle.base.proofs.Lay.{laid_join}
-use Rattle.answer.specs.Number.{number_of}
-use Rattle.answer.specs.declared.Answer.TheVariants.{Done, Full, TooLong}
+use Rattle.answer.specs.Number.{refusal_number}
+use Rattle.answer.specs.declared.Refusal.{Refusal}
+use Rattle.answer.specs.declared.Refusal.TheVariants.{Full}
 use Rattle.codec.specs.Message.{Wire, Fits, is_input, report_list, meant}
 use Rattle.codec.specs.Bytes.{body_bytes, head, bytes}
 use Rattle.codec.specs.Put.{HeadPut}
-use Rattle.codec.specs.Calls.{too_long, size_for, write_refusal, LaidAs, HeadAs, WrittenAs}
+use Rattle.codec.specs.Calls.{too_long, size_for, size_as, write_refusal, LaidAs, HeadAs, WrittenAs}
 use Rattle.ceilings.specs.Ceilings.{most_players, most_payload}
-use Rattle.codec.proofs.Sizes.{input-counts}
+use Rattle.codec.proofs.Sizes.{is_long, input-counts, size_head}
 use Rattle.base.specs.Pick.{pick}
 use Rattle.codec.specs.declared.StatusReport.{StatusReport}
-use Rattle.codec.specs.declared.Written.{Written}
 use Rattle.codec.specs.declared.Message.{Message}
 use Rattle.codec.specs.declared.MessageBody.{MessageBody}
 use Rattle.codec.specs.declared.MessageBody.TheVariants.{SyncRequest, SyncReply, Input, InputAck, QualityReport, QualityReply, ChecksumReport, KeepAlive}
 
 module _ (b : List ℕ) (at : ℕ) (m : Message) (n : ℕ) (w : Wire) (piece : List ℕ) where
-  pub long_refused : too_long m n ≡ true → LaidAs b at (write_refusal b at m n) w piece (record { answer = TooLong; end = at }) b
+  pub long_refused : (e : Refusal) → (refusal_number e, 0) ≡ size_as m n → LaidAs b at (write_refusal b at m n) w piece (Err e) b
   unfolding write_refusal
-  long_refused t = rw t (record { answer = refl; end = refl; lent = refl; fits = λ e. absurd (omega arith) })
+  long_refused e h = let l = is_long m n e h in (rw l.0 (sym l.1), refl)
 
   module _ (t : too_long m n ≡ false) where
-    pub full_refused : length b < at + size_for m n → LaidAs b at (write_refusal b at m n) w piece (record { answer = Full; end = at }) b
+    pub full_refused : length b < at + size_for m n → LaidAs b at (write_refusal b at m n) w piece (Err Full) b
     unfolding write_refusal
-    full_refused h =
-        rw (t, lt-ltb (length b) (at + size_for m n) h) (record { answer = refl; end = refl; lent = refl; fits = λ e. absurd (omega arith) })
+    full_refused h = (rw (t, lt-ltb (length b) (at + size_for m n) h), refl)
 
     pub laid : (r : ℕ) (b' : List ℕ) → at + size_for m n ≤ length b → r ≡ at + length piece → b' ≡ laid_at b at piece → Fits w
-        → LaidAs b at (write_refusal b at m n) w piece (record { answer = Done; end = r }) b'
+        → LaidAs b at (write_refusal b at m n) w piece (Ok r) b'
     unfolding write_refusal
-    laid r b' h e l f = rw (t, le-ltb (length b) (at + size_for m n) h) (record { answer = refl; end = e; lent = l; fits = λ z. f })
+    laid r b' h e l f = record { done = rw (t, le-ltb (length b) (at + size_for m n) h); end = e; lent = l; fits = f }
 
 -- a choice of a list that is short where it is chosen
 chosen_length : {A : Type 0} (l : List A) (k : ℕ) (u : Bool) → (u ≡ true → length l ≤ k) → length (pick u l []) ≤ k
@@ -109,46 +108,33 @@ module _ (m : Message) (payload : List ℕ) where
   bytes-input e = rw e
 
 -- from the head's answer to the whole message's
-module _ (b : List ℕ) (at : ℕ) (m : Message) (payload : List ℕ) (r : Written) (b' : List ℕ) (h : HeadAs b at m (length payload) r b') where
-  pub still_refused : (number_of r.answer ≡ 0 → ⊥) → WrittenAs b at m payload r b'
-  still_refused n =
-      let e : eqb (write_refusal b at m (length payload)) 0 ≡ false = ne_eqb (write_refusal b at m (length payload)) 0 (λ z. n (h.answer ∙ z)) in
+module _ (b : List ℕ) (at : ℕ) (m : Message) (payload : List ℕ) (r : ℕ) (b' : List ℕ) (h : HeadAs b at m (length payload) (Ok r) b') where
+  pub not_long : (too_long m (length payload) ≡ false) × (at + size_for m (length payload) ≤ length b)
+  unfolding write_refusal
+  not_long =
+      let q = refusal_none (too_long m (length payload)) (no_room b at (size_for m (length payload))) h.done in
+      (q.0, ltb-false (length b) (at + size_for m (length payload)) q.1)
+
+  pub head_lent : b' ≡ laid_at b at (head (meant m []) (length payload))
+  head_lent = h.lent
+
+  -- the payload has its room after the head
+  pub room_after : length m.reports.list ≡ 4 → is_input m.body ≡ true → r + length payload ≤ length b
+  room_after four input = let q = not_long in omega (arith, q.1, h.end, rw input at (size_head m (length payload) q.0 four))
+
+  pub other_written : Bytes payload → is_input m.body ≡ false → WrittenAs b at m payload (Ok r) b'
+  other_written q e =
       record {
-        answer = h.answer;
-        end = rw e (rw e at h.end);
-        lent = rw e (rw e at h.lent);
-        fits = λ z. absurd (n (h.answer ∙ z));
+        done = h.done;
+        end = rw (bytes_other m payload (length payload) e) h.end;
+        lent = rw (bytes_other m payload (length payload) e) h.lent;
+        fits = fits_payload m (length payload) not_long.0 payload refl q h.fits;
       }
 
-  module _ (d : number_of r.answer ≡ 0) where
-    none : write_refusal b at m (length payload) ≡ 0
-    none = sym h.answer ∙ d
-
-    pub not_long : (too_long m (length payload) ≡ false) × (at + size_for m (length payload) ≤ length b)
-    unfolding write_refusal
-    not_long =
-        let q = refusal_none (too_long m (length payload)) (no_room b at (size_for m (length payload))) none in
-        (q.0, ltb-false (length b) (at + size_for m (length payload)) q.1)
-
-    pub head_end : r.end ≡ at + length (head (meant m []) (length payload))
-    head_end = rw none at h.end
-
-    pub head_lent : b' ≡ laid_at b at (head (meant m []) (length payload))
-    head_lent = rw none at h.lent
-
-    pub other_written : Bytes payload → is_input m.body ≡ false → WrittenAs b at m payload r b'
-    other_written q e =
-        record {
-          answer = h.answer;
-          end = rw (bytes_other m payload (length payload) e) h.end;
-          lent = rw (bytes_other m payload (length payload) e) h.lent;
-          fits = λ z. fits_payload m (length payload) not_long.0 payload refl q (h.fits z);
-        }
-
-    pub input-written : (b'' : List ℕ) (r' : ℕ) → Bytes payload → is_input m.body ≡ true → at + length (head (meant m []) (length payload)) + length payload ≤ length b
-        → r' ≡ r.end + length payload → b'' ≡ laid_at b' r.end payload → WrittenAs b at m payload (record { answer = Done; end = r' }) b''
-    input-written b'' r' q e room n l =
-        rw (bytes-input m payload e)
-        (laid b at m (length payload) (meant m payload) (head (meant m []) (length payload) ++ payload) not_long.0 r' b'' not_long.1
-        (n ∙ rw (head_end, length-append, add_assoc)) (l ∙ rw (head_lent, head_end) (laid_join b at (head (meant m []) (length payload)) payload room))
-        (fits_payload m (length payload) not_long.0 payload refl q (h.fits none)))
+  pub input-written : (b'' : List ℕ) (r' : ℕ) → Bytes payload → is_input m.body ≡ true → at + length (head (meant m []) (length payload)) + length payload ≤ length b
+      → r' ≡ r + length payload → b'' ≡ laid_at b' r payload → WrittenAs b at m payload (Ok r') b''
+  input-written b'' r' q e room n l =
+      rw (bytes-input m payload e)
+      (laid b at m (length payload) (meant m payload) (head (meant m []) (length payload) ++ payload) not_long.0 r' b'' not_long.1
+      (n ∙ rw (h.end, length-append, add_assoc)) (l ∙ rw (h.lent, h.end) (laid_join b at (head (meant m []) (length payload)) payload room))
+      (fits_payload m (length payload) not_long.0 payload refl q h.fits))

@@ -7,14 +7,15 @@ use Prim.Native.Nat.{ℕ, ◌+◌, ◌*◌, ◌/◌, ◌%◌, ◌^◌, ◌<◌, 
 use native.Mathlib.Omega.{arith}
 use native.Mathlib.Nat.{add-zero}
 use lib.ListN.{length, length-append, length-take}
+use Rattle.std.specs.Prelude.{Result, Ok, Err}
 use Rattle.base.specs.Pick.{pick}
 use Rattle.base.specs.Little.{Bytes, le}
 use Rattle.base.specs.Lay.{no_room, laid_at}
 use Rattle.base.proofs.Little.{le_pieces}
 use Rattle.base.proofs.Lay.{laid_join}
-use Rattle.answer.specs.Number.{number_of}
-use Rattle.answer.proofs.Number.{number_determines}
-use Rattle.answer.specs.declared.Answer.TheVariants.{Done}
+use Rattle.answer.specs.Number.{refusal_number}
+use Rattle.answer.specs.declared.Refusal.{Refusal}
+use Rattle.answer.proofs.Refused.{not_done}
 use Rattle.ceilings.specs.Ceilings.{most_players, most_payload}
 use Rattle.codec.specs.Sizes.{fixed_size}
 use Rattle.codec.specs.Message.{Wire, Fits, kind_of, is_input, report_list, meant, size_with, body_size, table_size}
@@ -23,16 +24,14 @@ use Rattle.codec.specs.Read.{Reading, and_then, message, ended, datagram, number
 use Rattle.codec.specs.Read.Reading.{got, fault}
 use Rattle.codec.specs.Calls.{too_long, write_refusal, HeadAs, WrittenAs, ReadAs, PayloadAs, payload_in}
 use Rattle.codec.proofs.Lengths.{head-length, head_parts}
-use Rattle.codec.proofs.Sizes.{kind_below, input-counts, size_head}
-use Rattle.codec.proofs.Laid.{bytes-input, bytes_other, still_refused, not_long, head_end, head_lent, input-written}
+use Rattle.codec.proofs.Sizes.{kind_below, input-counts}
+use Rattle.codec.proofs.Laid.{bytes-input, bytes_other, room_after, input-written}
 use Rattle.codec.proofs.RoundTrip.{number-le, body_read}
 use Rattle.codec.proofs.Back.{message_right, took, fault_bounds}
 use Rattle.codec.specs.declared.Wide.{Wide}
 use Rattle.codec.specs.declared.Message.{Message}
 use Rattle.codec.specs.declared.MessageBody.{MessageBody}
 use Rattle.codec.specs.declared.MessageBody.TheVariants.{SyncRequest, SyncReply, Input, InputAck, QualityReport, QualityReply, ChecksumReport, KeepAlive}
-use Rattle.codec.specs.declared.Written.{Written}
-use Rattle.codec.specs.declared.Received.{Received}
 
 -- a message is read back from its bytes, whatever stands after them
 pub message-bytes : (w : Wire) (rest : List ℕ) → Fits w → message (bytes w ++ rest) ≡ got w rest
@@ -183,46 +182,43 @@ module _ (buffer : List ℕ) (at : ℕ) (m : Message) (p : List ℕ) (e : is_inp
       → laid_at (laid_at buffer at (head (meant m []) (length p))) (at + length (head (meant m []) (length p))) p ≡ laid_at buffer at (bytes (meant m p))
   laid_payload room = laid_join buffer at (head (meant m []) (length p)) p room ∙ rw (head-payload m p e)
 
-  pub payload_laid : (r : Written) (buffer' : List ℕ) → HeadAs buffer at m (length p) r buffer' → number_of r.answer ≡ 0
-      → length m.reports.list ≡ 4 → (r.end + length p ≤ length buffer) × (laid_at buffer' r.end p ≡ laid_at buffer at (bytes (meant m p)))
-  payload_laid r buffer' h done four =
-      let short = not_long buffer at m p r buffer' h done in
-      let ends = head_end buffer at m p r buffer' h done in
-      let size = rw e at (size_head m (length p) short.0 four) in
-      (omega (arith, short.1), rw (head_lent buffer at m p r buffer' h done, ends) (laid_payload (omega (arith, short.1))))
+  pub payload_laid : (r : ℕ) (buffer' : List ℕ) → HeadAs buffer at m (length p) (Ok r) buffer'
+      → length m.reports.list ≡ 4 → (r + length p ≤ length buffer) × (laid_at buffer' r p ≡ laid_at buffer at (bytes (meant m p)))
+  payload_laid r buffer' h four =
+      let room = room_after buffer at m p r buffer' h four e in
+      (room, rw (h.lent, h.end) (laid_payload (omega (arith, h.end, room))))
 
   -- with it the message is written
-  pub head-written : (r : Written) (buffer' buffer'' : List ℕ) → HeadAs buffer at m (length p) r buffer' → number_of r.answer ≡ 0
-      → length m.reports.list ≡ 4 → Bytes p → buffer'' ≡ laid_at buffer' r.end p
-      → WrittenAs buffer at m p (record { answer = Done; end = r.end + length p }) buffer''
-  head-written r buffer' buffer'' h done four q l =
-      let room = (payload_laid r buffer' h done four).0 in
-      let ends = head_end buffer at m p r buffer' h done in
-      input-written buffer at m p r buffer' h done buffer'' (r.end + length p) q e (omega arith) refl l
+  pub head-written : (r : ℕ) (buffer' buffer'' : List ℕ) → HeadAs buffer at m (length p) (Ok r) buffer'
+      → length m.reports.list ≡ 4 → Bytes p → buffer'' ≡ laid_at buffer' r p
+      → WrittenAs buffer at m p (Ok (r + length p)) buffer''
+  head-written r buffer' buffer'' h four q l =
+      let room = (payload_laid r buffer' h four).0 in
+      input-written buffer at m p r buffer' h buffer'' (r + length p) q e (omega (arith, h.end, room)) refl l
 
-pub head-refused : (buffer : List ℕ) (at : ℕ) (m : Message) (p : List ℕ) (r : Written) (buffer' : List ℕ) → HeadAs buffer at m (length p) r buffer'
-    → (number_of r.answer ≡ 0 → ⊥) → WrittenAs buffer at m p r buffer'
-head-refused = still_refused
+pub head-refused : (buffer : List ℕ) (at : ℕ) (m : Message) (p : List ℕ) (refusal : Refusal) (buffer' : List ℕ)
+    → HeadAs buffer at m (length p) (Err refusal) buffer' → WrittenAs buffer at m p (Err refusal) buffer'
+head-refused buffer at m p refusal buffer' h = h
 
 -- what the writer and the reader answer: of a message that fits, and of bytes that read
-pub written_end : (buffer : List ℕ) (at : ℕ) (m : Message) (p : List ℕ) (r : Written) (buffer' : List ℕ) → WrittenAs buffer at m p r buffer'
-    → number_of r.answer ≡ 0 → r.end ≡ at + table_size (meant m p)
-written_end buffer at m p r buffer' h done =
-    let none : write_refusal buffer at m (length p) ≡ 0 = sym h.answer ∙ done in
-    (rw none at h.end) ∙ rw (bytes-length (meant m p) (h.fits none))
+pub written_end : (buffer : List ℕ) (at : ℕ) (m : Message) (p : List ℕ) (r : ℕ) (buffer' : List ℕ) → WrittenAs buffer at m p (Ok r) buffer'
+    → r ≡ at + table_size (meant m p)
+written_end buffer at m p r buffer' h = h.end ∙ rw (bytes-length (meant m p) h.fits)
 
 payload_in_lem : (w : Wire) → Fits w → payload_in (bytes w) ≡ w.payload
 payload_in_lem w h = ap (λ (g : Reading Wire). (wire_in g).payload) (read-bytes w h)
 
-pub received : (w : Wire) (r : Received) → Fits w → ReadAs (bytes w) r
-    → (r.answer ≡ Done) × (meant r.message w.payload ≡ w) × (r.message.reports.count ≡ length w.reports)
-received w r h c =
+-- of bytes that a message has, the reader answers that message
+pub received : (w : Wire) (r : Result Message Refusal) → Fits w → ReadAs (bytes w) r
+    → (m : Message) × (r ≡ Ok m) × (meant m w.payload ≡ w) × (m.reports.count ≡ length w.reports)
+received w (Ok m) h c =
     let e = read-bytes w h in
-    (number_determines r.answer Done (rw e at c.answer), rw (payload_in_lem w h, e) at c.message, rw e at c.count)
+    (m, refl, rw (payload_in_lem w h, e) at c.message, rw e at c.count)
+received w (Err refusal) h c =
+    let z : 0 ≡ refusal_number refusal = ap number_in (sym (read-bytes w h) ∙ c) in absurd (not_done refusal (sym z))
 
-pub read_back : (d : List ℕ) (r : Received) → Bytes d → ReadAs d r → number_of r.answer ≡ 0
-    → (bytes (meant r.message (payload_in d)) ≡ d) × Fits (meant r.message (payload_in d))
-read_back d r h c done = rw c.message (go (datagram d) refl (sym c.answer ∙ done))
+pub read_back : (d : List ℕ) (m : Message) → Bytes d → ReadAs d (Ok m) → (bytes (meant m (payload_in d)) ≡ d) × Fits (meant m (payload_in d))
+read_back d m h c = rw c.message (go (datagram d) refl c.reads)
   where
     go : (g : Reading Wire) → datagram d ≡ g → number_in g ≡ 0 → (bytes (wire_in g) ≡ d) × Fits (wire_in g)
     go (got w left) m z = let t = bytes_read d w left h m in (t.0, t.1)

@@ -6,9 +6,8 @@ use Prim.Native.Nat.{ℕ, ◌≤◌}
 use native.Mathlib.Omega.{arith}
 use lib.ListN.{length, length-take}
 use Rattle.base.specs.Pick.{pick}
-use Rattle.codec.specs.Message.{is_input, report_list, meant}
+use Rattle.codec.specs.Message.{Reports, is_input, report_list, meant}
 use Rattle.codec.specs.Read.{body_only}
-use Rattle.codec.specs.declared.StatusReports.{StatusReports}
 use Rattle.codec.specs.declared.Message.{Message}
 use Rattle.codec.specs.declared.MessageBody.{MessageBody}
 use Rattle.codec.specs.declared.MessageBody.TheVariants.{Input}
@@ -18,7 +17,7 @@ chosen_none true l e = e
 chosen_none false l e = refl
 
 -- a message whose count is 0 is a plain one
-pub meant_body_only : (magic : ℕ) (body : MessageBody) (rs : StatusReports) → rs.count ≡ 0
+pub meant_body_only : (magic : ℕ) (body : MessageBody) (rs : Reports) → rs.count ≡ 0
     → meant (record { magic = magic; body = body; reports = rs }) [] ≡ body_only magic body
 unfolding meant
 meant_body_only magic body rs e =
@@ -29,7 +28,7 @@ unfolding is_input
 input_is d s a = refl
 
 -- an Input has the reports that its array lists, and the payload beside it
-pub meant-input : (magic : ℕ) (d : Bool) (s a : ℕ) (rs : StatusReports) (payload : List ℕ)
+pub meant-input : (magic : ℕ) (d : Bool) (s a : ℕ) (rs : Reports) (payload : List ℕ)
     → meant (record { magic = magic; body = Input d s a; reports = rs }) payload
     ≡ record { magic = magic; body = Input d s a; reports = report_list rs; payload = payload }
 unfolding meant is_input

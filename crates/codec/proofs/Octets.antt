@@ -25,7 +25,7 @@ pub bytes-append : (l m : List ℕ) → Bytes l → Bytes m → Bytes (l ++ m)
 bytes-append [] m h k = k
 bytes-append (x ∷ l) m h k = bytes-cons x (l ++ m) (h 0) (bytes-append l m (λ i. h (suc i)) k)
 
-of_number : (k n : ℕ) → Bytes (le k n)
+pub of_number : (k n : ℕ) → Bytes (le k n)
 unfolding le
 of_number zero n = bytes_none
 of_number (suc k) n = bytes-cons (n % 256) (le k (n / 256)) (omega arith) (of_number k (n / 256))

@@ -4,13 +4,13 @@ use mathlib.Core.List.{List, [], ◌∷◌, ◌++◌, append_assoc, append-nil}
 use Prim.Native.Nat.{ℕ, zero, suc, ◌+◌, ◌*◌, ◌^◌, ◌<◌, ◌≤◌}
 use native.Mathlib.Omega.{arith}
 use native.Mathlib.Numerals.{add-one}
-use lib.ListN.{length, take, get_or}
+use lib.ListN.{length, take, get_or, length-append}
 use lib.Seq.{take-suc, length-take-le}
 use Rattle.codec.specs.Message.{FitsReports}
 use Rattle.codec.specs.Bytes.{report_bytes, reports_bytes}
 use Rattle.codec.specs.Put.{PutAs, ReportPut}
 use Rattle.codec.proofs.Lengths.{report-length, reports-length}
-use Rattle.codec.proofs.Put.{put_then}
+use Rattle.codec.proofs.Put.{put_both}
 use Rattle.codec.specs.declared.StatusReport.{StatusReport}
 
 pub reports-append : (rs qs : List StatusReport) → reports_bytes (rs ++ qs) ≡ reports_bytes rs ++ reports_bytes qs
@@ -31,7 +31,7 @@ pub reports_turn : (l : List StatusReport) (i : ℕ) (d : StatusReport) (b : Lis
 unfolding reports_bytes
 reports_turn l i d b at next b' r b'' h p f q room =
     rw (add-one, take-suc l i d h, reports-append (take i l) (get_or l i d ∷ []), append-nil) (
-      put_then b at (reports_bytes (take i l)) next b' p (report_bytes (get_or l i d)) r b'' q.put
-          (omega (arith, reports-length (take i l), length-take-le i l (omega arith), report-length (get_or l i d))),
+      put_both b at (reports_bytes (take i l)) (report_bytes (get_or l i d))
+          (omega (arith, length-append (reports_bytes (take i l)) (report_bytes (get_or l i d)), reports-length (take i l), length-take-le i l (omega arith), report-length (get_or l i d))) next b' p r b'' q.put,
       fits_snoc (take i l) (get_or l i d) f q.frame,
     )

@@ -10,6 +10,9 @@ use lib.Dec.{ltb}
 use lib.ListN.{length, length-take}
 use Rattle.base.specs.Pick.{pick}
 use Rattle.ceilings.specs.Ceilings.{most_players, most_payload}
+use Rattle.answer.specs.Number.{refusal_number}
+use Rattle.answer.specs.declared.Refusal.{Refusal}
+use Rattle.answer.proofs.Refused.{not_done}
 use Rattle.codec.specs.Sizes.{fixed_size}
 use Rattle.codec.specs.Message.{kind_of, is_input, report_list, meant, size_with}
 use Rattle.codec.specs.Bytes.{head}
@@ -31,58 +34,36 @@ kind_below (QualityReply p) = omega arith
 kind_below (ChecksumReport x f) = omega arith
 kind_below KeepAlive = omega arith
 
-pub kind_input : (body : MessageBody) → kind_of body ≡ 2 → is_input body ≡ true
-unfolding kind_of is_input
-kind_input (SyncRequest n) h = absurd (omega arith)
-kind_input (SyncReply n) h = absurd (omega arith)
-kind_input (Input d s a) h = refl
-kind_input (InputAck a) h = absurd (omega arith)
-kind_input (QualityReport a p) h = absurd (omega arith)
-kind_input (QualityReply p) h = absurd (omega arith)
-kind_input (ChecksumReport x f) h = absurd (omega arith)
-kind_input KeepAlive h = absurd (omega arith)
-
-pub kind_other : (body : MessageBody) → (kind_of body ≡ 2 → ⊥) → is_input body ≡ false
-unfolding kind_of is_input
-kind_other (SyncRequest n) h = refl
-kind_other (SyncReply n) h = refl
-kind_other (Input d s a) h = absurd (h refl)
-kind_other (InputAck a) h = refl
-kind_other (QualityReport a p) h = refl
-kind_other (QualityReply p) h = refl
-kind_other (ChecksumReport x f) h = refl
-kind_other KeepAlive h = refl
-
 module _ (m : Message) (n : ℕ) where
-  pub size_other : (kind_of m.body ≡ 2 → ⊥) → (0, fixed_size (kind_of m.body)) ≡ size_as m n
+  pub size_other : is_input m.body ≡ false → (0, fixed_size (kind_of m.body)) ≡ size_as m n
   unfolding too_long size_with
-  size_other h = rw (kind_other m.body h, add-zero)
+  size_other h = rw (h, add-zero)
 
-  module _ (h : kind_of m.body ≡ 2) where
+  module _ (h : is_input m.body ≡ true) where
     pub size_statuses : most_players < m.reports.count → (12, 0) ≡ size_as m n
     unfolding too_long
-    size_statuses k = rw (kind_input m.body h, lt-ltb _ _ k)
+    size_statuses k = rw (h, lt-ltb _ _ k)
 
     pub size_payload : m.reports.count ≤ most_players → most_payload < n → (12, 0) ≡ size_as m n
     unfolding too_long
-    size_payload k l = rw (kind_input m.body h, le-ltb _ _ k, lt-ltb _ _ l)
+    size_payload k l = rw (h, le-ltb _ _ k, lt-ltb _ _ l)
 
     pub size_input : m.reports.count ≤ most_players → n ≤ most_payload → (0, fixed_size (kind_of m.body) + (5 * m.reports.count + n)) ≡ size_as m n
     unfolding too_long size_with
-    size_input k l = rw (kind_input m.body h, le-ltb _ _ k, le-ltb _ _ l)
+    size_input k l = rw (h, le-ltb _ _ k, le-ltb _ _ l)
 
 -- what the answer of `size_of` says
-sized : (t : Bool) (x : ℕ) → ◌≡◌ {A = ℕ × ℕ} (12, 0) (pick t (12, 0) (0, x)) → t ≡ true
-sized true x e = refl
-sized false x e = let z : ◌≡◌ {A = ℕ} 12 0 = ap (λ (p : ℕ × ℕ). p.0) e in absurd (omega arith)
+sized : (t : Bool) (e : Refusal) (x : ℕ) → ◌≡◌ {A = ℕ × ℕ} (refusal_number e, 0) (pick t (12, 0) (0, x)) → (t ≡ true) × (refusal_number e ≡ 12)
+sized true e x h = (refl, ap (λ (p : ℕ × ℕ). p.0) h)
+sized false e x h = absurd (not_done e (ap (λ (p : ℕ × ℕ). p.0) h))
 
 unsized : (t : Bool) (s x : ℕ) → ◌≡◌ {A = ℕ × ℕ} (0, s) (pick t (12, 0) (0, x)) → (t ≡ false) × (s ≡ x)
 unsized true s x e = let z : ◌≡◌ {A = ℕ} 0 12 = ap (λ (p : ℕ × ℕ). p.0) e in absurd (omega arith)
 unsized false s x e = (refl, ap (λ (p : ℕ × ℕ). p.1) e)
 
 module _ (m : Message) (n : ℕ) where
-  pub is_long : (12, 0) ≡ size_as m n → too_long m n ≡ true
-  is_long = sized (too_long m n) (size_for m n)
+  pub is_long : (e : Refusal) → (refusal_number e, 0) ≡ size_as m n → (too_long m n ≡ true) × (refusal_number e ≡ 12)
+  is_long e = sized (too_long m n) e (size_for m n)
 
   pub is_size : (s : ℕ) → (0, s) ≡ size_as m n → (too_long m n ≡ false) × (s ≡ size_for m n)
   is_size s = unsized (too_long m n) s (size_for m n)

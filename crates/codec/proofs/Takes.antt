@@ -15,7 +15,7 @@ use Rattle.codec.specs.Read.{Reads, ◌>>=◌, give, part, number, frame, advant
 use Rattle.codec.specs.Read.Reading.{got, fault}
 use Rattle.codec.specs.Sizes.{fixed_size}
 use Rattle.codec.specs.Message.{Wire}
-use Rattle.codec.specs.Front.{number_at, wide_at}
+use Rattle.codec.specs.Front.{number_at, wide_at, body_at}
 use Rattle.codec.specs.declared.MessageBody.TheVariants.{SyncRequest, SyncReply, InputAck, QualityReport, QualityReply, ChecksumReport, KeepAlive}
 
 pub record Takes {A : Type 0} (p : Reads A) (k : ℕ) (v : List ℕ → A) : Type 0 where
@@ -189,3 +189,16 @@ module _ (d : List ℕ) where
     pub alive : number_at 4 2 d ≡ 7 → message d ≡ got (body_only (number_at 2 0 d) KeepAlive) (drop 6 d)
     unfolding number_at
     alive e = upto 7 0 _ (kind_7 (number_at 2 0 d)) e h
+
+    -- by the table
+    pub fixed_whole : (k : ℕ) → number_at 4 2 d ≡ k → k < 8 → (k ≡ 2 → ⊥) → fixed_size k ≤ length d
+        → message d ≡ got (body_only (number_at 2 0 d) (body_at k d)) (drop (fixed_size k) d)
+    fixed_whole zero e l n s = request e s
+    fixed_whole (suc zero) e l n s = reply e s
+    fixed_whole (suc (suc zero)) e l n s = absurd (n refl)
+    fixed_whole (suc (suc (suc zero))) e l n s = ack e s
+    fixed_whole (suc (suc (suc (suc zero)))) e l n s = quality e s
+    fixed_whole (suc (suc (suc (suc (suc zero))))) e l n s = pong e s
+    fixed_whole (suc (suc (suc (suc (suc (suc zero)))))) e l n s = checksum e s
+    fixed_whole (suc (suc (suc (suc (suc (suc (suc zero))))))) e l n s = alive e
+    fixed_whole (suc (suc (suc (suc (suc (suc (suc (suc k)))))))) e l n s = absurd (omega arith)

@@ -1,18 +1,16 @@
 -- What the codec's calls answer, over the definitions of bytes and of reading.
-use Rattle.std.specs.Prelude.{◌≡◌, Bool, true, false, List, [], ◌∷◌, ℕ, zero, suc, ◌+◌, ◌-◌, ltb, eqb, length, take, drop}
+use Rattle.std.specs.Prelude.{◌≡◌, Bool, true, false, List, [], ◌∷◌, ℕ, zero, suc, ◌+◌, ◌-◌, ltb, length, take, drop, Result, Ok, Err}
 use Rattle.base.specs.Pick.{pick}
 use Rattle.base.specs.First.{first_of}
 use Rattle.base.specs.Lay.{no_room, laid_at}
-use Rattle.answer.specs.Number.{number_of}
+use Rattle.answer.specs.Number.{refusal_number}
+use Rattle.answer.specs.declared.Refusal.{Refusal}
 use Rattle.ceilings.specs.Ceilings.{most_players, most_payload}
 use Rattle.codec.specs.Message.{Wire, Fits, is_input, meant, size_with}
 use Rattle.codec.specs.Bytes.{head, bytes}
 use Rattle.codec.specs.Read.{message, datagram, number_in, wire_in, left_in}
+use Rattle.codec.specs.Read.Reading.{fault}
 use Rattle.codec.specs.declared.Message.{Message}
-use Rattle.codec.specs.declared.Size.{Size}
-use Rattle.codec.specs.declared.Size.TheVariants.{Bytes, TooLong}
-use Rattle.codec.specs.declared.Written.{Written}
-use Rattle.codec.specs.declared.Received.{Received}
 
 -- 12 (N-12) of what is to be written; only an Input has statuses and a payload (W-13)
 unfoldable pub too_long : Message → ℕ → Bool
@@ -23,9 +21,9 @@ abbrev pub size_for : Message → ℕ → ℕ
 size_for m n = size_with m.body m.reports.count n
 
 -- the number and the value of each case (N-12)
-abbrev pub shown_size : Size → ℕ × ℕ
-shown_size (Bytes n) = (0, n)
-shown_size TooLong = (12, 0)
+abbrev pub shown_size : Result ℕ Refusal → ℕ × ℕ
+shown_size (Ok n) = (0, n)
+shown_size (Err refusal) = (refusal_number refusal, 0)
 
 abbrev pub size_as : Message → ℕ → ℕ × ℕ
 size_as m n = pick (too_long m n) (12, 0) (0, size_for m n)
@@ -34,30 +32,40 @@ size_as m n = pick (too_long m n) (12, 0) (0, size_for m n)
 unfoldable pub write_refusal : List ℕ → ℕ → Message → ℕ → ℕ
 write_refusal buffer at m n = first_of ((too_long m n, 12) ∷ (no_room buffer at (size_for m n), 5) ∷ [])
 
--- on a refusal nothing is written; otherwise the piece of a message stands at its place and the answer has the place after it. What is written
--- fits, as every value of the code's types within the counts does
-pub record LaidAs (buffer : List ℕ) (at refusal : ℕ) (w : Wire) (piece : List ℕ) (r : Written) (buffer' : List ℕ) : Type 0 where
-  pub answer : number_of r.answer ≡ refusal
-  pub end : r.end ≡ pick (eqb refusal 0) (at + length piece) at
-  pub lent : buffer' ≡ pick (eqb refusal 0) (laid_at buffer at piece) buffer
-  pub fits : refusal ≡ 0 → Fits w
+-- the piece of a message stands at its place, and the answer is the place after it. What is written fits, as every value of the code's types within the
+-- counts does
+pub record Laid (buffer : List ℕ) (at refusal : ℕ) (w : Wire) (piece : List ℕ) (next : ℕ) (buffer' : List ℕ) : Type 0 where
+  pub done : refusal ≡ 0
+  pub end : next ≡ at + length piece
+  pub lent : buffer' ≡ laid_at buffer at piece
+  pub fits : Fits w
 
-abbrev pub WrittenAs : List ℕ → ℕ → Message → List ℕ → Written → List ℕ → Type 0
+-- on a refusal nothing is written
+abbrev pub LaidAs : (buffer : List ℕ) (at refusal : ℕ) (w : Wire) (piece : List ℕ) → Result ℕ Refusal → List ℕ → Type 0
+LaidAs buffer at refusal w piece (Ok end) buffer' = Laid buffer at refusal w piece end buffer'
+LaidAs buffer at refusal w piece (Err e) buffer' = (refusal ≡ refusal_number e) × (buffer' ≡ buffer)
+
+abbrev pub WrittenAs : List ℕ → ℕ → Message → List ℕ → Result ℕ Refusal → List ℕ → Type 0
 WrittenAs buffer at m payload =
     LaidAs buffer at (write_refusal buffer at m (length payload)) (meant m payload) (bytes (meant m payload))
 
 -- an Input's payload of n bytes is left to the caller, who puts it at the end
-abbrev pub HeadAs : List ℕ → ℕ → Message → ℕ → Written → List ℕ → Type 0
+abbrev pub HeadAs : List ℕ → ℕ → Message → ℕ → Result ℕ Refusal → List ℕ → Type 0
 HeadAs buffer at m n = LaidAs buffer at (write_refusal buffer at m n) (meant m []) (head (meant m []) n)
 
 -- the payload of a datagram that reads, empty where it does not or is no Input; it is the last part of the datagram
 abbrev pub payload_in : List ℕ → List ℕ
 payload_in d = (wire_in (datagram d)).payload
 
-pub record ReadAs (d : List ℕ) (r : Received) : Type 0 where
-  pub answer : number_of r.answer ≡ number_in (datagram d)
-  pub message : meant r.message (payload_in d) ≡ wire_in (datagram d)
-  pub count : r.message.reports.count ≡ length (wire_in (datagram d)).reports
+-- a message that was read, less the payload
+pub record MessageAs (d : List ℕ) (m : Message) : Type 0 where
+  pub reads : number_in (datagram d) ≡ 0
+  pub message : meant m (payload_in d) ≡ wire_in (datagram d)
+  pub count : m.reports.count ≡ length (wire_in (datagram d)).reports
+
+abbrev pub ReadAs : List ℕ → Result Message Refusal → Type 0
+ReadAs d (Ok m) = MessageAs d m
+ReadAs d (Err refusal) = datagram d ≡ fault (refusal_number refusal)
 
 pub record PayloadAs (d r : List ℕ) : Type 0 where
   pub part : r ≡ drop (length d - length (payload_in d)) d

@@ -7,7 +7,7 @@ use Rattle.ceilings.specs.Ceilings.{most_players, most_payload}
 use Rattle.codec.specs.Sizes.{fixed_size}
 use Rattle.codec.specs.declared.Wide.{Wide}
 use Rattle.codec.specs.declared.StatusReport.{StatusReport}
-use Rattle.codec.specs.declared.StatusReports.{StatusReports}
+use Rattle.fixed_vec.specs.declared.FixedVec.{FixedVec}
 use Rattle.codec.specs.declared.Message.{Message}
 use Rattle.codec.specs.declared.MessageBody.{MessageBody}
 use Rattle.codec.specs.declared.MessageBody.TheVariants.{SyncRequest, SyncReply, Input, InputAck, QualityReport, QualityReply, ChecksumReport, KeepAlive}
@@ -39,8 +39,12 @@ is_input (QualityReply p) = false
 is_input (ChecksumReport c f) = false
 is_input KeepAlive = false
 
+-- what the code calls StatusReports
+abbrev pub Reports : Type 0
+Reports = FixedVec StatusReport most_players
+
 -- the list that a status array with a count holds
-abbrev pub report_list : StatusReports → List StatusReport
+abbrev pub report_list : Reports → List StatusReport
 report_list r = take r.count r.list
 
 -- what a message struct with a payload beside it stands for: only an Input has reports and a payload

@@ -1,10 +1,9 @@
 -- Inside the writer, where the room is known: what the functions that put one field after another leave.
 use Rattle.std.specs.Prelude.{◌≡◌, List, [], ℕ, ◌+◌, ◌^◌, ◌<◌, length}
 use Rattle.base.specs.Lay.{laid_at}
-use Rattle.codec.specs.Message.{FitsBody, FitsReports, report_list, meant}
+use Rattle.codec.specs.Message.{FitsBody, FitsReports, Reports, report_list, meant}
 use Rattle.codec.specs.Bytes.{report_bytes, reports_bytes, statuses_bytes, body_bytes, head}
 use Rattle.codec.specs.declared.StatusReport.{StatusReport}
-use Rattle.codec.specs.declared.StatusReports.{StatusReports}
 use Rattle.codec.specs.declared.Message.{Message}
 
 -- the piece stands at its place, and the answer is the place after it
@@ -17,11 +16,11 @@ pub record ReportPut (report : StatusReport) (buffer : List ℕ) (at r : ℕ) (b
   pub put : PutAs buffer at (report_bytes report) r buffer'
   pub frame : report.last_frame < 2 ^ 32
 
-pub record ReportsPut (reports : StatusReports) (buffer : List ℕ) (at r : ℕ) (buffer' : List ℕ) : Type 0 where
+pub record ReportsPut (reports : Reports) (buffer : List ℕ) (at r : ℕ) (buffer' : List ℕ) : Type 0 where
   pub put : PutAs buffer at (reports_bytes (report_list reports)) r buffer'
   pub frames : FitsReports (report_list reports)
 
-pub record StatusesPut (reports : StatusReports) (buffer : List ℕ) (at r : ℕ) (buffer' : List ℕ) : Type 0 where
+pub record StatusesPut (reports : Reports) (buffer : List ℕ) (at r : ℕ) (buffer' : List ℕ) : Type 0 where
   pub put : PutAs buffer at (statuses_bytes (report_list reports)) r buffer'
   pub frames : FitsReports (report_list reports)
   pub count : length (report_list reports) ≡ reports.count

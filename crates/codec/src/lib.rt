@@ -6,11 +6,11 @@
 mod reader;
 mod writer;
 
-ghost use Rattle.std.specs.Prelude.{◌≡◌};
-ghost use Rattle.codec.specs.Message.{kind_of};
+ghost use Rattle.std.specs.Prelude.{◌≡◌, ◌+◌, ◌*◌, ◌^◌};
+ghost use Rattle.codec.specs.Message.{kind_of, is_input};
 
-use answer::Answer;
 use ceilings::MOST_PLAYERS;
+use fixed_vec::FixedVec;
 pub use reader::{message_end, no_reports, payload_of, read};
 pub use writer::{size_of, write, write_head};
 
@@ -20,27 +20,33 @@ pub const FIXED_SIZES: [usize; 8] = [10, 10, 31, 10, 24, 22, 26, 6];
 pub const STATUS_SIZE: usize = 5;
 
 // The wire's two fields of a player's status.
-#[derive(Clone, Copy)]
+#[derive(Clone, Copy, Debug, PartialEq, Eq)]
 pub struct StatusReport {
     pub disconnected: bool,
     pub last_frame: u32,
 }
 
 // An Input's status list, with the count as given: a writer refuses one above MOST_PLAYERS.
-#[derive(Clone, Copy)]
-pub struct StatusReports {
-    pub list: [StatusReport; MOST_PLAYERS],
-    pub count: usize,
-}
+pub type StatusReports = FixedVec<StatusReport, MOST_PLAYERS>;
 
-#[derive(Clone, Copy)]
+// A u128 of the wire.
+#[derive(Clone, Copy, Debug, PartialEq, Eq)]
 pub struct Wide {
     pub low: u64,
     pub high: u64,
 }
 
+// The number that the two words are.
+impl From<Wide> for u128 {
+    ghost from_gives = { λ wide n. n ≡ wide.low + 2 ^ 64 * wide.high };
+
+    fn from(wide: Wide) -> u128 {
+        u128::from(wide.high) << 64 | u128::from(wide.low)
+    }
+}
+
 // The eight bodies. An Input's reports and payload stand beside it, so that the enum holds no bytes.
-#[derive(Clone, Copy)]
+#[derive(Clone, Copy, Debug, PartialEq, Eq)]
 pub enum MessageBody {
     SyncRequest {
         random_request: u32,
@@ -70,6 +76,16 @@ pub enum MessageBody {
     KeepAlive,
 }
 
+impl MessageBody {
+    // Whether a status list and a payload stand beside it.
+    #[tactic(auto, unfolding(crate::specs::Message::is_input))]
+    fn is_input(self) -> bool
+        ensures { result ≡ is_input self }
+    {
+        matches!(self, MessageBody::Input { .. })
+    }
+}
+
 // A message without an Input's payload, which is a slice of its own.
 #[derive(Clone, Copy)]
 pub struct Message {
@@ -78,49 +94,19 @@ pub struct Message {
     pub reports: StatusReports,
 }
 
-// The bytes that a message takes.
-#[derive(Clone, Copy)]
-pub enum Size {
-    Bytes(usize),
-    TooLong,
-}
-
-// What a writer answers, with the place after what it wrote.
-#[derive(Clone, Copy)]
-pub struct Written {
-    pub answer: Answer,
-    pub end: usize,
-}
-
-// What a reader answers; a refusal comes with a blank message.
-#[derive(Clone, Copy)]
-pub struct Received {
-    pub answer: Answer,
-    pub message: Message,
-}
-
+// The number of a body's kind, which stands before it on the wire.
 #[tactic(auto, unfolding(crate::specs::Message::kind_of))]
 pub fn kind_of(body: MessageBody) -> u32
     ensures { result ≡ kind_of body }
 {
     match body {
-        MessageBody::SyncRequest { random_request: _ } => 0,
-        MessageBody::SyncReply { random_reply: _ } => 1,
-        MessageBody::Input {
-            disconnect_requested: _,
-            start_frame: _,
-            ack_frame: _,
-        } => 2,
-        MessageBody::InputAck { ack_frame: _ } => 3,
-        MessageBody::QualityReport {
-            frame_advantage: _,
-            ping: _,
-        } => 4,
-        MessageBody::QualityReply { pong: _ } => 5,
-        MessageBody::ChecksumReport {
-            checksum: _,
-            frame: _,
-        } => 6,
+        MessageBody::SyncRequest { .. } => 0,
+        MessageBody::SyncReply { .. } => 1,
+        MessageBody::Input { .. } => 2,
+        MessageBody::InputAck { .. } => 3,
+        MessageBody::QualityReport { .. } => 4,
+        MessageBody::QualityReply { .. } => 5,
+        MessageBody::ChecksumReport { .. } => 6,
         MessageBody::KeepAlive => 7,
     }
 }

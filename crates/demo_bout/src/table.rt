@@ -19,28 +19,28 @@ impl Table {
             name: b'B',
             player: 1,
         };
-        let a = End::new(rt, own, other, 0)?.synchronize(rt, 0)?;
-        let b = End::new(rt, other, own, 0)?.synchronize(rt, 0)?;
-        let mut table = Table { a, b };
-        let mut now = 10;
-        while now < 70 {
-            table = table.meet(rt, now)?;
-            now += 10;
+        let mut table = Table {
+            a: End::new(rt, own, other, 0)?,
+            b: End::new(rt, other, own, 0)?,
+        };
+        table.a.synchronize(rt, 0)?;
+        table.b.synchronize(rt, 0)?;
+        for now in (10..70).step_by(10) {
+            table.meet(rt, now)?;
         }
         Ok(table)
     }
 
     // What A has queued arrives at B, then what B has, with its answers, at A.
-    pub(crate) fn meet(self, rt: &impl Print, now: u32) -> io::Result<Table> {
-        let b = self.b.receive(rt, self.a, now)?;
-        let a = self.a.take_messages(rt)?.receive(rt, b, now)?;
-        let b = b.take_messages(rt)?;
-        Ok(Table { a, b })
+    pub(crate) fn meet(&mut self, rt: &impl Print, now: u32) -> io::Result<()> {
+        self.b.receive(rt, &self.a, now)?;
+        self.a.take_messages(rt)?;
+        self.a.receive(rt, &self.b, now)?;
+        self.b.take_messages(rt)
     }
 
-    pub(crate) fn show_events(self, rt: &impl Print) -> io::Result<Table> {
-        let a = self.a.show_events(rt)?;
-        let b = self.b.show_events(rt)?;
-        Ok(Table { a, b })
+    pub(crate) fn take_events(&mut self, rt: &impl Print) -> io::Result<()> {
+        self.a.take_events(rt)?;
+        self.b.take_events(rt)
     }
 }

@@ -3,12 +3,10 @@
 #![tactic(auto)]
 
 use ceilings::MOST_CHECKSUMS;
-use endpoint::{Answer, Checksums, Ended, Endpoint, Message, MessageBody, Wide};
+use endpoint::{Checksums, Ended, Endpoint, Message, MessageBody, Wide};
 use frame::BIAS32;
 use std::io;
-use std::num::wrapping_sub_usize;
 use std::process::ExitCode;
-use text::Draft;
 
 // The ends' magics, and their numbers as peers.
 const A: u16 = 65;
@@ -28,10 +26,10 @@ fn play(rt: &impl Print) -> io::Result<()> {
     let full = show(rt, BIAS32 + 100, report(falling(), BIAS32 + 100, 110))?;
     let refused = show(rt, BIAS32 + 99, report(full, BIAS32 + 99, 120))?;
     if same(full.checksums(), refused.checksums()) {
-        put(rt, b"All 64 are as they were\n")?;
+        println!(rt; "All 64 are as they were")?;
     }
     if unheard(full, refused) {
-        put(rt, b"And nothing was heard, announced or queued\n")?;
+        println!(rt; "And nothing was heard, announced or queued")?;
     }
     let later = show(rt, BIAS32 + 164, report(refused, BIAS32 + 164, 130))?;
     show(rt, BIAS32 + 99, report(later, BIAS32 + 99, 140))?;
@@ -41,11 +39,8 @@ fn play(rt: &impl Print) -> io::Result<()> {
 // B after A's reports of frames 163 down to 101.
 fn falling() -> Endpoint {
     let mut b = demo_ends::end(B, A, 0, 0);
-    let mut frame = BIAS32 + 164;
-    while BIAS32 + 101 < frame {
-        frame -= 1;
-        let ended = report(b, frame, 100);
-        b = ended.endpoint;
+    for frame in (BIAS32 + 101..BIAS32 + 164).rev() {
+        b = report(b, frame, 100).endpoint;
     }
     b
 }
@@ -53,7 +48,7 @@ fn falling() -> Endpoint {
 // A's report of a frame arrives at B. The frame's number serves as its checksum.
 fn report(b: Endpoint, frame: u32, now: u64) -> Ended {
     let checksum = Wide {
-        low: frame as u64,
+        low: frame.into(),
         high: 0,
     };
     let message = Message {
@@ -61,60 +56,37 @@ fn report(b: Endpoint, frame: u32, now: u64) -> Ended {
         body: MessageBody::ChecksumReport { checksum, frame },
         reports: codec::no_reports(),
     };
-    let mut queue = [0u8; 64];
-    b.message(A as u32, message, b"", now, now, 0, &mut queue)
+    let mut queue = [0; 64];
+    b.message(A.into(), message, b"", now, now, 0, &mut queue)
 }
 
-// What a report was answered, and the checksums then held.
+// What a report was answered, and the checksums then held, which stand in the order of their coming.
 fn show(rt: &impl Print, frame: u32, ended: Ended) -> io::Result<Endpoint> {
-    let answer = ended.answer;
-    print_line(rt, frame, answer, ended.endpoint.checksums())?;
-    Ok(ended.endpoint)
-}
-
-// Checksums stand in the order of their coming.
-fn print_line(rt: &impl Print, frame: u32, answer: Answer, held: Checksums) -> io::Result<()> {
+    let held = ended.endpoint.checksums();
     let count = held.count();
-    let first = held.entry(0);
-    let last = held.entry(wrapping_sub_usize(count, 1));
-    let line = Draft::new()
-        .put(b"Report of frame ")
-        .put_signed(frame, BIAS32);
-    let line = line
-        .put(b": answer ")
-        .put_decimal(answer.number() as u64, 0);
-    let line = line.put(b", checksums ").put_decimal(count as u64, 0);
-    let line = line.put(b", first frame ").put_signed(first.frame, BIAS32);
-    let line = line
-        .put(b", last frame ")
-        .put_signed(last.frame, BIAS32)
-        .put(b"\n");
-    let bytes = line.bytes;
-    put(rt, text::filled(&bytes, line.used))
+    println!(rt;
+        "Report of frame {}: answer {}, checksums {count}, first frame {}, last frame {}",
+        frame::to_signed(frame),
+        answer::number_of(ended.answer),
+        frame::to_signed(held.entry(0).frame),
+        frame::to_signed(held.entry(count.wrapping_sub(1)).frame),
+    )?;
+    Ok(ended.endpoint)
 }
 
 // All that fit, place by place.
 fn same(before: Checksums, after: Checksums) -> bool {
-    let mut i = 0;
-    while i < MOST_CHECKSUMS {
-        let x = before.entry(i);
-        let y = after.entry(i);
-        if x.frame != y.frame || x.low != y.low || x.high != y.high {
-            return false;
-        }
-        i += 1;
-    }
-    before.count() == after.count()
+    let places = (0..MOST_CHECKSUMS).all(|i| {
+        let (x, y) = (before.entry(i), after.entry(i));
+        (x.frame, x.low, x.high) == (y.frame, y.low, y.high)
+    });
+    places && before.count() == after.count()
 }
 
 // What any other message would have changed, the receive time first of all.
 fn unheard(before: Endpoint, after: Endpoint) -> bool {
-    (before.clocks.last_recv_time == after.clocks.last_recv_time)
-        & (before.events.count() == after.events.count())
-        & (before.queued == after.queued)
-        & (before.last_recv_frame() == after.last_recv_frame())
-}
-
-fn put(rt: &impl Print, bytes: &[u8]) -> io::Result<()> {
-    rt.write_all(bytes)
+    before.clocks.last_recv_time == after.clocks.last_recv_time
+        && before.events.count() == after.events.count()
+        && before.queued == after.queued
+        && before.last_recv_frame() == after.last_recv_frame()
 }

@@ -1,5 +1,5 @@
 // An endpoint that runs already, for programs that do not show the handshake: a plain setup of a bout between two players, and what the
-// handshake leaves of an endpoint that was made.
+// handshake leaves of an endpoint that was made. And a queue's datagrams, for programs that carry them.
 #![tactic(auto)]
 
 ghost use Rattle.std.specs.Prelude.{◌≡◌};
@@ -7,7 +7,10 @@ ghost use Rattle.endpoint_rules.specs.Seen.{made};
 ghost use Rattle.endpoint.specs.Endpoint.{seen};
 ghost use Rattle.demo_ends.specs.Running.{two_players, synchronized_with};
 
+mod queue;
+
 use endpoint::{Choices, DesyncDetection, Endpoint, Handles, Phase, Setup, Sync};
+pub use queue::Datagrams;
 
 // Two players, one at each end, whose inputs are a byte; `player` is the one at the other end.
 #[tactic(auto, unfolding(crate::specs::Running::two_players))]
@@ -52,6 +55,6 @@ pub fn synchronized(endpoint: Endpoint, magic: u16) -> Endpoint
 pub fn end(own: u16, other: u16, player: u32, now: u64) -> Endpoint
     ensures { seen result ≡ synchronized_with other (made (two_players own other player) now) }
 {
-    let made = Endpoint::new(two_players(own, other as u32, player), now);
+    let made = Endpoint::new(two_players(own, other.into(), player), now);
     synchronized(made.endpoint, other)
 }

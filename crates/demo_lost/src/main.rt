@@ -20,71 +20,73 @@ fn main(rt: HostRuntime) -> ExitCode {
     ExitCode::FAILURE
 }
 
+// An end, and the buffer that it is lent.
+#[derive(Clone, Copy)]
+struct End {
+    endpoint: Endpoint,
+    queue: [u8; 128],
+}
+
 fn play(rt: &impl Print) -> io::Result<()> {
-    let mut queue = [0u8; 128];
-    let mut answers = [0u8; 128];
-    let a = demo_ends::end(A, B, 1, 0);
-    let b = demo_ends::end(B, A, 0, 0);
-    let a = send(rt, b"A: loses ", a, BIAS32, 0x05, &mut queue)?;
-    let a = send(rt, b"A: sends ", a, BIAS32 + 1, 0x07, &mut queue)?;
+    let mut a = End::new(A, B, 1);
+    let mut b = End::new(B, A, 0);
+    a.send(rt, b"A: loses ", BIAS32, 0x05)?;
+    a.send(rt, b"A: sends ", BIAS32 + 1, 0x07)?;
     // B's answer is lost too, so that A sends frames 0 and 1 again with frame 2.
-    let b = arrive(rt, b"B: loses ", b, a, &queue, &mut answers)?;
-    let a = send(rt, b"A: sends ", a, BIAS32 + 2, 0x02, &mut queue)?;
-    let b = arrive(rt, b"B: sends ", b, a, &queue, &mut answers)?;
+    b.receive(rt, b"B: loses ", &a)?;
+    a.send(rt, b"A: sends ", BIAS32 + 2, 0x02)?;
+    b.receive(rt, b"B: sends ", &a)?;
     // This answer arrives: from here on A packs against frame 2.
-    let a = answer(a, b, &answers, &mut queue);
-    let a = send(rt, b"A: loses ", a, BIAS32 + 3, 0x02, &mut queue)?;
-    let a = send(rt, b"A: sends ", a, BIAS32 + 4, 0x01, &mut queue)?;
-    arrive(rt, b"B: sends ", b, a, &queue, &mut answers)?;
-    Ok(())
+    a.receive_answer(&b);
+    a.send(rt, b"A: loses ", BIAS32 + 3, 0x02)?;
+    a.send(rt, b"A: sends ", BIAS32 + 4, 0x01)?;
+    b.receive(rt, b"B: sends ", &a)
 }
 
-// A's player moves. What A had queued before is gone by then; the packet is shown after the words for what becomes of it.
-fn send(
-    rt: &impl Print,
-    words: &[u8; 9],
-    a: Endpoint,
-    frame: u32,
-    input: u8,
-    queue: &mut [u8; 128],
-) -> io::Result<Endpoint> {
-    let taken = a.take_messages(queue);
-    let sent = taken
-        .endpoint
-        .send_input(frame, &[input], Statuses::new(2), 100, queue);
-    let mut page = [0u8; 256];
-    let end = message_line::line_after(&mut page, 0, words, sent.endpoint.messages(queue));
-    put(rt, text::filled(&page, end))?;
-    Ok(sent.endpoint)
-}
+impl End {
+    fn new(own: u16, other: u16, player: u32) -> End {
+        End {
+            endpoint: demo_ends::end(own, other, player, 0),
+            queue: [0; 128],
+        }
+    }
 
-// What A has queued arrives at B, which announces it and answers.
-fn arrive(
-    rt: &impl Print,
-    words: &[u8; 9],
-    b: Endpoint,
-    a: Endpoint,
-    queue: &[u8; 128],
-    answers: &mut [u8; 128],
-) -> io::Result<Endpoint> {
-    let taken = b.take_messages(answers);
-    let heard = taken
-        .endpoint
-        .datagram(A as u32, a.messages(queue), 120, 120, 0, answers);
-    let announced = heard.endpoint.take_events();
-    let mut page = [0u8; 256];
-    let end = event_line::lines(&mut page, 0, b'B', announced.events, 1);
-    let end = message_line::line_after(&mut page, end, words, announced.endpoint.messages(answers));
-    put(rt, text::filled(&page, end))?;
-    Ok(announced.endpoint)
-}
+    // A's player moves. What A had queued before is gone by then; the packet is shown after the words for what becomes of it.
+    fn send(&mut self, rt: &impl Print, words: &[u8], frame: u32, input: u8) -> io::Result<()> {
+        let taken = self.endpoint.take_messages(&self.queue);
+        let statuses = Statuses::new(2);
+        let sent = taken
+            .endpoint
+            .send_input(frame, &[input], statuses, 100, &mut self.queue);
+        self.endpoint = sent.endpoint;
+        let mut page = [0; 256];
+        let packet = self.endpoint.messages(&self.queue);
+        let end = message_line::line_after(&mut page, 0, words, packet);
+        rt.write_all(text::filled(&page, end))
+    }
 
-// B's answer arrives at A.
-fn answer(a: Endpoint, b: Endpoint, answers: &[u8; 128], queue: &mut [u8; 128]) -> Endpoint {
-    let heard = a.datagram(B as u32, b.messages(answers), 140, 140, 0, queue);
-    heard.endpoint
-}
+    // What A has queued arrives at B, which announces it and answers.
+    fn receive(&mut self, rt: &impl Print, words: &[u8], a: &End) -> io::Result<()> {
+        let packet = a.endpoint.messages(&a.queue);
+        let taken = self.endpoint.take_messages(&self.queue);
+        let heard = taken
+            .endpoint
+            .datagram(A.into(), packet, 120, 120, 0, &mut self.queue);
+        let announced = heard.endpoint.take_events();
+        self.endpoint = announced.endpoint;
+        let mut page = [0; 256];
+        let end = event_line::lines(&mut page, 0, b'B', announced.events, 1);
+        let answer = self.endpoint.messages(&self.queue);
+        let end = message_line::line_after(&mut page, end, words, answer);
+        rt.write_all(text::filled(&page, end))
+    }
 
-fn put(rt: &impl Print, bytes: &[u8]) -> io::Result<()> {
-    rt.write_all(bytes)
+    // B's answer arrives at A.
+    fn receive_answer(&mut self, b: &End) {
+        let answer = b.endpoint.messages(&b.queue);
+        let heard = self
+            .endpoint
+            .datagram(B.into(), answer, 140, 140, 0, &mut self.queue);
+        self.endpoint = heard.endpoint;
+    }
 }

@@ -21,40 +21,34 @@ fn main(rt: HostRuntime) -> ExitCode {
 }
 
 fn play(rt: &impl Print) -> io::Result<()> {
-    let mut queue = [0u8; 128];
+    let mut queue = [0; 128];
     let statuses = Statuses::new(2);
     let a = demo_ends::end(A, B, 1, 0);
-    let b = demo_ends::end(B, A, 0, 0);
+    let mut b = demo_ends::end(B, A, 0, 0);
     // The datagram with frame 0, of which the network keeps a copy, arrives twice.
     let sent = a.send_input(BIAS32, b"\x05", statuses, 100, &mut queue);
-    let mut copy = [0u8; 128];
+    let mut copy = [0; 128];
     let taken = sent.endpoint.take_messages_into(&queue, &mut copy);
-    let first = text::filled(&copy, taken.count);
-    let b = arrive(rt, b, first, 110)?;
-    let b = arrive(rt, b, first, 120)?;
+    let first = text::filled(&copy, taken.answer.unwrap_or(0));
+    arrive(rt, &mut b, first, 110)?;
+    arrive(rt, &mut b, first, 120)?;
     // The datagram with frames 0 and 1 arrives, and then the first once more.
     let a = taken.endpoint;
     let sent = a.send_input(BIAS32 + 1, b"\x07", statuses, 130, &mut queue);
-    let b = arrive(rt, b, sent.endpoint.messages(&queue), 140)?;
-    arrive(rt, b, first, 150)?;
-    Ok(())
+    arrive(rt, &mut b, sent.endpoint.messages(&queue), 140)?;
+    arrive(rt, &mut b, first, 150)
 }
 
 // A's datagram arrives at B: what it is, what B announces, and what B answers.
-fn arrive(rt: &impl Print, b: Endpoint, datagram: &[u8], now: u64) -> io::Result<Endpoint> {
-    let mut queue = [0u8; 64];
-    let ended = b.datagram(A as u32, datagram, now, now, 0, &mut queue);
+fn arrive(rt: &impl Print, b: &mut Endpoint, datagram: &[u8], now: u64) -> io::Result<()> {
+    let mut queue = [0; 64];
+    let ended = b.datagram(A.into(), datagram, now, now, 0, &mut queue);
     let taken = ended.endpoint.take_events();
-    let mut page = [0u8; 512];
+    let mut page = [0; 512];
     let at = message_line::line_after(&mut page, 0, b"A: sends ", datagram);
     let at = event_line::lines(&mut page, at, b'B', taken.events, 1);
     let answer = taken.endpoint.messages(&queue);
     let at = message_line::line_after(&mut page, at, b"B: sends ", answer);
-    put(rt, text::filled(&page, at))?;
-    let answered = taken.endpoint.take_messages(&queue);
-    Ok(answered.endpoint)
-}
-
-fn put(rt: &impl Print, bytes: &[u8]) -> io::Result<()> {
-    rt.write_all(bytes)
+    *b = taken.endpoint.take_messages(&queue).endpoint;
+    rt.write_all(text::filled(&page, at))
 }

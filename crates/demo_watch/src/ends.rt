@@ -7,5 +7,5 @@ pub(crate) const BOX: u8 = b'B';
 const EPOCH: u64 = 1700000000000;
 
 pub(crate) fn epoch(now: u32) -> u64 {
-    EPOCH + now as u64
+    EPOCH + u64::from(now)
 }

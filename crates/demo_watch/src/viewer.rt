@@ -1,6 +1,8 @@
-// The viewing box: a spectator session, the buffer that this is lent, and how much of the buffer the last poll handed back to be sent.
+// The viewing box: a spectator session, the buffer that this is lent, and how much of the buffer the last poll handed back to be sent. (Some calls read as
+// the host's; a trait over endpoint and session would have to name each of them twice more.)
 use crate::ends::{BOX, HOST, epoch};
 use crate::lines;
+use demo_ends::Datagrams;
 use spectator::{Choices, DesyncDetection, Ended, Limits, SessionSetup, SpectatorSession};
 use std::io;
 
@@ -20,8 +22,8 @@ fn setup() -> SessionSetup {
         disconnect_timeout: 2000,
         disconnect_notify_start: 500,
         fps: 60,
-        magic: BOX as u16,
-        peer_addr: HOST as u32,
+        magic: BOX.into(),
+        peer_addr: HOST.into(),
         choices: Choices::new(DesyncDetection::Off),
         limits: Limits {
             slots: 60,
@@ -34,98 +36,76 @@ fn setup() -> SessionSetup {
 
 impl Viewer {
     pub(crate) fn new(rt: &impl Print, now: u32) -> io::Result<Viewer> {
-        let made = SpectatorSession::new(setup(), now as u64);
-        let answer = made.answer;
-        lines::refusal(rt, BOX, answer)?;
-        let session = made.session;
+        let made = SpectatorSession::new(setup(), now.into());
+        lines::refusal(rt, BOX, made.answer.err())?;
         Ok(Viewer {
-            session,
-            queue: [0u8; 1024],
+            session: made.session,
+            queue: [0; 1024],
             filled: 0,
         })
     }
 
     // What a call leaves. A refusal is shown; session and queue are then as they were.
-    fn after(self, rt: &impl Print, ended: Ended, queue: [u8; 1024]) -> io::Result<Viewer> {
-        let answer = ended.answer;
-        lines::refusal(rt, BOX, answer)?;
-        let session = ended.session;
-        Ok(Viewer {
-            session,
-            queue,
-            ..self
-        })
+    fn after(&mut self, rt: &impl Print, ended: Ended) -> io::Result<()> {
+        self.session = ended.session;
+        lines::refusal(rt, BOX, ended.answer.err())
     }
 
-    pub(crate) fn synchronize(self, rt: &impl Print, now: u32) -> io::Result<Viewer> {
-        let mut queue = self.queue;
+    pub(crate) fn synchronize(&mut self, rt: &impl Print, now: u32) -> io::Result<()> {
         let ended = self
             .session
-            .synchronize(now as u64, epoch(now), now, &mut queue);
-        self.after(rt, ended, queue)
+            .synchronize(now.into(), epoch(now), now, &mut self.queue);
+        self.after(rt, ended)
     }
 
-    fn datagram(self, rt: &impl Print, datagram: &[u8], now: u32) -> io::Result<Viewer> {
-        let mut queue = self.queue;
+    fn datagram(&mut self, rt: &impl Print, datagram: &[u8], now: u32) -> io::Result<()> {
         let ended = self.session.datagram(
-            HOST as u32,
+            HOST.into(),
             datagram,
-            now as u64,
+            now.into(),
             epoch(now),
             now,
-            &mut queue,
+            &mut self.queue,
         );
-        self.after(rt, ended, queue)
+        self.after(rt, ended)
     }
 
     // What the host has sent arrives, a message in each datagram.
-    #[tactic(auto, using(codec::proofs::Queue::message_end_inside))]
-    pub(crate) fn receive(self, rt: &impl Print, sent: &[u8], now: u32) -> io::Result<Viewer> {
-        let mut next = self;
-        let mut at = 0;
-        while at < sent.len() {
-            let end = codec::message_end(sent, at);
-            next = next.datagram(rt, &sent[at..end], now)?;
-            at = end;
+    pub(crate) fn receive(&mut self, rt: &impl Print, sent: &[u8], now: u32) -> io::Result<()> {
+        for datagram in Datagrams(sent) {
+            self.datagram(rt, datagram, now)?;
         }
-        Ok(next)
+        Ok(())
     }
 
     // What arrived is handled. The filled part of the buffer is to be sent before the next call.
-    pub(crate) fn poll(self, rt: &impl Print, now: u32) -> io::Result<Viewer> {
-        let mut queue = self.queue;
+    pub(crate) fn poll(&mut self, rt: &impl Print, now: u32) -> io::Result<()> {
         let polled = self
             .session
-            .poll_remote_clients(now as u64, epoch(now), now, &mut queue);
-        let answer = polled.answer;
-        lines::refusal(rt, BOX, answer)?;
-        let session = polled.session;
-        Ok(Viewer {
-            session,
-            queue,
-            filled: polled.filled,
-        })
+            .poll_remote_clients(now.into(), epoch(now), now, &mut self.queue);
+        self.session = polled.session;
+        self.filled = polled.answer.unwrap_or(0);
+        lines::refusal(rt, BOX, polled.answer.err())
     }
 
     // The next frame, or, too far behind, the next few: each is shown.
-    pub(crate) fn advance(self, rt: &impl Print) -> io::Result<Viewer> {
+    pub(crate) fn advance(&mut self, rt: &impl Print) -> io::Result<()> {
         let current = self.session.current_frame();
         let advanced = self.session.advance_frame();
-        let answer = advanced.answer;
-        lines::refusal(rt, BOX, answer)?;
-        lines::frames(rt, current, advanced.requests)?;
-        let session = advanced.session;
-        Ok(Viewer { session, ..self })
+        self.session = advanced.session;
+        match advanced.answer {
+            Ok(requests) => lines::frames(rt, current, requests),
+            Err(refusal) => lines::refusal(rt, BOX, Some(refusal)),
+        }
     }
 
-    pub(crate) fn show_events(self, rt: &impl Print) -> io::Result<Viewer> {
+    pub(crate) fn show_events(&mut self, rt: &impl Print) -> io::Result<()> {
         let taken = self.session.take_events();
-        lines::box_events(rt, taken.events)?;
-        let session = taken.session;
-        Ok(Viewer { session, ..self })
+        self.session = taken.session;
+        lines::box_events(rt, taken.events)
     }
 
-    pub(crate) fn show_place(self, rt: &impl Print) -> io::Result<()> {
+    pub(crate) fn show_place(&self, rt: &impl Print) -> io::Result<()> {
         lines::place(
             rt,
             self.session.current_frame(),
@@ -133,12 +113,16 @@ impl Viewer {
         )
     }
 
-    pub(crate) fn show_messages(self, rt: &impl Print) -> io::Result<()> {
-        let queue = self.queue;
-        lines::messages(rt, BOX, b"sends ", text::filled(&queue, self.filled))
+    // What the last poll handed back.
+    pub(crate) fn sent(&self) -> &[u8] {
+        text::filled(&self.queue, self.filled)
     }
 
-    pub(crate) fn show_stats(self, rt: &impl Print, now: u32) -> io::Result<()> {
+    pub(crate) fn show_messages(&self, rt: &impl Print) -> io::Result<()> {
+        lines::messages(rt, BOX, b"sends ", self.sent())
+    }
+
+    pub(crate) fn show_stats(&self, rt: &impl Print, now: u32) -> io::Result<()> {
         lines::stats(rt, self.session.network_stats(epoch(now)))
     }
 }

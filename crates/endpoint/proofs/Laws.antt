@@ -1,4 +1,5 @@
 -- Laws of all calls.
+pub mod Queued
 pub mod Ends
 pub mod Announced
 pub mod Room

@@ -1,5 +1,4 @@
 -- What the functions inside the crate say, a file for each source file of the same name. No caller needs to read them.
-pub mod Arrival
 pub mod Admission
 pub mod Hearing
 pub mod Informing

@@ -1,7 +1,10 @@
 -- What a call that changes nothing shows: its number, and its value where that is 0; and how the two answers that may be refused show both.
-use Rattle.std.specs.Prelude.{◌≡◌, ℕ, eqb, length}
+use Rattle.std.specs.Prelude.{◌≡◌, ℕ, eqb, length, Result, Ok, Err}
 use Rattle.base.specs.Pick.{pick}
-use Rattle.answer.specs.Number.{number_of}
+use Rattle.answer.specs.Number.{refusal_number}
+use Rattle.answer.specs.declared.Refusal.{Refusal}
+use Rattle.status.specs.declared.ConnectionStatus.{ConnectionStatus}
+use Rattle.quality.specs.declared.NetworkStats.{NetworkStats}
 use Rattle.checksums.specs.declared.Checksums.{Checksums}
 use Rattle.checksums.specs.Checksums.{stored}
 use Rattle.setup.specs.declared.Handles.{Handles}
@@ -10,10 +13,6 @@ use Rattle.endpoint_rules.specs.Seen.{Seen}
 use Rattle.endpoint_rules.specs.Call.{Call, Question}
 use Rattle.endpoint_rules.specs.Step.{step}
 use Rattle.endpoint_rules.specs.Value.{Value, value_of}
-use Rattle.endpoint.specs.declared.getters.StatusResult.{StatusResult}
-use Rattle.endpoint.specs.declared.getters.StatusResult.TheVariants.{Status, BadHandle}
-use Rattle.endpoint.specs.declared.getters.StatsResult.{StatsResult}
-use Rattle.endpoint.specs.declared.getters.StatsResult.TheVariants.{Stats, Refused}
 
 unfoldable pub shown : Call → Seen → ℕ × Value
 shown c s = ((step c s).answer, pick (eqb (step c s).answer 0) (value_of c s) Value.nothing)
@@ -26,10 +25,10 @@ HandlesAs s r = (Value.numbers (handle_list r) ≡ value_of (Call.ask Question.h
 abbrev pub ChecksumsAs : Seen → Checksums → Type 0
 ChecksumsAs s r = (Value.checksums (stored r) ≡ value_of (Call.ask Question.checksums) s) × (r.used ≡ length (stored r))
 
-abbrev pub shown_status : StatusResult → ℕ × Value
-shown_status (Status status) = (0, Value.status status)
-shown_status BadHandle = (7, Value.nothing)
+abbrev pub shown_status : Result ConnectionStatus Refusal → ℕ × Value
+shown_status (Ok status) = (0, Value.status status)
+shown_status (Err refusal) = (refusal_number refusal, Value.nothing)
 
-abbrev pub shown_stats : StatsResult → ℕ × Value
-shown_stats (Stats stats) = (0, Value.stats stats)
-shown_stats (Refused answer) = (number_of answer, Value.nothing)
+abbrev pub shown_stats : Result NetworkStats Refusal → ℕ × Value
+shown_stats (Ok stats) = (0, Value.stats stats)
+shown_stats (Err refusal) = (refusal_number refusal, Value.nothing)

@@ -8,7 +8,7 @@ ghost use Rattle.endpoint.specs.Endpoint.{seen};
 ghost use Rattle.endpoint.specs.Made.{MadeAs};
 
 use crate::{Ended, Endpoint, NUM_SYNC_PACKETS, Sync};
-use answer::Answer;
+use answer::{Answer, Refusal};
 use checksums::Checksums;
 use endpoint_rules::{Flags, Phase};
 use events::Events;
@@ -25,12 +25,12 @@ fn refusal(setup: Setup, now: u64) -> Answer
     ensures { number_of result ≡ (fresh setup now).0 }
 {
     if timers::is_bad(now) {
-        return Answer::BadClock;
+        return Err(Refusal::BadClock);
     }
     if setup.is_bad() {
-        return Answer::BadSetup;
+        return Err(Refusal::BadSetup);
     }
-    Answer::Done
+    Ok(())
 }
 
 impl Endpoint {
@@ -38,35 +38,26 @@ impl Endpoint {
     fn made(setup: Setup, now: u64) -> Endpoint
         ensures { (seen result ≡ made setup now) × (result.setup.handles.count ≡ setup.handles.count) × (result.statuses.count ≡ min setup.num_players most_players) }
     {
-        let statuses = Statuses::new(setup.num_players as usize);
-        let setup = setup.sorted();
-        let pending = Pending::new();
-        let history = History::new();
-        let nonces = Nonces::new();
-        let clocks = Clocks::new(now);
-        let quality = Quality::new();
-        let checksums = Checksums::new();
-        let events = Events::new();
         Endpoint {
-            setup,
-            pending,
+            setup: setup.sorted(),
+            pending: Pending::new(),
             acked: BLANK,
-            history,
+            history: History::new(),
             sync: Sync {
                 phase: Phase::Initializing,
                 remaining: NUM_SYNC_PACKETS,
                 remote_magic: 0,
             },
-            nonces,
-            clocks,
+            nonces: Nonces::new(),
+            clocks: Clocks::new(now),
             flags: Flags {
                 disconnect_notify_sent: false,
                 disconnect_event_sent: false,
             },
-            quality,
-            statuses,
-            checksums,
-            events,
+            quality: Quality::new(),
+            statuses: Statuses::new(setup.num_players as usize),
+            checksums: Checksums::new(),
+            events: Events::new(),
             queued: 0,
         }
     }
@@ -75,8 +66,9 @@ impl Endpoint {
     pub fn new(setup: Setup, now: u64) -> Ended
         ensures { MadeAs setup now result }
     {
-        let answer = refusal(setup, now);
-        let endpoint = Endpoint::made(setup, now);
-        Ended { endpoint, answer }
+        Ended {
+            endpoint: Endpoint::made(setup, now),
+            answer: refusal(setup, now),
+        }
     }
 }

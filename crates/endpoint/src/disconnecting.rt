@@ -3,8 +3,8 @@ ghost use Rattle.endpoint_rules.specs.Call.{Call};
 ghost use Rattle.endpoint_rules.specs.Step.{step};
 ghost use Rattle.endpoint.specs.Endpoint.{seen, DoneAs};
 
-use crate::{Ended, Endpoint, Sync};
-use answer::Answer;
+use crate::{Ended, Endpoint};
+use answer::Refusal;
 use endpoint_rules::Phase;
 
 // How long a disconnected endpoint goes on answering.
@@ -19,27 +19,16 @@ impl Endpoint {
         if timers::is_bad(now) {
             return Ended {
                 endpoint: self,
-                answer: Answer::BadClock,
+                answer: Err(Refusal::BadClock),
             };
         }
-        let sync = self.sync;
-        let phase = sync.phase;
-        if let Phase::Shutdown = phase {
-            return Ended {
-                endpoint: self,
-                answer: Answer::Done,
-            };
+        if !matches!(self.sync.phase, Phase::Shutdown) {
+            self.sync.phase = Phase::Disconnected;
+            self.clocks = self.clocks.shutting_down(now + UDP_SHUTDOWN_TIMER);
         }
-        let clocks = self.clocks.shutting_down(now + UDP_SHUTDOWN_TIMER);
-        let sync = Sync {
-            phase: Phase::Disconnected,
-            ..self.sync
-        };
-        self.sync = sync;
-        self.clocks = clocks;
         Ended {
             endpoint: self,
-            answer: Answer::Done,
+            answer: Ok(()),
         }
     }
 }

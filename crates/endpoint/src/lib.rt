@@ -1,5 +1,7 @@
 // The peer endpoint of ggrs (protocol.rs): a state by value, clocks and nonces as arguments, the send queue in a lent buffer. Each call gives its
 // answer and the endpoint after it; on a refusal that is the very endpoint it was called on. What a call does is `step` of the crate `endpoint_rules`.
+// The calls take and give the state by value, since a state is a value (docs/API.md). The two largest are written over `&mut self`, so that `?` ends them; the others end
+// with an `Ended` at each way out, since the length of the events' array, which their proofs need, is known of a value and not behind `&mut`.
 #![tactic(auto)]
 
 mod act;
@@ -14,13 +16,12 @@ mod sending;
 mod taking;
 
 // What a caller meets, so that `use endpoint::Setup` is enough.
-pub use answer::Answer;
+pub use answer::{Answer, Refusal};
 pub use checksums::{Checksum, Checksums};
 pub use codec::{Message, MessageBody, StatusReport, StatusReports, Wide};
 use endpoint_rules::Flags;
 pub use endpoint_rules::Phase;
 pub use events::{Entry, Event, Events};
-pub use getters::{StatsResult, StatusResult};
 use history::History;
 use nonces::Nonces;
 use packing::InputBytes;
@@ -35,8 +36,7 @@ use timers::Clocks;
 // How many replies complete a handshake.
 const NUM_SYNC_PACKETS: u32 = 5;
 
-// The phase; of the handshake the replies still to come, and the other end's magic, 0 while the filter is off. The phase stands in a struct since a part
-// that is one can be set (`self.sync = sync`), and the endpoint is not written anew where the phase changes.
+// The phase; of the handshake the replies still to come, and the other end's magic, 0 while the filter is off.
 #[derive(Clone, Copy)]
 pub struct Sync {
     pub phase: Phase,

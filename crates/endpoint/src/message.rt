@@ -1,129 +1,100 @@
 // What arrives: a message as a value, or as the bytes of a datagram.
 mod admission;
-mod arrival;
 mod body;
 mod hearing;
 mod informing;
 mod packet;
 mod reaction;
 
-ghost use Rattle.std.specs.Prelude.{length};
+ghost use Rattle.std.specs.Prelude.{◌≡◌, length};
+ghost use Rattle.ceilings.specs.Ceilings.{most_events};
 ghost use Rattle.codec.specs.Message.{meant};
 ghost use Rattle.endpoint_rules.specs.Call.{Call};
 ghost use Rattle.endpoint_rules.specs.Step.{step};
-ghost use Rattle.endpoint.specs.Inside.Arrival.{arrival_call};
 ghost use Rattle.endpoint.specs.Endpoint.{seen, DidAs};
 
-use crate::{Ended, Endpoint, handshake, room};
-use answer::Answer;
+use crate::{Ended, Endpoint, Sync, handshake, room};
+use answer::{Answer, Refusal};
 use codec::{Message, MessageBody};
 use endpoint_rules::Phase;
 use events::NETWORK_RESUMED;
 
 impl Endpoint {
-    // What arrives is read first, and a reader's refusal is the call's. A message goes by the number of its kind, and one above 7, which no body has, is
-    // refused. All of it stands in this one function, since an endpoint that is passed on to another is copied: what is decided stands in functions over
-    // the plain parts, and what changes a store is that store's. A refusal comes before the first change.
+    // A message goes by the number of its kind, and one above 7, which no body has, is refused. What is decided stands in functions over the plain parts,
+    // and what changes a store is that store's. A refusal comes before the first change. By the kind's number: F-6. The array's length is
+    // required since it is known of a value and not behind `&mut`.
+    #[tactic(auto, using(crate::proofs::Laws::Message::Bodies::message_late))]
     fn handle_message(
-        mut self,
-        is_datagram: bool,
+        &mut self,
         from: u32,
-        given: Message,
-        bytes: &[u8],
+        message: Message,
+        payload: &[u8],
         now: u64,
         epoch: u64,
         nonce: u32,
         out: &mut [u8],
-    ) -> Ended
-        ensures { DidAs self (step (arrival_call is_datagram from given bytes.now now epoch nonce (length out.old)) (seen self)) out.old result out.new }
+    ) -> Answer
+        requires { length self.old.events.entries ≡ most_events }
+        ensures { DidAs self.old (step (Call.message from message.reports.count (meant message payload.now) now epoch nonce (length out.old)) (seen self.old)) out.old (record { endpoint = self.new; answer = result }) out.new }
     {
-        let received = arrival::read(is_datagram, given, bytes);
-        let reading = received.answer;
-        let message = received.message;
-        let payload = arrival::payload_of(is_datagram, bytes);
-        let magic = message.magic;
-        let sync = self.sync;
-        let phase = sync.phase;
-        let ignored = admission::is_ignored(
+        if timers::is_bad(now) || timers::is_bad(epoch) {
+            return Err(Refusal::BadClock);
+        }
+        let phase = self.sync.phase;
+        if admission::is_ignored(
             phase,
             self.setup.peer_addr,
             self.sync.remote_magic,
             from,
-            magic,
-        );
-        let door = admission::admit(reading, now, epoch, ignored);
-        if door.shut {
-            let answer = door.answer;
-            return Ended {
-                endpoint: self,
-                answer,
-            };
+            message.magic,
+        ) {
+            return Ok(());
         }
         let resumes = hearing::is_resuming(phase, self.flags);
         let full = room::events_full(resumes, self.events.count());
         let body = message.body;
-        let kind = codec::kind_of(body);
-        match kind {
+        match codec::kind_of(body) {
             // SyncReply: one that counts is announced, and another request goes out or the handshake is over; any other is only heard.
             1 => {
                 let reply = body::reply_of(body);
                 if let Phase::Synchronizing = phase {
-                    let remaining = numbers::minus_u32(self.sync.remaining, 1);
+                    let remaining = self.sync.remaining.saturating_sub(1);
                     let spent = self.nonces.spend(reply, 0 < remaining, nonce);
                     if spent.found {
-                        let crowded = room::events_full(true, self.events.count());
-                        let counted = handshake::count_reply(
-                            !crowded,
-                            sync,
-                            remaining,
-                            magic,
-                            self.clocks,
-                            self.setup.magic,
-                            now,
-                            nonce,
-                            out,
-                            self.queued,
-                        );
-                        if !counted.ok {
-                            return Ended {
-                                endpoint: self,
-                                answer: Answer::Full,
+                        if room::events_full(true, self.events.count()) {
+                            return Err(Refusal::Full);
+                        }
+                        let events = self.events.push(handshake::progress(remaining)).events;
+                        if 0 < remaining {
+                            self.request(now, nonce, out)?;
+                            self.sync.remaining = remaining;
+                        } else {
+                            // The last reply's magic is what the filter asks for from then on.
+                            self.sync = Sync {
+                                phase: Phase::Running,
+                                remaining,
+                                remote_magic: message.magic,
                             };
                         }
-                        let pushed = self.events.push(handshake::progress(remaining));
-                        let sync = counted.sync;
-                        let nonces = spent.nonces;
-                        let clocks = counted.clocks;
-                        let events = pushed.events;
-                        self.sync = sync;
-                        self.nonces = nonces;
-                        self.clocks = clocks;
+                        self.nonces = spent.nonces;
                         self.events = events;
-                        self.queued = counted.end;
-                        return Ended {
-                            endpoint: self,
-                            answer: Answer::Done,
-                        };
+                        self.clocks = self.clocks.heard(now);
+                        return Ok(());
                     }
                 }
                 if full {
-                    return Ended {
-                        endpoint: self,
-                        answer: Answer::Full,
-                    };
+                    return Err(Refusal::Full);
                 }
             }
             // Input: one that is discarded is only heard. Of another the frames above the newest are announced, what it acknowledges is dropped, and inputs that
             // can be read are kept and acknowledged.
             2 => {
                 let head = body::input_of(body);
-                let reports = message.reports;
                 let opened = packet::open(
                     self.history,
                     self.setup,
-                    head.disconnect_requested,
-                    head.start_frame,
-                    reports.count,
+                    head,
+                    message.reports.count,
                     payload.len(),
                 );
                 if !opened.discarded {
@@ -133,19 +104,10 @@ impl Endpoint {
                         self.flags,
                         self.statuses,
                         head.disconnect_requested,
-                        reports,
+                        message.reports,
                         now,
                     );
-                    let door = packet::admit(opened, out.len(), self.queued);
-                    if door.shut {
-                        let answer = door.answer;
-                        return Ended {
-                            endpoint: self,
-                            answer,
-                        };
-                    }
-                    let input = opened.input;
-                    let reference = input.bytes;
+                    packet::admit(opened, out.len(), self.queued)?;
                     let width = self.setup.receiving_width();
                     let news = packet::news_of(
                         opened.readable,
@@ -155,9 +117,8 @@ impl Endpoint {
                         width,
                     );
                     // A store that nothing is added to or dropped from is left alone: to pass it is to copy it.
+                    // With `||` each test is a join of its own, and the proof did not close.
                     if informed.resumes | informed.disconnects | (0 < news.count) {
-                        let handles = self.setup.handles;
-                        let list = handles.list;
                         let pushed = self.events.push_packet(
                             informed.resumes,
                             informed.disconnects,
@@ -166,79 +127,58 @@ impl Endpoint {
                             payload,
                             news.at,
                             width,
-                            reference,
-                            list,
-                            handles.count,
+                            opened.input.bytes,
+                            self.setup.handles.list,
+                            self.setup.handles.count,
                             self.setup.input_size as usize,
                         );
                         if !pushed.ok {
-                            return Ended {
-                                endpoint: self,
-                                answer: Answer::Full,
-                            };
+                            return Err(Refusal::Full);
                         }
-                        let events = pushed.events;
-                        self.events = events;
+                        self.events = pushed.events;
                     }
                     if self.pending.drops(head.ack_frame) {
                         let dropped = self.pending.drop_to(head.ack_frame, self.acked);
-                        let pending = dropped.pending;
-                        let acked = dropped.last;
-                        self.pending = pending;
-                        self.acked = acked;
+                        self.pending = dropped.pending;
+                        self.acked = dropped.last;
                     }
-                    let clocks = packet::noted(informed.clocks, opened.held, opened.readable, now);
-                    let flags = informed.flags;
-                    let statuses = informed.statuses;
-                    self.clocks = clocks;
-                    self.flags = flags;
-                    self.statuses = statuses;
+                    self.clocks = packet::noted(informed.clocks, opened.held, opened.readable, now);
+                    self.flags = informed.flags;
+                    self.statuses = informed.statuses;
                     if opened.readable {
-                        let history = self.history.take_in(
+                        self.history = self.history.take_in(
                             payload,
                             head.start_frame,
                             width,
-                            input,
+                            opened.input,
                             opened.newest,
                             self.setup.max_prediction,
                         );
-                        let queued = outbox::body_only(
+                        self.queued = outbox::body_only(
                             out,
                             self.queued,
                             self.setup.magic,
                             MessageBody::InputAck {
-                                ack_frame: history.newest(),
+                                ack_frame: self.history.newest(),
                             },
-                        );
-                        self.history = history;
-                        self.queued = queued.end;
+                        )
+                        .unwrap_or(self.queued);
                     }
-                    return Ended {
-                        endpoint: self,
-                        answer: Answer::Done,
-                    };
+                    return Ok(());
                 }
                 if full {
-                    return Ended {
-                        endpoint: self,
-                        answer: Answer::Full,
-                    };
+                    return Err(Refusal::Full);
                 }
             }
             // InputAck.
             3 => {
                 let ack_frame = body::ack_of(body);
                 if full {
-                    return Ended {
-                        endpoint: self,
-                        answer: Answer::Full,
-                    };
+                    return Err(Refusal::Full);
                 }
                 let dropped = self.pending.drop_to(ack_frame, self.acked);
-                let pending = dropped.pending;
-                let acked = dropped.last;
-                self.pending = pending;
-                self.acked = acked;
+                self.pending = dropped.pending;
+                self.acked = dropped.last;
             }
             // ChecksumReport.
             6 => {
@@ -250,16 +190,9 @@ impl Endpoint {
                     self.setup.interval(),
                     self.setup.choices.firm_checksums,
                 );
-                let door = admission::weigh(false, reported.overflow, full | reported.full);
-                if door.shut {
-                    let answer = door.answer;
-                    return Ended {
-                        endpoint: self,
-                        answer,
-                    };
-                }
-                let checksums = reported.checksums;
-                self.checksums = checksums;
+                // `|`, as above.
+                admission::weigh(false, reported.overflow, full | reported.full)?;
+                self.checksums = reported.checksums;
             }
             // SyncRequest, QualityReport, QualityReply, KeepAlive.
             0 | 4 | 5 | 7 => {
@@ -273,43 +206,24 @@ impl Endpoint {
                     self.setup.magic,
                     out,
                     self.queued,
-                );
-                if !reacted.ok {
-                    return Ended {
-                        endpoint: self,
-                        answer: Answer::Full,
-                    };
-                }
-                self.quality.remote_frame_advantage = reacted.quality.remote_frame_advantage;
-                self.quality.round_trip_time = reacted.quality.round_trip_time;
-                let clocks = reacted.clocks;
-                self.clocks = clocks;
+                )?;
+                self.quality = reacted.quality;
+                self.clocks = reacted.clocks;
                 self.queued = reacted.end;
             }
-            _ => {
-                return Ended {
-                    endpoint: self,
-                    answer: Answer::BadKind,
-                };
-            }
+            _ => return Err(Refusal::BadKind),
         }
         // What is left of every other message is that it was heard.
         if resumes {
-            let pushed = self.events.push(NETWORK_RESUMED);
-            let events = pushed.events;
-            self.events = events;
+            self.events = self.events.push(NETWORK_RESUMED).events;
             self.flags.disconnect_notify_sent = false;
         }
-        let clocks = self.clocks.heard(now);
-        self.clocks = clocks;
-        Ended {
-            endpoint: self,
-            answer: Answer::Done,
-        }
+        self.clocks = self.clocks.heard(now);
+        Ok(())
     }
 
     pub fn message(
-        self,
+        mut self,
         from: u32,
         message: Message,
         payload: &[u8],
@@ -320,11 +234,16 @@ impl Endpoint {
     ) -> Ended
         ensures { DidAs self (step (Call.message from message.reports.count (meant message payload.now) now epoch nonce (length out.old)) (seen self)) out.old result out.new }
     {
-        self.handle_message(false, from, message, payload, now, epoch, nonce, out)
+        let answer = self.handle_message(from, message, payload, now, epoch, nonce, out);
+        Ended {
+            endpoint: self,
+            answer,
+        }
     }
 
+    // What arrives is read first, and a reader's refusal is the call's.
     pub fn datagram(
-        self,
+        mut self,
         from: u32,
         datagram: &[u8],
         now: u64,
@@ -334,7 +253,16 @@ impl Endpoint {
     ) -> Ended
         ensures { DidAs self (step (Call.datagram from datagram.now now epoch nonce (length out.old)) (seen self)) out.old result out.new }
     {
-        let message = arrival::unread();
-        self.handle_message(true, from, message, datagram, now, epoch, nonce, out)
+        let answer = match codec::read(datagram) {
+            Ok(message) => {
+                let payload = codec::payload_of(datagram);
+                self.handle_message(from, message, payload, now, epoch, nonce, out)
+            }
+            Err(refusal) => Err(refusal),
+        };
+        Ended {
+            endpoint: self,
+            answer,
+        }
     }
 }

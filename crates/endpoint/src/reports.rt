@@ -5,14 +5,13 @@ ghost use Rattle.endpoint_rules.specs.Step.{step};
 ghost use Rattle.endpoint.specs.Endpoint.{seen, DidAs, DoneAs};
 
 use crate::{Ended, Endpoint};
-use answer::Answer;
+use answer::Refusal;
 use codec::{MessageBody, Wide};
 use frame::NULL_FRAME;
-use quality::Advantage;
 
 impl Endpoint {
     // The own checksum of a frame is sent to the other end.
-    #[tactic(auto, using(crate::proofs::Laws::Lengths::no_event_fits, crate::proofs::Laws::Reports::send_checksum_clock, crate::proofs::Laws::Reports::send_checksum_done, crate::proofs::Laws::Reports::send_checksum_full))]
+    #[tactic(auto, using(crate::proofs::Laws::Reports::send_checksum_clock))]
     pub fn send_checksum_report(
         mut self,
         frame: u32,
@@ -25,27 +24,23 @@ impl Endpoint {
         if timers::is_bad(now) {
             return Ended {
                 endpoint: self,
-                answer: Answer::BadClock,
+                answer: Err(Refusal::BadClock),
             };
         }
-        let queued = outbox::body_only(
-            out,
-            self.queued,
-            self.setup.magic,
-            MessageBody::ChecksumReport { checksum, frame },
-        );
-        if !queued.ok {
-            return Ended {
+        let body = MessageBody::ChecksumReport { checksum, frame };
+        match outbox::body_only(out, self.queued, self.setup.magic, body) {
+            Ok(end) => {
+                self.clocks = self.clocks.sent(now);
+                self.queued = end;
+                Ended {
+                    endpoint: self,
+                    answer: Ok(()),
+                }
+            }
+            Err(refusal) => Ended {
                 endpoint: self,
-                answer: Answer::Full,
-            };
-        }
-        let clocks = self.clocks.sent(now);
-        self.clocks = clocks;
-        self.queued = queued.end;
-        Ended {
-            endpoint: self,
-            answer: Answer::Done,
+                answer: Err(refusal),
+            },
         }
     }
 
@@ -58,7 +53,7 @@ impl Endpoint {
         if local_frame == NULL_FRAME || newest == NULL_FRAME {
             return Ended {
                 endpoint: self,
-                answer: Answer::Done,
+                answer: Ok(()),
             };
         }
         let advantage = quality::local_advantage(
@@ -67,17 +62,18 @@ impl Endpoint {
             self.setup.fps,
             local_frame,
         );
-        let Advantage::Frames(frames) = advantage else {
-            return Ended {
+        match advantage {
+            Ok(frames) => {
+                self.quality = self.quality.local(frames);
+                Ended {
+                    endpoint: self,
+                    answer: Ok(()),
+                }
+            }
+            Err(refusal) => Ended {
                 endpoint: self,
-                answer: Answer::Overflow,
-            };
-        };
-        let quality = self.quality.local(frames);
-        self.quality = quality;
-        Ended {
-            endpoint: self,
-            answer: Answer::Done,
+                answer: Err(refusal),
+            },
         }
     }
 }

@@ -5,14 +5,11 @@ ghost use Rattle.endpoint_rules.specs.Room.{buffer_full};
 
 use ceilings::MOST_EVENTS;
 
-// One event, announced or not. A store that nothing is announced to is left alone: to pass it is to copy it.
+// One event, announced or not.
 pub(crate) fn events_full(announces: bool, count: usize) -> bool
     ensures { result ≡ (announces && leb most_events count) }
 {
-    if announces {
-        return MOST_EVENTS <= count;
-    }
-    false
+    announces && MOST_EVENTS <= count
 }
 
 // No bytes need no room.
@@ -20,8 +17,5 @@ pub(crate) fn events_full(announces: bool, count: usize) -> bool
 pub(crate) fn buffer_full(len: usize, queued: usize, size: usize) -> bool
     ensures { result ≡ buffer_full len queued size }
 {
-    if size == 0 {
-        return false;
-    }
-    len < queued || len - queued < size
+    size != 0 && (len < queued || len - queued < size)
 }

@@ -10,7 +10,7 @@ ghost use Rattle.endpoint.specs.Endpoint.{seen, DoneAs};
 ghost use Rattle.endpoint.specs.Taken.{TakenAs, TakenIntoAs};
 
 use crate::{Ended, Endpoint};
-use answer::Answer;
+use answer::Refusal;
 use endpoint_rules::Phase;
 use events::Events;
 
@@ -24,28 +24,21 @@ pub struct TakenEvents {
 #[derive(Clone, Copy)]
 pub struct TakenMessages {
     pub endpoint: Endpoint,
-    pub answer: Answer,
-    pub count: usize,
+    pub answer: Result<usize, Refusal>,
 }
 
 // In Shutdown no buffer is too short.
 fn is_short(phase: Phase, queued: usize, room: usize) -> bool
     ensures { result ≡ short_by phase queued room }
 {
-    if let Phase::Shutdown = phase {
-        return false;
-    }
-    room < queued
+    !matches!(phase, Phase::Shutdown) && room < queued
 }
 
 // How many bytes are handed back.
 fn filled(phase: Phase, queued: usize, room: usize) -> usize
     ensures { result ≡ pick (is_shutdown phase) 0 (pick (ltb room queued) 0 queued) }
 {
-    if let Phase::Shutdown = phase {
-        return 0;
-    }
-    if room < queued {
+    if matches!(phase, Phase::Shutdown) || room < queued {
         return 0;
     }
     queued
@@ -53,12 +46,13 @@ fn filled(phase: Phase, queued: usize, room: usize) -> usize
 
 impl Endpoint {
     // The events held, with a count that is their number, and the endpoint without them.
-    #[tactic(auto, using(crate::proofs::Laws::Taking::takes_events))]
     pub fn take_events(mut self) -> TakenEvents
         ensures { TakenAs self result }
     {
-        let mut events = self.events;
-        events.used = self.events.count();
+        let events = Events {
+            used: self.events.count(),
+            ..self.events
+        };
         self.events.used = 0;
         TakenEvents {
             endpoint: self,
@@ -71,18 +65,16 @@ impl Endpoint {
     pub fn take_messages(mut self, out: &[u8]) -> Ended
         ensures { DoneAs self (step (Call.take_messages (length out.now)) (seen self)) result }
     {
-        let sync = self.sync;
-        let phase = sync.phase;
-        if is_short(phase, self.queued, out.len()) {
+        if is_short(self.sync.phase, self.queued, out.len()) {
             return Ended {
                 endpoint: self,
-                answer: Answer::Full,
+                answer: Err(Refusal::Full),
             };
         }
         self.queued = 0;
         Ended {
             endpoint: self,
-            answer: Answer::Done,
+            answer: Ok(()),
         }
     }
 
@@ -91,34 +83,26 @@ impl Endpoint {
     pub fn messages(self, out: &[u8]) -> &[u8]
         ensures { result.now ≡ take (handed_back (length out.now) (seen self)) out.now }
     {
-        let sync = self.sync;
-        let phase = sync.phase;
-        let end = filled(phase, self.queued, out.len());
-        &out[..end]
+        &out[..filled(self.sync.phase, self.queued, out.len())]
     }
 
     // `messages` and `take_messages` in one: the filled part of `out` is copied to the front of `into`. Refused where either is shorter than what is queued.
-    #[tactic(auto, using(crate::proofs::Laws::Taking::into_done, crate::proofs::Laws::Taking::into_fits, crate::proofs::Laws::Taking::into_short))]
     pub fn take_messages_into(mut self, out: &[u8], into: &mut [u8]) -> TakenMessages
         ensures { TakenIntoAs self out.now into.old result into.new }
     {
-        let sync = self.sync;
-        let phase = sync.phase;
-        let room = numbers::least(out.len(), into.len());
-        if is_short(phase, self.queued, room) {
+        let room = out.len().min(into.len());
+        if is_short(self.sync.phase, self.queued, room) {
             return TakenMessages {
                 endpoint: self,
-                answer: Answer::Full,
-                count: 0,
+                answer: Err(Refusal::Full),
             };
         }
-        let count = filled(phase, self.queued, room);
+        let count = filled(self.sync.phase, self.queued, room);
         into[..count].copy_from_slice(&out[..count]);
         self.queued = 0;
         TakenMessages {
             endpoint: self,
-            answer: Answer::Done,
-            count,
+            answer: Ok(count),
         }
     }
 }

@@ -15,11 +15,10 @@ use Rattle.packing.specs.Pad.{padded}
 use Rattle.status.specs.Status.{default_status}
 use Rattle.status.specs.Statuses.{held_statuses}
 use Rattle.status.specs.declared.list.Statuses.{Statuses}
-use Rattle.codec.specs.Message.{FitsBody, FitAll}
+use Rattle.codec.specs.Message.{Reports, FitsBody, FitAll}
 use Rattle.codec.specs.Bytes.{bytes, queue_of}
 use Rattle.codec.specs.Read.{body_only}
 use Rattle.codec.specs.declared.StatusReport.{StatusReport}
-use Rattle.codec.specs.declared.StatusReports.{StatusReports}
 use Rattle.codec.specs.declared.Message.{Message}
 use Rattle.codec.specs.declared.MessageBody.{MessageBody}
 use Rattle.codec.specs.declared.MessageBody.TheVariants.{SyncReply, Input, InputAck}
@@ -186,7 +185,7 @@ module _ (v : Version) (m : Meets v) where
 abbrev report : StatusReport
 report = record { disconnected = false; last_frame = null_frame }
 
-abbrev pub reports : (count : ℕ) → StatusReports
+abbrev pub reports : (count : ℕ) → Reports
 reports count = record { list = report ∷ report ∷ report ∷ report ∷ []; count = count }
 
 abbrev statuses : Statuses

@@ -8,7 +8,7 @@ use native.Mathlib.Omega.{arith}
 use Prim.Native.Nat.{ℕ}
 use lib.Dec.{eqb}
 use Rattle.base.specs.Pick.{pick}
-use Rattle.answer.specs.declared.Answer.TheVariants.{Done}
+use Rattle.answer.specs.Number.{done}
 use Rattle.frame.specs.Bias.{null_frame}
 use Rattle.history.specs.History.{blank_frame, highest, newest_of}
 use Rattle.endpoint_rules.specs.Seen.{made}
@@ -25,7 +25,7 @@ use Rattle.endpoint_ruled_out.specs.Unusable.{Received, FirstOnly}
 use Rattle.endpoint_ruled_out.proofs.Unusable.{bouts_typed, own, own_seen, p3, p3_asked, first_received}
 
 abbrev until_received : Endpoint → (out : List ℕ) → Ended × List ℕ → Ended × List ℕ
-until_received e out r = pick (eqb (newest (seen e)) null_frame) r (record { endpoint = e; answer = Done }, out)
+until_received e out r = pick (eqb (newest (seen e)) null_frame) r (record { endpoint = e; answer = done }, out)
 
 abbrev once : Version
 once =
@@ -57,7 +57,7 @@ once =
 keeps : (e : Endpoint) (out : List ℕ) (r : Ended × List ℕ) → Received e → newest (seen (until_received e out r).0.endpoint) ≡ newest (seen e)
 keeps e out r h = go (eqb (newest (seen e)) null_frame) refl
   where
-    go : (b : Bool) → eqb (newest (seen e)) null_frame ≡ b → newest (seen (pick b r (record { endpoint = e; answer = Done }, out)).0.endpoint) ≡ newest (seen e)
+    go : (b : Bool) → eqb (newest (seen e)) null_frame ≡ b → newest (seen (pick b r (record { endpoint = e; answer = done }, out)).0.endpoint) ≡ newest (seen e)
     go true k = absurd (h (eqb-true (newest (seen e)) null_frame k))
     go false k = refl
 

@@ -9,9 +9,11 @@ use lib.Dec.{eqb}
 use lib.ListN.{length}
 use Rattle.base.specs.Little.{Bytes}
 use Rattle.base.specs.Pick.{pick}
-use Rattle.answer.specs.Number.{number_of}
-use Rattle.answer.specs.declared.Answer.{Answer}
-use Rattle.answer.specs.declared.Answer.TheVariants.{Done, BadSetup}
+use Rattle.std.specs.Prelude.{Result, Ok, Err}
+use Rattle.answer.specs.Number.{Answered, done, number_of}
+use Rattle.answer.specs.declared.Refusal.{Refusal}
+use Rattle.answer.specs.declared.Refusal.TheVariants.{BadSetup, BadHandle}
+use Rattle.quality.specs.declared.NetworkStats.{NetworkStats}
 use Rattle.ceilings.specs.Ceilings.{most_events}
 use Rattle.pending.specs.Pending.{waiting}
 use Rattle.events.specs.Events.{held_events, without_input, blank_entry}
@@ -19,24 +21,24 @@ use Rattle.events.specs.declared.Events.{Events}
 use Rattle.events.specs.declared.Event.TheVariants as Event
 use Rattle.endpoint_rules.specs.Seen.{made}
 use Rattle.endpoint_rules.specs.Step.{fresh}
+use Rattle.endpoint_rules.specs.Value.{Value}
 use Rattle.endpoint_rules.specs.Sending.{newest}
 use Rattle.endpoint_rules.proofs.Bouts.{setup_with, setup_taken}
 use Rattle.endpoint_invariant.specs.Each.{Each}
 use Rattle.endpoint_invariant.specs.Typed.{IsU32, IsU64}
 use Rattle.endpoint.specs.declared.Endpoint.{Endpoint}
-use Rattle.endpoint.specs.declared.getters.StatusResult.TheVariants as StatusResult
-use Rattle.endpoint.specs.declared.getters.StatsResult.{StatsResult}
 use Rattle.endpoint.specs.Endpoint.{seen}
 use Rattle.endpoint_version.specs.Values.{IsSlice, IsEndpoint}
 use Rattle.endpoint_version.specs.Version.{Version, Asked, function_of, number_from, endpoint_after}
 use Rattle.endpoint_version.proofs.Filled.{filled}
+use Rattle.endpoint_version.proofs.Given.{given, given_answer, given_stats}
 use Rattle.endpoint_version.proofs.Right.{right, right_meets}
 use Rattle.endpoint_ruled_out.specs.Unusable.{RefusesAll, Constant, Untouched, FirstOnly, counts_in, InventsCounts, InventsLengths}
 use Rattle.endpoint_ruled_out.proofs.Unusable.{bouts_typed, p3, p3_asked}
 
 -- a version that gives one answer to every call, and leaves buffers and endpoints as they were; but what a message makes of an endpoint is given, and so are the events
 -- that are handed back and the stats
-abbrev answering : Answer → (Endpoint → Endpoint) → (Endpoint → Events) → StatsResult → Version
+abbrev answering : Answered → (Endpoint → Endpoint) → (Endpoint → Events) → Result NetworkStats Refusal → Version
 answering a after handed stats =
     record {
       new = λ g now. record { endpoint = (right.new g now).endpoint; answer = a };
@@ -51,9 +53,9 @@ answering a after handed stats =
       take_events = λ e. record { endpoint = e; events = handed e };
       take_messages = λ e out. record { endpoint = e; answer = a };
       messages = λ e out. [];
-      take_messages_into = λ e out into. (record { endpoint = e; answer = a; count = 0 }, into);
+      take_messages_into = λ e out into. (record { endpoint = e; answer = given a 0 }, into);
       network_stats = λ e epoch. stats;
-      peer_connect_status = λ e handle. StatusResult.BadHandle;
+      peer_connect_status = λ e handle. Err BadHandle;
       handles = λ e. e.setup.handles;
       is_synchronized = λ e. false;
       is_running = λ e. false;
@@ -63,14 +65,18 @@ answering a after handed stats =
       checksums = λ e. e.checksums;
     }
 
-abbrev lazy : Answer → Version
-lazy a = answering a (λ e. e) (λ e. e.events) (StatsResult.Refused a)
+-- where it is done, with stats that are all 0
+abbrev no_stats : NetworkStats
+no_stats = record { ping = 0; send_queue_len = 0; local_frames_behind = 0; remote_frames_behind = 0 }
+
+abbrev lazy : Answered → Version
+lazy a = answering a (λ e. e) (λ e. e.events) (given a no_stats)
 
 -- a status is asked for with no number but 7 to refuse with
-abbrev numbers : Answer → ℕ → ℕ
+abbrev numbers : Answered → ℕ → ℕ
 numbers a function = pick (eqb function 10) 7 (number_of a)
 
-does : (a : Answer) (e : Endpoint) (c : Asked) → (number_from (lazy a) e c ≡ numbers a (function_of c)) × (endpoint_after (lazy a) e c ≡ e)
+does : (a : Answered) (e : Endpoint) (c : Asked) → (number_from (lazy a) e c ≡ numbers a (function_of c)) × (endpoint_after (lazy a) e c ≡ e)
 does a e (Asked.synchronize now epoch nonce out) = (refl, refl)
 does a e (Asked.message from m payload now epoch nonce out) = (refl, refl)
 does a e (Asked.datagram from d now epoch nonce out) = (refl, refl)
@@ -80,18 +86,18 @@ does a e (Asked.disconnect now) = (refl, refl)
 does a e (Asked.send_checksum_report frame checksum now out) = (refl, refl)
 does a e (Asked.update_local_frame_advantage local) = (refl, refl)
 does a e (Asked.take_messages out) = (refl, refl)
-does a e (Asked.network_stats epoch) = (refl, refl)
+does a e (Asked.network_stats epoch) = (ap (λ (x : ℕ × Value). x.0) (given_stats a no_stats), refl)
 does a e (Asked.peer_connect_status handle) = (refl, refl)
-does a e (Asked.take_messages_into out into) = (refl, refl)
+does a e (Asked.take_messages_into out into) = (ap number_of (given_answer a 0), refl)
 
-refuses_all : RefusesAll (lazy BadSetup)
-refuses_all e r c a h = go (eqb (function_of c) 10) (sym (does BadSetup e c).0 ∙ h)
+refuses_all : RefusesAll (lazy (Err BadSetup))
+refuses_all e r c a h = go (eqb (function_of c) 10) (sym (does (Err BadSetup) e c).0 ∙ h)
   where
     go : (b : Bool) → ◌≡◌ {A = ℕ} (pick b 7 1) 0 → ⊥
     go true e = omega arith
     go false e = omega arith
 
-module _ (a : Answer) where
+module _ (a : Answered) where
   constant : Constant (numbers a) (lazy a)
   constant e r c h = (does a e c).0
 
@@ -160,19 +166,19 @@ odd = numbered 0 1 (right.new (setup_with 1) 1000).endpoint
 odd_value : IsEndpoint odd
 odd_value = numbered_value 0 1 (omega arith) (omega arith) _ (right_meets.values.made (setup_with 1) 1000 bouts_typed (omega arith) setup_taken)
 
-invents_counts : InventsCounts (lazy Done)
+invents_counts : InventsCounts (lazy done)
 invents_counts = InventsCounts.begun odd odd_value 0 0 0 [] (omega arith, omega arith, omega arith, none_lent) refl (λ h. omega arith)
 
-invents_lengths : InventsLengths (lazy Done)
+invents_lengths : InventsLengths (lazy done)
 invents_lengths = InventsLengths.left odd odd_value [] none_lent refl (λ h. omega arith)
 
 -- and none is counted when they are taken into another buffer
-copies_lengths : InventsLengths (lazy Done)
+copies_lengths : InventsLengths (lazy done)
 unfolding fresh made
 copies_lengths = InventsLengths.copied odd odd_value [] [] (none_lent, none_lent) refl refl (λ h. omega arith)
 
 -- nor is the byte handed back from the buffer where it stands
-hands_none : InventsLengths (lazy Done)
+hands_none : InventsLengths (lazy done)
 unfolding fresh made
 hands_none = InventsLengths.handed odd odd_value (0 ∷ []) one_lent refl (omega arith) (λ h. omega arith)
 
@@ -183,9 +189,9 @@ boasted = record { entries = filled most_events blank_entry (without_input (Even
 
 abbrev boasting : Version
 boasting =
-    answering Done
+    answering done
     (λ e. record { setup = e.setup; pending = e.pending; acked = e.acked; history = e.history; sync = e.sync; nonces = e.nonces; clocks = e.clocks; flags = e.flags; quality = e.quality; statuses = e.statuses; checksums = e.checksums; events = boasted; queued = e.queued })
-    (λ e. boasted) (StatsResult.Stats (record { ping = 0; send_queue_len = 1; local_frames_behind = 0; remote_frames_behind = 0 }))
+    (λ e. boasted) (Ok (record { ping = 0; send_queue_len = 1; local_frames_behind = 0; remote_frames_behind = 0 }))
 
 announces-counts : InventsCounts boasting
 unfolding held_events fresh made counts_in Each

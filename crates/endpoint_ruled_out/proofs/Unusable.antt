@@ -49,7 +49,8 @@ use Rattle.endpoint_invariant.proofs.Examples.{small_typed}
 use Rattle.endpoint_invariant.proofs.Padding.{bytes-zeros}
 use Rattle.endpoint_invariant.proofs.Queue.{step_queues}
 use Rattle.endpoint.specs.declared.Endpoint.{Endpoint}
-use Rattle.endpoint.specs.declared.getters.StatsResult.TheVariants.{Stats}
+use Rattle.std.specs.Prelude.{Ok}
+use Rattle.endpoint.specs.Taken.{count_in as copied_count}
 use Rattle.endpoint.specs.Endpoint.{seen}
 use Rattle.endpoint.specs.Taken.{shorter}
 use Rattle.endpoint.specs.Shown.{shown}
@@ -310,7 +311,7 @@ module _ (v : Version) (m : Meets v) (e : Endpoint) (i : IsEndpoint e) where
 
   -- what is taken into another buffer is all that is queued, but in Shutdown
   copies : (out into : List ℕ) → IsAsked (Asked.take_messages_into out into) → number_from v e (Asked.take_messages_into out into) ≡ 0 → is_shutdown e.sync.phase ≡ false
-      → (v.take_messages_into e out into).0.count ≡ e.queued
+      → copied_count (v.take_messages_into e out into).0.answer ≡ e.queued
   unfolding seen handed_back filled_part
   copies out into a d p =
       let k = m.take_messages_into e out into i a in
@@ -323,7 +324,7 @@ module _ (v : Version) (m : Meets v) (e : Endpoint) (i : IsEndpoint e) where
   hands_all out a p q = ap length (m.messages e out i a) ∙ rw (p, le-ltb (length out) e.queued q) (length-take-le e.queued out q)
 
   -- stats that are shown are those of the rules
-  shows : (epoch : ℕ) → IsAsked (Asked.network_stats epoch) → (stats : NetworkStats) → v.network_stats e epoch ≡ Stats stats → stats ≡ stats_of (seen e)
+  shows : (epoch : ℕ) → IsAsked (Asked.network_stats epoch) → (stats : NetworkStats) → v.network_stats e epoch ≡ Ok stats → stats ≡ stats_of (seen e)
   unfolding shown value_of
   shows epoch a stats h =
       let both : ◌≡◌ {A = ℕ × Value} (0, Value.stats stats) (shown (Call.network_stats epoch) (seen e)) = rw h at (m.network_stats e epoch i a) in

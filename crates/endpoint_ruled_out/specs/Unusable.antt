@@ -1,6 +1,6 @@
 -- Versions of the endpoint's public functions that nobody could use (G-10 to G-14). Every kind speaks of values of the code's types alone: of the endpoints that the
 -- version's own calls lead to (`Reached`), or of any endpoint that is a value (`IsEndpoint`), and of arguments that are values (`IsAsked`).
-use Rattle.std.specs.Prelude.{true, false, List, [], ◌∷◌, ◌++◌, ◌≡◌, ℕ, ◌+◌, ◌-◌, ◌≤◌, ◌<◌, length, drop}
+use Rattle.std.specs.Prelude.{true, false, List, [], ◌∷◌, ◌++◌, ◌≡◌, ℕ, ◌+◌, ◌-◌, ◌≤◌, ◌<◌, length, drop, Ok}
 use Rattle.frame.specs.Bias.{null_frame}
 use Rattle.codec.specs.declared.Wide.{Wide}
 use Rattle.codec.specs.declared.Message.{Message}
@@ -18,7 +18,7 @@ use Rattle.endpoint_rules.specs.Call.{Call}
 use Rattle.endpoint_rules.specs.Step.{ignored, step}
 use Rattle.endpoint_invariant.specs.Each.{Each}
 use Rattle.endpoint.specs.declared.Endpoint.{Endpoint}
-use Rattle.endpoint.specs.declared.getters.StatsResult.TheVariants.{Stats}
+use Rattle.endpoint.specs.Taken.{count_in as copied_count}
 use Rattle.endpoint.specs.Endpoint.{seen}
 use Rattle.endpoint_version.specs.Values.{IsSlice, IsEndpoint}
 use Rattle.endpoint_version.specs.Version.{Version, Asked, IsAsked, function_of, call_of, number_from, endpoint_after}
@@ -133,7 +133,7 @@ pub data InventsLengths (v : Version) : Type 0 where
       → ((endpoint_after v e (Asked.take_messages_into out into)).queued ≡ 0 → ⊥) → InventsLengths v
   -- messages that are taken into another buffer with another count than the bytes that were queued; in Shutdown none are handed back (E-67)
   copied : (e : Endpoint) → IsEndpoint e → (out into : List ℕ) → IsAsked (Asked.take_messages_into out into) → number_from v e (Asked.take_messages_into out into) ≡ 0
-      → is_shutdown e.sync.phase ≡ false → ((v.take_messages_into e out into).0.count ≡ e.queued → ⊥) → InventsLengths v
+      → is_shutdown e.sync.phase ≡ false → (copied_count (v.take_messages_into e out into).0.answer ≡ e.queued → ⊥) → InventsLengths v
   -- `messages` that hands back another length than the bytes queued, from a buffer that is long enough for them; in Shutdown none are handed back (E-67)
   handed : (e : Endpoint) → IsEndpoint e → (out : List ℕ) → IsSlice out → is_shutdown e.sync.phase ≡ false → e.queued ≤ length out
       → (length (v.messages e out) ≡ e.queued → ⊥) → InventsLengths v
@@ -144,5 +144,5 @@ pub data InventsLengths (v : Version) : Type 0 where
   refused : (e : Endpoint) → IsEndpoint e → (c : Asked) → IsAsked c → (number_from v e c ≡ 0 → ⊥) → ((endpoint_after v e c).queued ≡ e.queued → ⊥) → InventsLengths v
   taken : (e : Endpoint) → IsEndpoint e → ((v.take_events e).endpoint.queued ≡ e.queued → ⊥) → InventsLengths v
   -- network_stats that show another length of the send queue than how many inputs are pending (E-62); it is in inputs, not in bytes
-  shown : (e : Endpoint) → IsEndpoint e → (epoch : ℕ) → IsAsked (Asked.network_stats epoch) → (stats : NetworkStats) → v.network_stats e epoch ≡ Stats stats
+  shown : (e : Endpoint) → IsEndpoint e → (epoch : ℕ) → IsAsked (Asked.network_stats epoch) → (stats : NetworkStats) → v.network_stats e epoch ≡ Ok stats
       → (stats.send_queue_len ≡ length (waiting e.pending) → ⊥) → InventsLengths v

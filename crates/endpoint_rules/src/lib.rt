@@ -3,7 +3,7 @@
 #![tactic(auto)]
 
 // The crate's ProtocolState.
-#[derive(Clone, Copy)]
+#[derive(Clone, Copy, Debug, PartialEq, Eq)]
 pub enum Phase {
     Initializing,
     Synchronizing,
@@ -13,7 +13,7 @@ pub enum Phase {
 }
 
 // What was announced: an interruption, and a disconnect.
-#[derive(Clone, Copy)]
+#[derive(Clone, Copy, Debug, PartialEq, Eq)]
 pub struct Flags {
     pub disconnect_notify_sent: bool,
     pub disconnect_event_sent: bool,

@@ -6,4 +6,5 @@ pub mod Filled
 pub mod Unseen
 pub mod Values
 pub mod Proper
+pub mod Given
 pub mod Right

@@ -1,6 +1,6 @@
 -- The public statements can be met: a version that does what `step` says, with the endpoint written anew from what is seen of it. So the laws that rule versions out
 -- do not hold for want of any version.
-use borrow.Author.Tests.{eqb-true, eqb-false}
+use borrow.Author.Tests.{eqb-true, eqb-false, ne_eqb}
 use mathlib.Core.Bool.{Bool, true, false}
 use mathlib.Core.List.{List, [], ◌∷◌}
 use mathlib.Core.Path.{◌≡◌, refl, sym, ◌∙◌}
@@ -13,7 +13,9 @@ use Rattle.base.specs.First.{first_of}
 use Rattle.base.specs.Lay.{laid_at}
 use Rattle.base.proofs.Arrays.{view_le}
 use Rattle.ceilings.specs.Ceilings.{most_players}
-use Rattle.answer.specs.Number.{answer_of, number_back}
+use Rattle.std.specs.Prelude.{Ok, Err}
+use Rattle.answer.specs.Number.{Answered, answer_of, number_of, number_back}
+use Rattle.answer.specs.declared.Refusal.TheVariants.{BadHandle}
 use Rattle.status.specs.Status.{default_status}
 use Rattle.status.specs.Statuses.{held_statuses, default_statuses}
 use Rattle.codec.specs.Message.{meant}
@@ -28,16 +30,14 @@ use Rattle.endpoint_rules.specs.Did.{Did, refused, tested}
 use Rattle.endpoint_rules.specs.Sending.{newest}
 use Rattle.endpoint_rules.specs.Reports.{stats_of}
 use Rattle.endpoint_rules.specs.Call.{Call}
-use Rattle.endpoint_rules.specs.Value.{Value, value_of, synchronized_in, handed_back}
+use Rattle.endpoint_rules.specs.Value.{value_of, synchronized_in, handed_back}
 use Rattle.endpoint_rules.specs.Step.{fresh, bad_handle, status_step, step}
 use Rattle.endpoint_invariant.specs.Typed.{IsU64, TypedSetup}
 use Rattle.endpoint_invariant.specs.Sound.{Sound}
 use Rattle.endpoint.specs.declared.Endpoint.{Endpoint}
 use Rattle.endpoint.specs.declared.Ended.{Ended}
-use Rattle.endpoint.specs.declared.getters.StatusResult.{StatusResult}
-use Rattle.endpoint.specs.declared.getters.StatsResult.{StatsResult}
 use Rattle.endpoint.specs.Endpoint.{seen, SameTerms, DidAs, DoneAs}
-use Rattle.endpoint.specs.Taken.{shorter}
+use Rattle.endpoint.specs.Taken.{shorter, TakenIntoAs}
 use Rattle.endpoint.specs.Made.{MadeAs}
 use Rattle.endpoint.specs.Shown.{shown, shown_status, shown_stats}
 use Rattle.endpoint.proofs.Laws.Getters.{shows_handles, shows_checksums}
@@ -49,6 +49,7 @@ use Rattle.endpoint_version.proofs.Asked.{asked_typed}
 use Rattle.endpoint_version.proofs.Unseen.{unseen, seen_unseen, sorted_setup, sorted_terms, anew, seen_anew}
 use Rattle.endpoint_version.proofs.Values.{made_value, anew_value}
 use Rattle.endpoint_version.proofs.Proper.{Proper, step_proper}
+use Rattle.endpoint_version.proofs.Given.{given, given_answer, given_count, given_stats}
 
 -- ---- what a call does, answered
 
@@ -109,10 +110,9 @@ right =
       take_messages_into = λ e out into.
           let t : Ended = ended e (step (Call.take_messages (shorter out into)) (seen e)) in
           let n : ℕ = handed_back (shorter out into) (seen e) in
-          (record { endpoint = t.endpoint; answer = t.answer; count = n }, laid_at into 0 (take n out));
-      network_stats = λ e epoch.
-          pick (eqb (step (Call.network_stats epoch) (seen e)).answer 0) (StatsResult.Stats (stats_of (seen e))) (StatsResult.Refused (answer_of (step (Call.network_stats epoch) (seen e)).answer));
-      peer_connect_status = λ e handle. pick (bad_handle handle (seen e)) StatusResult.BadHandle (StatusResult.Status (get_or (seen e).statuses handle default_status));
+          (record { endpoint = t.endpoint; answer = given t.answer n }, laid_at into 0 (take n out));
+      network_stats = λ e epoch. given (answer_of (step (Call.network_stats epoch) (seen e)).answer) (stats_of (seen e));
+      peer_connect_status = λ e handle. pick (bad_handle handle (seen e)) (Err BadHandle) (Ok (get_or (seen e).statuses handle default_status));
       handles = λ e. record { list = e.setup.handles.list; count = length (handle_list e.setup.handles) };
       is_synchronized = λ e. synchronized_in e.sync.phase;
       is_running = λ e. is_running e.sync.phase;
@@ -124,21 +124,16 @@ right =
 
 stats_shown : (e : Endpoint) (epoch : ℕ) → IsU64 epoch → shown_stats (right.network_stats e epoch) ≡ shown (Call.network_stats epoch) (seen e)
 unfolding shown value_of
-stats_shown e epoch t = go (eqb n 0) refl
-  where
-    n : ℕ
-    n = (step (Call.network_stats epoch) (seen e)).answer
-
-    go : (b : Bool) → eqb n 0 ≡ b → shown_stats (pick b (StatsResult.Stats (stats_of (seen e))) (StatsResult.Refused (answer_of n))) ≡ (n, pick b (Value.stats (stats_of (seen e))) Value.nothing)
-    go true h = rw (eqb-true n 0 h)
-    go false h = rw (number_back n (step_proper (seen e) (Call.network_stats epoch) t).bound)
+stats_shown e epoch t =
+    let n : ℕ = (step (Call.network_stats epoch) (seen e)).answer in
+    rw (number_back n (step_proper (seen e) (Call.network_stats epoch) t).bound) at (given_stats (answer_of n) (stats_of (seen e)))
 
 status_shown : (e : Endpoint) (handle : ℕ) → shown_status (right.peer_connect_status e handle) ≡ shown (Call.peer_connect_status handle) (seen e)
 unfolding shown value_of step status_step tested refused
 status_shown e handle = go (bad_handle handle (seen e)) refl
   where
     go : (b : Bool) → bad_handle handle (seen e) ≡ b
-        → shown_status (pick b StatusResult.BadHandle (StatusResult.Status (get_or (seen e).statuses handle default_status))) ≡ shown (Call.peer_connect_status handle) (seen e)
+        → shown_status (pick b (Err BadHandle) (Ok (get_or (seen e).statuses handle default_status))) ≡ shown (Call.peer_connect_status handle) (seen e)
     go true h = rw h
     go false h = rw h
 
@@ -156,6 +151,18 @@ new_made g now t =
     few true b = omega arith
     few false true = omega arith
     few false false = omega arith
+
+-- none is handed back where that is refused
+taken_into : (e : Endpoint) → IsEndpoint e → (out into : List ℕ) → IsAsked (Asked.take_messages_into out into)
+    → TakenIntoAs e out into (right.take_messages_into e out into).0 (right.take_messages_into e out into).1
+unfolding handed_back
+taken_into e i out into h =
+    let n : ℕ = (step (Call.take_messages (shorter out into)) (seen e)).answer in
+    let a : Answered = answer_of n in
+    let part : ℕ = handed_back (shorter out into) (seen e) in
+    let done = asked_done e i (Asked.take_messages_into out into) h in
+    let none : (number_of a ≡ 0 → ⊥) → part ≡ 0 = λ k. rw (ne_eqb n 0 (λ z. k (done.answer ∙ z))) in
+    record { taken = rw (given_answer a part) done; count = given_count a part none; lent = rw (given_count a part none) }
 
 -- ---- its answers are values
 
@@ -212,7 +219,7 @@ right_meets =
           record { events = t.events; count = t.count; after = seen_anew e i Call.take_events; terms = record { setup = refl; count = refl } };
       take_messages = λ e out i h. asked_done e i (Asked.take_messages out) h;
       messages = λ e out i h. refl;
-      take_messages_into = λ e out into i h. record { taken = asked_done e i (Asked.take_messages_into out into) h; count = refl; lent = refl };
+      take_messages_into = λ e out into i h. taken_into e i out into h;
       network_stats = λ e epoch i h. stats_shown e epoch h;
       peer_connect_status = λ e handle i h. status_shown e handle;
       handles = λ e i. shows_handles e (length (handle_list e.setup.handles)) refl;

@@ -4,6 +4,7 @@
 use mathlib.Core.List.{List, []}
 use borrow.Author.Rules.{rules}
 use denote.Laws.{Is}
+use denote.Param.{number}
 use denote.Enum.Declared as Enum
 use denote.Struct.Declared as Struct
 use denote.Plain.{UInt}
@@ -41,7 +42,7 @@ use Rattle.codec.specs.declared.MessageBody.TheVariants as Body
 use Rattle.codec.specs.declared.Message.{Message}
 use Rattle.codec.specs.contracts.Wide as Wide
 use Rattle.codec.specs.contracts.StatusReport as StatusReport
-use Rattle.codec.specs.contracts.StatusReports as StatusReports
+use Rattle.fixed_vec.specs.contracts.FixedVec as FixedVec
 use Rattle.codec.specs.contracts.MessageBody as MessageBody
 use Rattle.codec.specs.contracts.Message as Message
 use Rattle.codec.proofs.Meant.{meant_magic, meant_body}
@@ -184,10 +185,14 @@ body_means Body.KeepAlive h = enum_means MessageBody.the_type Body.KeepAlive tt
 report_means : (r : StatusReport) → IsU32 r.last_frame → Means (Struct.row StatusReport.the_type) r
 report_means r h = struct_means StatusReport.the_type r (flag_means r.disconnected ▸ number_means w32 r.last_frame h ▸ tt)
 
+-- the type of a message's reports
+abbrev reports_type : Struct.Declared
+reports_type = FixedVec.the_type (Struct.row StatusReport.the_type) (number most_players)
+
 pub message_means : (m : Message) → IsMessage m → Means (Struct.row Message.the_type) m
 message_means m h =
-    let reports : Means (Struct.row StatusReports.the_type) m.reports
-    = struct_means StatusReports.the_type m.reports (
+    let reports : Means (Struct.row reports_type) m.reports
+    = struct_means reports_type m.reports (
     array_means (Struct.row StatusReport.the_type) (λ (r : StatusReport). IsU32 r.last_frame) report_means most_players m.reports.list h.size h.frames ▸
     number_means w64 m.reports.count h.count ▸ tt) in
     struct_means Message.the_type m (number_means w16 m.magic h.magic ▸ body_means m.body h.body ▸ reports ▸ tt)

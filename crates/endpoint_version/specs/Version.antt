@@ -1,11 +1,14 @@
 -- A version of the endpoint's public functions, and its calls: what each is given, which rule it is a call of, and what it hands back.
-use Rattle.std.specs.Prelude.{Bool, List, [], ℕ, ◌-◌, length, take, drop}
+use Rattle.std.specs.Prelude.{Bool, List, [], ℕ, ◌-◌, length, take, drop, Result}
 use Rattle.answer.specs.Number.{number_of}
+use Rattle.answer.specs.declared.Refusal.{Refusal}
 use Rattle.codec.specs.Message.{meant, FitsWide}
 use Rattle.codec.specs.declared.Wide.{Wide}
 use Rattle.codec.specs.declared.Message.{Message}
 use Rattle.status.specs.Statuses.{held_statuses}
+use Rattle.status.specs.declared.ConnectionStatus.{ConnectionStatus}
 use Rattle.status.specs.declared.list.Statuses.{Statuses}
+use Rattle.quality.specs.declared.NetworkStats.{NetworkStats}
 use Rattle.checksums.specs.declared.Checksums.{Checksums}
 use Rattle.setup.specs.declared.Setup.{Setup}
 use Rattle.setup.specs.declared.Handles.{Handles}
@@ -16,9 +19,7 @@ use Rattle.endpoint.specs.declared.Endpoint.{Endpoint}
 use Rattle.endpoint.specs.declared.Ended.{Ended}
 use Rattle.endpoint.specs.declared.taking.TakenEvents.{TakenEvents}
 use Rattle.endpoint.specs.declared.taking.TakenMessages.{TakenMessages}
-use Rattle.endpoint.specs.declared.getters.StatusResult.{StatusResult}
-use Rattle.endpoint.specs.declared.getters.StatsResult.{StatsResult}
-use Rattle.endpoint.specs.Taken.{shorter}
+use Rattle.endpoint.specs.Taken.{shorter, answer_in}
 use Rattle.endpoint.specs.Shown.{shown_status, shown_stats}
 use Rattle.endpoint_version.specs.Values.{IsSlice, IsStatuses, IsMessage}
 
@@ -38,8 +39,8 @@ pub record Version : Type 0 where
   pub take_messages : Endpoint → (out : List ℕ) → Ended
   pub messages : Endpoint → (out : List ℕ) → List ℕ
   pub take_messages_into : Endpoint → (out into : List ℕ) → TakenMessages × List ℕ
-  pub network_stats : Endpoint → (epoch : ℕ) → StatsResult
-  pub peer_connect_status : Endpoint → (handle : ℕ) → StatusResult
+  pub network_stats : Endpoint → (epoch : ℕ) → Result NetworkStats Refusal
+  pub peer_connect_status : Endpoint → (handle : ℕ) → Result ConnectionStatus Refusal
   pub handles : Endpoint → Handles
   pub is_synchronized : Endpoint → Bool
   pub is_running : Endpoint → Bool
@@ -122,7 +123,7 @@ number_from v e (Asked.update_local_frame_advantage local) = number_of (v.update
 number_from v e (Asked.take_messages out) = number_of (v.take_messages e out).answer
 number_from v e (Asked.network_stats epoch) = (shown_stats (v.network_stats e epoch)).0
 number_from v e (Asked.peer_connect_status handle) = (shown_status (v.peer_connect_status e handle)).0
-number_from v e (Asked.take_messages_into out into) = number_of (v.take_messages_into e out into).0.answer
+number_from v e (Asked.take_messages_into out into) = number_of (answer_in (v.take_messages_into e out into).0.answer)
 
 abbrev pub endpoint_after : Version → Endpoint → Asked → Endpoint
 endpoint_after v e (Asked.synchronize now epoch nonce out) = (v.synchronize e now epoch nonce out).0.endpoint

@@ -20,7 +20,7 @@ use Rattle.event_line.specs.Lines.{input_text}
 abbrev Puts : Draft → List ℕ → Draft → Type 0
 Puts d piece r = DraftedAs (added (drafted d) piece) r
 
-module _ (d : Draft) (room : d.used ≤ 3) where
+module _ (d : Draft) (room : d.text.count ≤ 3) where
   pub word_added : (word : List ℕ) (r : Draft) → length word ≤ 75 → Puts d word r → Adds d word 75 r
   word_added word r few p = put_adds d r word 75 few (omega arith) p
 

@@ -6,7 +6,7 @@ mod words;
 ghost use Rattle.std.specs.Prelude.{◌≡◌};
 ghost use Rattle.text.specs.Page.{page, written, written_all};
 ghost use Rattle.events.specs.Events.{held_events};
-ghost use Rattle.event_line.specs.Lines.{entry_line, lines_of, each_of};
+ghost use Rattle.event_line.specs.Lines.{entry_line, lines_of};
 
 use events::{Entry, Events};
 use text::Draft;
@@ -19,27 +19,17 @@ pub fn line(out: &mut [u8], at: usize, entry: Entry, size: usize) -> usize
 }
 
 // Every event on a line of its own, each where it fits; one line that says so where there is none.
-#[tactic(auto, using(crate::proofs::EachLaws::none_lines, crate::proofs::EachLaws::some_lines))]
+#[tactic(auto, using(crate::proofs::EachLaws::none_lines, crate::proofs::EachLaws::some_lines, crate::proofs::EachLaws::all_laid, crate::proofs::EachLaws::turn, base::proofs::Arrays::take_count), unfolding(events::specs::Events::held_events))]
 pub fn lines(out: &mut [u8], at: usize, name: u8, events: Events, size: usize) -> usize
     ensures { page out.new result ≡ written_all (lines_of name size (held_events events)) (page out.old at) }
 {
-    if events.count() == 0 {
+    let entries = &events.entries[..events.count()];
+    if entries.is_empty() {
         return words::none(name).lay_into(out, at);
     }
-    each(out, at, name, events, size)
-}
-
-#[tactic(auto, using(crate::proofs::EachLaws::all_laid, crate::proofs::EachLaws::turn))]
-fn each(out: &mut [u8], at: usize, name: u8, events: Events, size: usize) -> usize
-    ensures { page out.new result ≡ written_all (each_of name size (held_events events)) (page out.old at) }
-{
-    let n = events.count();
     let mut end = at;
-    let mut i = 0;
-    while i < n {
-        let entry = events.entry(i);
-        end = words::named(name, entry, size).lay_into(out, end);
-        i += 1;
+    for entry in entries {
+        end = words::named(name, *entry, size).lay_into(out, end);
     }
     end
 }

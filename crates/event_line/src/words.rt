@@ -7,55 +7,51 @@ ghost use Rattle.event_line.specs.Lines.{input_text, entry_line, under};
 use ceilings::MOST_INPUT_SIZE;
 use events::{Entry, Event};
 use frame::BIAS32;
-use text::Draft;
+use text::{Draft, filled};
 
 #[tactic(auto, using(crate::proofs::WordLaws::synchronizing_added, crate::proofs::WordLaws::word_added), unfolding(text::specs::Ascii::ascii, crate::specs::Lines::event_text))]
 pub(crate) fn event(draft: Draft, entry: Entry, size: usize) -> Draft
-    requires { draft.used ≤ 3 }
+    requires { draft.text.count ≤ 3 }
     ensures { Adds draft (entry_line size entry) 75 result }
 {
-    let event = entry.event;
-    match event {
+    match entry.event {
         Event::Synchronizing { total, count } => {
-            let next = draft.put(b"Synchronizing ").put_decimal(count as u64, 0);
-            next.put(b" of ").put_decimal(total as u64, 0)
+            draft
+                .put(b"Synchronizing ")
+                .put_decimal(u128::from(count))
+                .put(b" of ")
+                .put_decimal(u128::from(total))
         }
         Event::Synchronized => draft.put(b"Synchronized"),
-        Event::Input { frame, player } => {
-            let input = entry.input;
-            moved(draft, frame, player, input, size)
-        }
+        Event::Input { frame, player } => moved(draft, frame, player, &entry.input, size),
         Event::Disconnected => draft.put(b"Disconnected"),
         Event::NetworkInterrupted { disconnect_timeout } => {
             draft
                 .put(b"NetworkInterrupted ")
-                .put_decimal(disconnect_timeout, 0)
+                .put_decimal(u128::from(disconnect_timeout))
         }
         Event::NetworkResumed => draft.put(b"NetworkResumed"),
     }
 }
 
-fn moved(draft: Draft, frame: u32, player: u32, input: [u8; MOST_INPUT_SIZE], size: usize) -> Draft
-    requires { draft.used ≤ 3 }
-    ensures { Adds draft (input_text frame player size input) 75 result }
+fn moved(draft: Draft, frame: u32, player: u32, input: &[u8; MOST_INPUT_SIZE], size: usize) -> Draft
+    requires { draft.text.count ≤ 3 }
+    ensures { Adds draft (input_text frame player size input.now) 75 result }
 {
-    let next = draft.put(b"Input frame ").put_signed(frame, BIAS32);
-    let next = next
+    draft
+        .put(b"Input frame ")
+        .put_signed(frame, BIAS32)
         .put(b" player ")
-        .put_decimal(player as u64, 0)
-        .put(b": ");
-    if size < MOST_INPUT_SIZE {
-        return next.put_hex(&input[..size]);
-    }
-    next.put_hex(&input)
+        .put_decimal(u128::from(player))
+        .put(b": ")
+        .put_hex(filled(input, size))
 }
 
 // A line begins with a letter, and ends with a newline.
 fn begun(name: u8) -> Draft
     ensures { Holds (name ∷ ascii ": ") 3 result }
 {
-    let letter = [name];
-    Draft::new().put(&letter).put(b": ")
+    Draft::new().put(&[name]).put(b": ")
 }
 
 pub(crate) fn named(name: u8, entry: Entry, size: usize) -> Draft

@@ -20,42 +20,34 @@ pub const NULL_FRAME: u32 = 0x7FFF_FFFF;
 // The greatest frame, 2^31 - 1: none comes after it.
 pub const GREATEST_FRAME: u32 = 0xFFFF_FFFF;
 
-// By way of i64, since the sum of an i32 and the bias leaves i32.
-#[tactic(auto, using(crate::proofs::Signed::biased_below, crate::proofs::Signed::biased_sum))]
+// The bits of the i32, turned to what holds it.
+#[tactic(auto, using(crate::proofs::Bits::bits_held), unfolding(crate::specs::Bias::bits_of))]
 pub fn from_signed(frame: i32) -> u32
     ensures { result ≡ biased bias32 frame }
 {
-    (frame as i64 + BIAS32 as i64) as u32
+    frame.cast_unsigned().wrapping_add(BIAS32)
 }
 
 // What people read is signed.
-#[tactic(auto, using(crate::proofs::Signed::signed_within), unfolding(crate::specs::Bias::signed))]
+#[tactic(auto, using(crate::proofs::Bits::held_bits), unfolding(crate::specs::Bias::bits_of))]
 pub fn to_signed(frame: u32) -> i32
     ensures { result ≡ signed bias32 frame }
 {
-    (frame as i64 - BIAS32 as i64) as i32
+    frame.wrapping_add(BIAS32).cast_signed()
 }
 
 // The bits of the i32 that a frame is on the wire, and back: it undoes itself.
-#[tactic(auto, using(crate::proofs::Bits::bits_high, crate::proofs::Bits::bits_low))]
+#[tactic(auto, unfolding(crate::specs::Bias::bits_of))]
 pub fn bits_of(frame: u32) -> u32
     ensures { result ≡ bits_of bias32 frame }
 {
-    if frame < BIAS32 {
-        frame + BIAS32
-    } else {
-        frame - BIAS32
-    }
+    frame.wrapping_add(BIAS32)
 }
 
-// The same for the i16 of an advantage.
-#[tactic(auto, using(crate::proofs::Bits::bits_high, crate::proofs::Bits::bits_low))]
+// The same for the i16 of an advantage. A trait over both widths would be no plainer: it would hold this line twice.
+#[tactic(auto, unfolding(crate::specs::Bias::bits_of))]
 pub fn advantage_bits_of(advantage: u16) -> u16
     ensures { result ≡ bits_of bias16 advantage }
 {
-    if advantage < BIAS16 {
-        advantage + BIAS16
-    } else {
-        advantage - BIAS16
-    }
+    advantage.wrapping_add(BIAS16)
 }

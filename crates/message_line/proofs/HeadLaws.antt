@@ -3,21 +3,21 @@ use borrow.Author.Tests.{eq-eqb, ne_eqb}
 use mathlib.Core.Path.{◌≡◌, refl, ◌∙◌, ap}
 use mathlib.Core.Bool.{Bool}
 use mathlib.Core.List.{List, ◌++◌, append-nil}
-use Prim.Native.Nat.{ℕ, ◌≤◌}
-use native.Mathlib.Omega.{arith}
+use Prim.Native.Nat.{ℕ}
 use lib.Dec.{eqb}
 use lib.ListN.{length}
 use Rattle.base.specs.Pick.{pick}
-use Rattle.answer.specs.Number.{number_of}
+use Rattle.answer.specs.Number.{refusal_number}
+use Rattle.answer.specs.declared.Refusal.{Refusal}
+use Rattle.answer.proofs.Refused.{not_done}
 use Rattle.text.specs.Decimal.{decimal_of}
 use Rattle.text.specs.Hex.{hex_of}
 use Rattle.codec.specs.Message.{Wire, report_list, meant}
 use Rattle.codec.specs.Read.{Reading, got, fault, datagram, number_in, wire_in}
-use Rattle.codec.specs.Calls.{payload_in, ReadAs}
-use Rattle.codec.proofs.Meant.{meant_magic, meant_body, meant-reports, meant_few}
+use Rattle.codec.specs.Calls.{payload_in, MessageAs}
+use Rattle.codec.proofs.Meant.{meant_magic, meant_body, meant-reports}
 use Rattle.codec.specs.declared.StatusReport.{StatusReport}
 use Rattle.codec.specs.declared.Message.{Message}
-use Rattle.codec.specs.declared.Received.{Received}
 use Rattle.codec.specs.declared.MessageBody.{MessageBody}
 use Rattle.codec.specs.declared.MessageBody.TheVariants.{SyncRequest, SyncReply, Input, InputAck, QualityReport, QualityReply, ChecksumReport, KeepAlive}
 use Rattle.text.specs.Ascii.{ascii}
@@ -50,17 +50,14 @@ head-meant m payload n =
       fields_same m.body (meant m payload).reports (report_list m.reports) n (λ d s a e. meant-reports m payload d s a e),
     )
 
-module _ (d : List ℕ) (r : Received) (e : ReadAs d r) where
-  pub few_reports : length r.message.reports.list ≡ 4 → r.message.reports.count ≤ 4
-  few_reports long = omega (arith, e.count, ap (λ (w : Wire). length w.reports) e.message, meant_few r.message (payload_in d))
-
-  pub refused-head : (n : ℕ) → (number_of r.answer ≡ 0 → ⊥) → ascii "refused " ++ decimal_of (number_of r.answer) ≡ head_of d n
+module _ (d : List ℕ) (n : ℕ) where
+  pub refused_head : (r : Refusal) → datagram d ≡ fault (refusal_number r) → ascii "refused " ++ decimal_of (refusal_number r) ≡ head_of d n
   unfolding head_of refused_line
-  refused-head n h = rw (← e.answer, ne_eqb _ 0 h)
+  refused_head r e = rw (e, ne_eqb _ 0 (not_done r))
 
-  pub read_head : (n : ℕ) → number_of r.answer ≡ 0 → head_text r.message.magic r.message.body (report_list r.message.reports) n ≡ head_of d n
+  pub read_head : (m : Message) → MessageAs d m → head_text m.magic m.body (report_list m.reports) n ≡ head_of d n
   unfolding head_of
-  read_head n h = rw (← e.answer, eq-eqb _ 0 h) (head-meant r.message (payload_in d) n ∙ ap (λ (w : Wire). head_in w n) e.message)
+  read_head m e = rw (eq-eqb _ 0 e.reads) (head-meant m (payload_in d) n ∙ ap (λ (w : Wire). head_in w n) e.message)
 
 -- what is refused has no payload
 whole : (g : Reading Wire)

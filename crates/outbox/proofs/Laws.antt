@@ -1,32 +1,36 @@
 -- What other crates cite of a queue: what a call answers with and without room, and messages written one after another.
 use borrow.Author.Tests.{lt-ltb, le-ltb}
-use mathlib.Core.Bool.{true, false}
+use mathlib.Core.Bool.{Bool, true, false}
 use mathlib.Core.List.{List, [], ◌∷◌, flatten}
-use mathlib.Core.Path.{◌≡◌, refl, ◌∙◌}
+use mathlib.Core.Path.{◌≡◌, refl, ◌∙◌, ap}
 use Prim.Native.Nat.{ℕ, ◌+◌, ◌<◌, ◌≤◌}
 use native.Mathlib.Omega.{arith}
 use lib.ListN.{length, length-append}
+use Rattle.std.specs.Prelude.{Result, Ok, Err}
 use Rattle.base.specs.Lay.{laid_at}
 use Rattle.base.proofs.Lay.{laid_none, laid_length, laid_join}
+use Rattle.answer.specs.declared.Refusal.{Refusal}
+use Rattle.answer.specs.declared.Refusal.TheVariants.{Full}
 use Rattle.codec.specs.Message.{Wire, Fits, FitAll, table_size}
 use Rattle.codec.specs.Bytes.{bytes, queue_of}
 use Rattle.codec.proofs.Laws.{bytes-length}
-use Rattle.outbox.specs.declared.Queued.{Queued}
 use Rattle.outbox.specs.Outbox.{queue_size, QueuedAs}
 
--- the two answers
-module _ (b : List ℕ) (at : ℕ) (w : Wire) (r : Queued) (b' : List ℕ) (h : QueuedAs b at w r b') where
-  pub queued_room : at + table_size w ≤ length b → (r ≡ record { ok = true; end = at + table_size w }) × (b' ≡ laid_at b at (bytes w)) × Fits w
-  queued_room room =
-      let ok : r.ok ≡ true = h.ok ∙ rw (le-ltb _ _ room) in
-      let end : r.end ≡ at + table_size w = rw ok at h.end in
-      ((λ i. record { ok = ok i; end = end i }), rw ok at h.lent, h.fits ok)
+-- a test does not hold and fail
+pub apart : (t : Bool) → t ≡ true → t ≡ false → ⊥
+apart true e f = let z : ◌≡◌ {A = ℕ} 0 1 = cc in omega arith
+apart false e f = let z : ◌≡◌ {A = ℕ} 0 1 = cc in omega arith
 
-  pub queued_full : length b < at + table_size w → (r ≡ record { ok = false; end = at }) × (b' ≡ b)
-  queued_full over =
-      let ok : r.ok ≡ false = h.ok ∙ rw (lt-ltb _ _ over) in
-      let end : r.end ≡ at = rw ok at h.end in
-      ((λ i. record { ok = ok i; end = end i }), rw ok at h.lent)
+-- the two answers
+module _ (b : List ℕ) (at : ℕ) (w : Wire) (b' : List ℕ) where
+  pub queued_room : (r : Result ℕ Refusal) → QueuedAs b at w r b' → at + table_size w ≤ length b
+      → (r ≡ Ok (at + table_size w)) × (b' ≡ laid_at b at (bytes w)) × Fits w
+  queued_room (Ok next) h room = (ap Ok h.end, h.lent, h.fits)
+  queued_room (Err refusal) h room = absurd (apart _ h.0 (le-ltb _ _ room))
+
+  pub queued_full : (r : Result ℕ Refusal) → QueuedAs b at w r b' → length b < at + table_size w → (r ≡ Err Full) × (b' ≡ b)
+  queued_full (Ok next) h over = absurd (apart _ (lt-ltb _ _ over) h.room)
+  queued_full (Err refusal) h over = (ap Err h.1, h.2)
 
 -- the bytes of messages are as many as the table says
 pub bytes_size : (w : Wire) → Fits w → length (bytes w) ≡ table_size w

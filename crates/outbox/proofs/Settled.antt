@@ -1,6 +1,8 @@
 -- Two answers that a contract allows are equal, by name for each public function, and so are the two lent buffers.
 use mathlib.Core.List.{List}
-use mathlib.Core.Path.{◌≡◌, sym, ◌∙◌}
+use mathlib.Core.Path.{◌≡◌, sym, ◌∙◌, ap}
+use Rattle.std.specs.Prelude.{Result, Ok, Err}
+use Rattle.answer.specs.declared.Refusal.{Refusal}
 use Prim.Native.Nat.{ℕ}
 use Rattle.status.specs.declared.list.Statuses.{Statuses}
 use Rattle.status.specs.Statuses.{held_statuses}
@@ -10,23 +12,25 @@ use Rattle.pending.specs.Pending.{waiting}
 use Rattle.codec.specs.Message.{Wire}
 use Rattle.codec.specs.Read.{body_only}
 use Rattle.codec.specs.declared.MessageBody.{MessageBody}
-use Rattle.outbox.specs.declared.Queued.{Queued}
+use Rattle.outbox.proofs.Laws.{apart}
 use Rattle.outbox.specs.Outbox.{QueuedAs, InputSizedAs, pending_input}
 
-module _ (b : List ℕ) (at : ℕ) (r s : Queued) (b' b'' : List ℕ) where
-  queued_settled : (w : Wire) → QueuedAs b at w r b' → QueuedAs b at w s b'' → (r ≡ s) × (b' ≡ b'')
-  queued_settled w x y =
-      let ok : r.ok ≡ s.ok = x.ok ∙ sym y.ok in
-      let end : r.end ≡ s.end = x.end ∙ rw ok (sym y.end) in
-      ((λ i. record { ok = ok i; end = end i }), x.lent ∙ rw ok (sym y.lent))
+module _ (b : List ℕ) (at : ℕ) (b' b'' : List ℕ) where
+  queued_settled : (r s : Result ℕ Refusal) (w : Wire) → QueuedAs b at w r b' → QueuedAs b at w s b'' → (r ≡ s) × (b' ≡ b'')
+  queued_settled (Ok m) (Ok n) w x y = (ap Ok (x.end ∙ sym y.end), x.lent ∙ sym y.lent)
+  queued_settled (Ok m) (Err f) w x y = absurd (apart _ y.0 x.room)
+  queued_settled (Err e) (Ok n) w x y = absurd (apart _ x.0 y.room)
+  queued_settled (Err e) (Err f) w x y = (ap Err (x.1 ∙ sym y.1), x.2 ∙ sym y.2)
 
-  pub body_only_settled : (magic : ℕ) (body : MessageBody) → QueuedAs b at (body_only magic body) r b' → QueuedAs b at (body_only magic body) s b'' → (r ≡ s) × (b' ≡ b'')
-  body_only_settled magic body = queued_settled (body_only magic body)
+  pub body_only_settled : (r s : Result ℕ Refusal) (magic : ℕ) (body : MessageBody) → QueuedAs b at (body_only magic body) r b'
+      → QueuedAs b at (body_only magic body) s b'' → (r ≡ s) × (b' ≡ b'')
+  body_only_settled r s magic body = queued_settled r s (body_only magic body)
 
-  pub pending_input_settled : (magic ack : ℕ) (statuses : Statuses) (pending : Pending) (width : ℕ) (acked : InputBytes)
+  pub pending_input_settled : (r s : Result ℕ Refusal) (magic ack : ℕ) (statuses : Statuses) (pending : Pending) (width : ℕ) (acked : InputBytes)
       → QueuedAs b at (pending_input magic ack (held_statuses statuses) (waiting pending) width acked) r b'
       → QueuedAs b at (pending_input magic ack (held_statuses statuses) (waiting pending) width acked) s b'' → (r ≡ s) × (b' ≡ b'')
-  pending_input_settled magic ack statuses pending width acked = queued_settled (pending_input magic ack (held_statuses statuses) (waiting pending) width acked)
+  pending_input_settled r s magic ack statuses pending width acked =
+      queued_settled r s (pending_input magic ack (held_statuses statuses) (waiting pending) width acked)
 
 pub input_size_settled : (statuses : Statuses) (pending : Pending) (width r s : ℕ) → InputSizedAs (held_statuses statuses) (waiting pending) width r
     → InputSizedAs (held_statuses statuses) (waiting pending) width s → r ≡ s

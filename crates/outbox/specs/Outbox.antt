@@ -1,7 +1,8 @@
 -- A send queue with one more message: written whole at its end where it fits, and else nothing. And the Input of all that is pending.
-use Rattle.std.specs.Prelude.{true, false, not, List, [], ◌∷◌, map, ◌≡◌, refl, ℕ, ◌+◌, ◌*◌, min, length}
-use Rattle.base.specs.Pick.{pick}
+use Rattle.std.specs.Prelude.{true, false, List, [], ◌∷◌, map, ◌≡◌, refl, ℕ, ◌+◌, ◌*◌, min, length, Result, Ok, Err}
 use Rattle.base.specs.Lay.{no_room, laid_at}
+use Rattle.answer.specs.declared.Refusal.{Refusal}
+use Rattle.answer.specs.declared.Refusal.TheVariants.{Full}
 use Rattle.ceilings.specs.Ceilings.{most_width}
 use Rattle.frame.specs.Bias.{null_frame}
 use Rattle.status.specs.declared.ConnectionStatus.{ConnectionStatus}
@@ -9,20 +10,23 @@ use Rattle.packing.specs.Packing.{xors, pack}
 use Rattle.packing.specs.declared.input_bytes.InputBytes.{InputBytes}
 use Rattle.pending.specs.Pending.{first_frame, payload}
 use Rattle.codec.specs.Sizes.{fixed_size}
-use Rattle.codec.specs.Message.{Wire, Fits, report_list, table_size}
+use Rattle.codec.specs.Message.{Wire, Fits, Reports, report_list, table_size}
 use Rattle.codec.specs.Bytes.{bytes}
 use Rattle.codec.specs.Read.{body_only}
 use Rattle.codec.specs.declared.StatusReport.{StatusReport}
-use Rattle.codec.specs.declared.StatusReports.{StatusReports}
 use Rattle.codec.specs.declared.MessageBody.TheVariants.{Input, InputAck, KeepAlive}
-use Rattle.outbox.specs.declared.Queued.{Queued}
 
--- what is written fits, as every value of the code's types within the counts does
-pub record QueuedAs (buffer : List ℕ) (at : ℕ) (w : Wire) (r : Queued) (buffer' : List ℕ) : Type 0 where
-  pub ok : r.ok ≡ not (no_room buffer at (table_size w))
-  pub end : r.end ≡ pick r.ok (at + table_size w) at
-  pub lent : buffer' ≡ pick r.ok (laid_at buffer at (bytes w)) buffer
-  pub fits : r.ok ≡ true → Fits w
+-- a message at the queue's end, and the place after it. What is written fits, as every value of the code's types within the counts does
+pub record Queued (buffer : List ℕ) (at : ℕ) (w : Wire) (next : ℕ) (buffer' : List ℕ) : Type 0 where
+  pub room : no_room buffer at (table_size w) ≡ false
+  pub end : next ≡ at + table_size w
+  pub lent : buffer' ≡ laid_at buffer at (bytes w)
+  pub fits : Fits w
+
+-- and nothing where it does not fit, which is the only refusal
+abbrev pub QueuedAs : (buffer : List ℕ) (at : ℕ) → Wire → Result ℕ Refusal → List ℕ → Type 0
+QueuedAs buffer at w (Ok next) buffer' = Queued buffer at w next buffer'
+QueuedAs buffer at w (Err refusal) buffer' = (no_room buffer at (table_size w) ≡ true) × (refusal ≡ Full) × (buffer' ≡ buffer)
 
 -- the bytes that messages take by the table of sizes (W-7)
 unfoldable pub queue_size : List Wire → ℕ
@@ -44,7 +48,7 @@ pending_input magic ack statuses inputs width acked =
     }
 
 -- the reports of at most 4 statuses, by the array and its count
-pub record StatusReportsAs (statuses : List ConnectionStatus) (r : StatusReports) : Type 0 where
+pub record StatusReportsAs (statuses : List ConnectionStatus) (r : Reports) : Type 0 where
   pub list : report_list r ≡ map report_of statuses
   pub count : r.count ≡ length statuses
 

@@ -5,7 +5,7 @@ ghost use Rattle.pending.specs.Pending.{waiting};
 ghost use Rattle.codec.specs.Sizes.{fixed_size};
 ghost use Rattle.outbox.specs.Outbox.{QueuedAs, StatusReportsAs, InputSizedAs, pending_input};
 
-use crate::Queued;
+use answer::Refusal;
 use codec::{FIXED_SIZES, Message, MessageBody, STATUS_SIZE, StatusReport, StatusReports};
 use packing::InputBytes;
 use pending::Pending;
@@ -16,18 +16,15 @@ use status::Statuses;
 fn reports_of(statuses: Statuses) -> StatusReports
     ensures { StatusReportsAs (held_statuses statuses) result }
 {
-    let count = statuses.count();
     let mut reports = codec::no_reports();
-    reports.count = count;
-    let mut i = 0;
-    while i < count {
+    for i in 0..statuses.count() {
         let status = statuses.get(i);
         reports.list[i] = StatusReport {
             disconnected: status.disconnected,
             last_frame: status.last_frame,
         };
-        i += 1;
     }
+    reports.count = statuses.count();
     reports
 }
 
@@ -50,7 +47,7 @@ pub fn pending_input(
     pending: Pending,
     width: usize,
     acked: InputBytes,
-) -> Queued
+) -> Result<usize, Refusal>
     ensures { QueuedAs out.old at (pending_input magic ack (held_statuses statuses) (waiting pending) width acked) result out.new }
 {
     let body = MessageBody::Input {
@@ -58,25 +55,21 @@ pub fn pending_input(
         start_frame: pending.first_frame(frame::NULL_FRAME),
         ack_frame: ack,
     };
-    let reports = reports_of(statuses);
     let message = Message {
         magic,
         body,
-        reports,
+        reports: reports_of(statuses),
     };
     let size = pending.payload_size(width);
     let head = head_size(statuses);
     if out.len() < at || out.len() - at < head + size {
-        return Queued { ok: false, end: at };
+        return Err(Refusal::Full);
     }
     // The payload goes first: the compiler does not know that a write to the buffer leaves the pending
     // inputs as they were, so behind the head it would copy them once more.
     pending.pack_all(out, at + head, width, acked);
-    codec::write_head(out, at, message, size);
-    Queued {
-        ok: true,
-        end: at + head + size,
-    }
+    let end = codec::write_head(out, at, message, size).unwrap();
+    Ok(end + size)
 }
 
 // The bytes that it takes, for a caller that must know that several messages fit before it writes

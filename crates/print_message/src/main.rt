@@ -20,6 +20,7 @@ fn main(rt: HostRuntime) -> ExitCode {
 }
 
 // Reads until the slice is full or the input ends. How many bytes it put at the slice's start.
+// A loop of its own, since std's `read_to_end` needs a heap, and `read_exact` does not say how much was read.
 fn read_full(input: &mut impl Read, buf: &mut [u8]) -> io::Result<usize>
     ensures { IfOk result (λ n. n ≤ length buf.new) }
 {
@@ -43,12 +44,6 @@ fn tell(rt: &impl Eprint, line: &str) -> ExitCode {
 fn print(rt: &impl Print, datagram: &[u8]) -> io::Result<()> {
     // More than 256 bytes and two for each byte of the longest payload: every line fits.
     let mut out = [0u8; 16896];
-    let line = message_line::line(&mut out, 0, datagram);
-    let end = line.end;
-    put(rt, &out[..end])?;
-    put(rt, b"\n")
-}
-
-fn put(rt: &impl Print, bytes: &[u8]) -> io::Result<()> {
-    rt.write_all(bytes)
+    let end = message_line::line_after(&mut out, 0, b"", datagram);
+    rt.write_all(text::filled(&out, end))
 }

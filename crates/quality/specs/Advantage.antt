@@ -2,10 +2,10 @@
 -- A number z within i32 is held as z + 2^31. So a sum of a held number and a plain one is held as their sum, and leaves i32 exactly when that is
 -- 2^32 or more; a difference of two held numbers a and b is held as a + 2^31 - b, and leaves i32 exactly when b exceeds a + 2^31 or the rest is
 -- 2^32 or more. The product has no bias: it is not negative, and leaves i32 exactly when it is 2^31 or more.
-use Rattle.std.specs.Prelude.{Bool, true, false, ◌||◌, ◌≡◌, refl, ℕ, ◌+◌, ◌-◌, ◌*◌, ◌/◌, ◌^◌, min, ltb, leb, pos, ◌+ℤ◌, ◌-ℤ◌}
+use Rattle.std.specs.Prelude.{Bool, true, false, ◌||◌, ◌≡◌, refl, ℕ, ◌+◌, ◌-◌, ◌*◌, ◌/◌, ◌^◌, min, ltb, leb, Result, Ok, Err, pos, ◌+ℤ◌, ◌-ℤ◌}
 use Rattle.frame.specs.Bias.{bias32, signed}
-use Rattle.quality.specs.declared.Advantage.{Advantage}
-use Rattle.quality.specs.declared.Advantage.TheVariants.{Frames, Overflow}
+use Rattle.answer.specs.declared.Refusal.{Refusal}
+use Rattle.answer.specs.Number.{refusal_number}
 
 -- min(rtt / 2, i32 max)
 abbrev pub half_trip : ℕ → ℕ
@@ -37,9 +37,9 @@ advantage_overflows received round_trip fps local_frame =
     product_overflows round_trip fps || sum_overflows received round_trip fps || difference_overflows (remote_frame received round_trip fps) local_frame
 
 -- an answer's number, and the advantage that comes with done
-abbrev pub shown_advantage : Advantage → ℕ × ℕ
-shown_advantage (Frames advantage) = (0, advantage)
-shown_advantage Overflow = (6, 0)
+abbrev pub shown_advantage : Result ℕ Refusal → ℕ × ℕ
+shown_advantage (Ok advantage) = (0, advantage)
+shown_advantage (Err refusal) = (refusal_number refusal, 0)
 
 -- worked (P14): rtt 100, fps 60, newest 10, local 12 give 1
 p14 : advantage_of (bias32 + 10) 100 60 (bias32 + 12) ≡ bias32 + 1

@@ -7,11 +7,11 @@ ghost use Rattle.base.specs.Pick.{pick};
 ghost use Rattle.quality.specs.Quality.{clamped, widened, round_trip, fresh_quality, started_at, remote_set, trip_noted, local_set};
 ghost use Rattle.quality.specs.Advantage.{half_trip, advantage_of, advantage_overflows, shown_advantage};
 
+use answer::Refusal;
 use frame::BIAS32;
-use numbers::WORD;
 
 // What `network_stats` shows; the start is of the epoch clock.
-#[derive(Clone, Copy)]
+#[derive(Clone, Copy, Debug, PartialEq, Eq)]
 pub struct Quality {
     pub local_frame_advantage: u32,
     pub remote_frame_advantage: u32,
@@ -20,19 +20,12 @@ pub struct Quality {
 }
 
 // The answer of `network_stats`.
-#[derive(Clone, Copy)]
+#[derive(Clone, Copy, Debug, PartialEq, Eq)]
 pub struct NetworkStats {
     pub ping: u64,
     pub send_queue_len: usize,
     pub local_frames_behind: u32,
     pub remote_frames_behind: u32,
-}
-
-// The answer of `local_advantage`.
-#[derive(Clone, Copy)]
-pub enum Advantage {
-    Frames(u32),
-    Overflow,
 }
 
 // The least i16 as an advantage is held, and what follows the greatest.
@@ -48,13 +41,7 @@ const I32_MAX: u64 = 0x7FFF_FFFF;
 pub fn clamped(advantage: u32) -> u16
     ensures { result ≡ clamped advantage }
 {
-    if advantage < I16_START {
-        return 0;
-    }
-    if advantage < I16_END {
-        return (advantage - I16_START) as u16;
-    }
-    0xFFFF
+    (advantage.clamp(I16_START, I16_END - 1) - I16_START) as u16
 }
 
 // A reported advantage as it is held.
@@ -62,7 +49,7 @@ pub fn clamped(advantage: u32) -> u16
 pub fn widened(advantage: u16) -> u32
     ensures { result ≡ widened advantage }
 {
-    advantage as u32 + I16_START
+    u32::from(advantage) + I16_START
 }
 
 // The time since a ping was sent, by its pong of two halves: 0 where the pong is later than now, as any above u64 is.
@@ -70,42 +57,40 @@ pub fn widened(advantage: u16) -> u32
 pub fn round_trip(epoch: u64, low: u64, high: u64) -> u64
     ensures { result ≡ round_trip epoch low high }
 {
-    if high != 0 {
-        return 0;
+    if high == 0 {
+        epoch.saturating_sub(low)
+    } else {
+        0
     }
-    numbers::minus(epoch, low)
 }
 
-// At most the greatest i32. `numbers` has no `least` for u64: this is the only place that would call it.
+// At most the greatest i32.
 fn half_trip(round_trip_time: u64) -> u64
     ensures { result ≡ half_trip round_trip_time }
 {
-    let half = round_trip_time / 2;
-    if half < I32_MAX { half } else { I32_MAX }
+    (round_trip_time / 2).min(I32_MAX)
 }
 
-// How far the local frame is behind the frame that the other end is thought to be at; product, sum and difference each within i32.
-#[tactic(auto, using(crate::proofs::Overflows::all_within, crate::proofs::Overflows::difference_above, crate::proofs::Overflows::difference_below, crate::proofs::Overflows::product_fits, crate::proofs::Overflows::product_leaves, crate::proofs::Overflows::sum_leaves))]
-pub fn local_advantage(received: u32, round_trip_time: u64, fps: u32, local_frame: u32) -> Advantage
+// How far the local frame is behind the frame that the other end is thought to be at, or Overflow where product, sum or difference leaves i32.
+#[tactic(auto, using(crate::proofs::Overflows::product_fits), unfolding(crate::specs::Advantage::advantage_of, crate::specs::Advantage::advantage_overflows))]
+pub fn local_advantage(
+    received: u32,
+    round_trip_time: u64,
+    fps: u32,
+    local_frame: u32,
+) -> Result<u32, Refusal>
     ensures { shown_advantage result ≡ pick (advantage_overflows received round_trip_time fps local_frame) (6, 0) (0, advantage_of received round_trip_time fps local_frame) }
 {
-    let product = half_trip(round_trip_time) * fps as u64;
+    let product = half_trip(round_trip_time) * u64::from(fps);
     if I32_MAX < product {
-        return Advantage::Overflow;
+        return Err(Refusal::Overflow);
     }
-    let remote_frame = received as u64 + product / 1000;
-    if WORD <= remote_frame {
-        return Advantage::Overflow;
-    }
-    let raised = remote_frame + BIAS32 as u64;
-    if raised < local_frame as u64 {
-        return Advantage::Overflow;
-    }
-    let advantage = raised - local_frame as u64;
-    if WORD <= advantage {
-        return Advantage::Overflow;
-    }
-    Advantage::Frames(advantage as u32)
+    let travelled = (product / 1000) as u32;
+    let remote_frame = received.checked_add(travelled).ok_or(Refusal::Overflow)?;
+    let raised = u64::from(remote_frame) + u64::from(BIAS32);
+    let local = u64::from(local_frame);
+    let advantage = raised.checked_sub(local).ok_or(Refusal::Overflow)?;
+    u32::try_from(advantage).map_err(|_| Refusal::Overflow)
 }
 
 impl Quality {

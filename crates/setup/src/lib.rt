@@ -7,7 +7,7 @@ ghost use Rattle.setup.specs.Setup.{terms_of, SortedAs, bad_setup, bad_desync, c
 mod list;
 
 // Whether the ends report checksums of their frames to each other, to find out where their games differ. ggrs: `DesyncDetection`.
-#[derive(Clone, Copy)]
+#[derive(Clone, Copy, Debug, PartialEq, Eq)]
 pub enum DesyncDetection {
     // Reports that come all the same are stored as with an interval of 1, or firmly.
     Off,
@@ -16,7 +16,7 @@ pub enum DesyncDetection {
 }
 
 // What a setup chooses between ways of working. `Choices::new` gives the crate's; set a field to choose another.
-#[derive(Clone, Copy)]
+#[derive(Clone, Copy, Debug, PartialEq, Eq)]
 pub struct Choices {
     // Whether the ends report checksums of frames to each other, and how many frames apart: off, or on with an interval of 1 to 10,000. Both ends choose
     // alike. ggrs: `desync_detection`.
@@ -84,7 +84,7 @@ impl DesyncDetection {
     {
         match self {
             DesyncDetection::Off => false,
-            DesyncDetection::On { interval } => numbers::is_outside(1, MOST_INTERVAL, interval),
+            DesyncDetection::On { interval } => !(1..=MOST_INTERVAL).contains(&interval),
         }
     }
 }
@@ -106,21 +106,17 @@ impl Setup {
     pub fn is_bad(self) -> bool
         ensures { result ≡ bad_setup self }
     {
-        let handles = self.handles.is_bad();
-        let choices = self.choices;
-        let desync_detection = choices.desync_detection;
-        let desync = desync_detection.is_bad();
-        numbers::is_outside(1, MOST_PLAYERS, self.num_players)
-            | handles
-            | numbers::is_outside(1, MOST_PLAYERS, self.local_players)
+        !(1..=MOST_PLAYERS).contains(&self.num_players)
+            | self.handles.is_bad()
+            | !(1..=MOST_PLAYERS).contains(&self.local_players)
             | (self.num_players < self.local_players)
-            | numbers::is_outside(1, MOST_INPUT_SIZE, self.input_size)
+            | !(1..=MOST_INPUT_SIZE).contains(&self.input_size)
             | (MOST_PREDICTION < self.max_prediction)
             | (MOST_TIMEOUT < self.disconnect_timeout)
             | (MOST_TIMEOUT < self.disconnect_notify_start)
-            | numbers::is_outside(1, MOST_FPS, self.fps)
+            | !(1..=MOST_FPS).contains(&self.fps)
             | (self.magic == 0)
-            | desync
+            | self.choices.desync_detection.is_bad()
     }
 
     // The handles ascending, all else as it was, the count too.
@@ -128,31 +124,31 @@ impl Setup {
     pub fn sorted(self) -> Setup
         ensures { SortedAs self result }
     {
-        let handles = self.handles.sorted();
-        Setup { handles, ..self }
+        Setup {
+            handles: self.handles.sorted(),
+            ..self
+        }
     }
 
     #[tactic(auto, using(base::proofs::Arrays::view_le), unfolding(crate::specs::Setup::terms_with))]
     pub fn receiving_width(self) -> usize
         ensures { result ≡ receiving_width (terms_of self) }
     {
-        self.handles.count() * (self.input_size as usize)
+        self.handles.count() * self.input_size as usize
     }
 
     #[tactic(auto, unfolding(crate::specs::Setup::terms_with))]
     pub fn sending_width(self) -> usize
         ensures { result ≡ sending_width (terms_of self) }
     {
-        (self.local_players as usize) * (self.input_size as usize)
+        self.local_players as usize * self.input_size as usize
     }
 
     // In frames; off counts as 1.
     pub fn interval(self) -> u32
         ensures { result ≡ interval_of self.choices.desync_detection }
     {
-        let choices = self.choices;
-        let desync_detection = choices.desync_detection;
-        match desync_detection {
+        match self.choices.desync_detection {
             DesyncDetection::Off => 1,
             DesyncDetection::On { interval } => interval,
         }

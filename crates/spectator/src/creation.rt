@@ -6,7 +6,7 @@ ghost use Rattle.spectator_rules.specs.Setup.{host_setup, bad_limits};
 ghost use Rattle.spectator.specs.Answers.{MadeAs};
 
 use crate::{Ended, Inputs, SessionEvents, SpectatorSession};
-use answer::Answer;
+use answer::{Answer, Refusal};
 use endpoint::Endpoint;
 use frame::NULL_FRAME;
 use setup::{Handles, Setup};
@@ -26,7 +26,6 @@ const MOST_FRAMES: u32 = 65535;
 fn host_setup(setup: SessionSetup) -> Setup
     ensures { result ≡ host_setup setup }
 {
-    let choices = setup.choices;
     Setup {
         num_players: setup.num_players,
         handles: Handles {
@@ -41,7 +40,7 @@ fn host_setup(setup: SessionSetup) -> Setup
         fps: setup.fps,
         magic: setup.magic,
         peer_addr: setup.peer_addr,
-        choices,
+        choices: setup.choices,
     }
 }
 
@@ -49,22 +48,20 @@ fn host_setup(setup: SessionSetup) -> Setup
 fn is_bad(limits: Limits) -> bool
     ensures { result ≡ bad_limits limits }
 {
-    numbers::is_outside(2, MOST_SLOTS, limits.slots)
-        | numbers::is_outside(1, MOST_SESSION_EVENTS, limits.session_events)
-        | (MOST_FRAMES < limits.max_frames_behind)
-        | (MOST_FRAMES < limits.catchup_speed)
+    !(2..=MOST_SLOTS).contains(&limits.slots)
+        || !(1..=MOST_SESSION_EVENTS).contains(&limits.session_events)
+        || MOST_FRAMES < limits.max_frames_behind
+        || MOST_FRAMES < limits.catchup_speed
 }
 
 fn refusal(setup: SessionSetup, host: Answer) -> Answer
     ensures { number_of result ≡ pick (eqb (number_of host) 0) (pick (bad_limits setup.limits) 1 0) (number_of host) }
 {
-    let Answer::Done = host else {
-        return host;
-    };
+    host?;
     if is_bad(setup.limits) {
-        return Answer::BadSetup;
+        return Err(Refusal::BadSetup);
     }
-    Answer::Done
+    Ok(())
 }
 
 impl SpectatorSession {
@@ -72,25 +69,18 @@ impl SpectatorSession {
         ensures { MadeAs setup now result }
     {
         let made = Endpoint::new(host_setup(setup), now);
-        let answer = made.answer;
-        let answer = refusal(setup, answer);
-        let host = made.endpoint;
-        let limits = setup.limits;
-        let inputs = Inputs::new(limits.slots);
-        let statuses = Statuses::new(setup.num_players as usize);
-        let events = SessionEvents::new();
         Ended {
             session: SpectatorSession {
-                host,
-                limits,
+                host: made.endpoint,
+                limits: setup.limits,
                 state: SessionState::Synchronizing,
-                inputs,
-                statuses,
-                events,
+                inputs: Inputs::new(setup.limits.slots),
+                statuses: Statuses::new(setup.num_players as usize),
+                events: SessionEvents::new(),
                 current_frame: NULL_FRAME,
                 last_recv_frame: NULL_FRAME,
             },
-            answer,
+            answer: refusal(setup, made.answer),
         }
     }
 }

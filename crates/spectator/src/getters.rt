@@ -7,14 +7,9 @@ ghost use Rattle.spectator.specs.Answers.{shown, shown_behind, TakenAs};
 
 use crate::advancing::behind_overflows;
 use crate::{SessionEvents, SpectatorSession};
+use answer::Refusal;
+use fixed_vec::FixedVec;
 use spectator_rules::SessionState;
-
-// The answer of `frames_behind_host`.
-#[derive(Clone, Copy)]
-pub enum FramesBehind {
-    Frames(u32),
-    Overflow,
-}
 
 #[derive(Clone, Copy)]
 pub struct TakenEvents {
@@ -32,23 +27,26 @@ impl SpectatorSession {
 
     // How many frames are received and not advanced yet.
     #[tactic(auto, using(crate::proofs::Laws::Getters::behind_overflow))]
-    pub fn frames_behind_host(self) -> FramesBehind
+    pub fn frames_behind_host(self) -> Result<u32, Refusal>
         ensures { shown_behind result ≡ shown Call.frames_behind_host (seen self) }
     {
         if behind_overflows(self.last_recv_frame, self.current_frame) {
-            return FramesBehind::Overflow;
+            return Err(Refusal::Overflow);
         }
-        let behind = numbers::minus_u32(self.last_recv_frame, self.current_frame);
-        FramesBehind::Frames(behind)
+        Ok(self.last_recv_frame.saturating_sub(self.current_frame))
     }
 
     // The events held, with a count that is their number, and the session without them.
     pub fn take_events(mut self) -> TakenEvents
         ensures { TakenAs self result }
     {
-        let mut events = self.events;
-        events.used = self.events.count();
-        self.events.used = 0;
+        let events = SessionEvents {
+            entries: FixedVec {
+                count: self.events.count(),
+                ..self.events.entries
+            },
+        };
+        self.events.entries.count = 0;
         TakenEvents {
             session: self,
             events,

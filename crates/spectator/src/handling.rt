@@ -1,36 +1,17 @@
-// What the events of a host change in its session, apart from the host: a poll handles them one after the other on these parts alone.
+// What a session does with the events of its host: a poll handles them one after the other.
 ghost use Rattle.std.specs.Prelude.{◌≡◌};
 ghost use Rattle.events.specs.Events.{held_events};
+ghost use Rattle.endpoint_rules.specs.Sending.{newest as newest_of};
 ghost use Rattle.spectator_rules.specs.Handling.{announce, input_handled, handled, handled_all};
-ghost use Rattle.spectator.specs.Inside.Handling.{quality_after, running_parts, ChangedAs};
+ghost use Rattle.spectator.specs.Session.{seen, Counted};
+ghost use Rattle.spectator.specs.Inside.Handling.{quality_after, ChangedAs};
 
-use crate::{Inputs, SessionEvents};
+use crate::SpectatorSession;
 use ceilings::MOST_INPUT_SIZE;
 use events::{Entry, Event, Events};
 use frame::NULL_FRAME;
-use quality::{Advantage, Quality};
-use spectator_rules::{Limits, SessionEntry, SessionEvent, SessionState};
-use status::Statuses;
-
-// What an event is handled by: the limits, and of the host its peer number, its newest frame, its frames per second and its statuses.
-#[derive(Clone, Copy)]
-pub struct Terms {
-    pub limits: Limits,
-    pub addr: u32,
-    pub newest: u32,
-    pub fps: u32,
-    pub statuses: Statuses,
-}
-
-#[derive(Clone, Copy)]
-pub struct Parts {
-    pub state: SessionState,
-    pub inputs: Inputs,
-    pub statuses: Statuses,
-    pub events: SessionEvents,
-    pub last_recv_frame: u32,
-    pub quality: Quality,
-}
+use quality::Quality;
+use spectator_rules::{SessionEntry, SessionEvent, SessionState};
 
 // The local advantage with the frame of an Input; as it was where it leaves its range, or while nothing is received. The endpoint's
 // `update_local_frame_advantage` tests the same, but over a whole endpoint, whose newest frame it searches at each call, and it answers 6 where this one
@@ -42,87 +23,67 @@ fn quality_after(quality: Quality, newest: u32, fps: u32, frame: u32) -> Quality
     if frame == NULL_FRAME || newest == NULL_FRAME {
         return quality;
     }
-    let advantage = quality::local_advantage(newest, quality.round_trip_time, fps, frame);
-    match advantage {
-        Advantage::Frames(frames) => quality.local(frames),
-        Advantage::Overflow => quality,
+    match quality::local_advantage(newest, quality.round_trip_time, fps, frame) {
+        Ok(frames) => quality.local(frames),
+        Err(_) => quality,
     }
 }
 
-impl Parts {
+impl SpectatorSession {
     #[tactic(auto, using(crate::proofs::Laws::Handling::announce_changes))]
-    fn announce(self, terms: Terms, event: SessionEvent) -> Parts
-        ensures { ChangedAs terms (announce event) self result }
+    fn announce(&mut self, event: SessionEvent)
+        ensures { ChangedAs (announce event) self.old self.new }
     {
         let entry = SessionEntry {
-            addr: terms.addr,
+            addr: self.host.setup.peer_addr,
             event,
         };
-        let events = self.events.announce(entry, terms.limits.session_events);
-        Parts { events, ..self }
+        self.events.announce(entry, self.limits.session_events);
     }
 
+    // `newest` is the host's newest frame, which no event changes: a poll looks for it once.
     #[tactic(auto, using(crate::proofs::Laws::Handling::store_changes))]
-    fn store(self, terms: Terms, frame: u32, player: u32, input: [u8; MOST_INPUT_SIZE]) -> Parts
-        ensures { ChangedAs terms (input_handled frame player input) self result }
+    fn store(&mut self, newest: u32, frame: u32, player: u32, input: [u8; MOST_INPUT_SIZE])
+        requires { newest ≡ newest_of (seen self.old).host }
+        ensures { ChangedAs (input_handled frame player input) self.old self.new }
     {
-        let inputs = self.inputs.store(terms.limits.slots, frame, player, input);
-        let quality = quality_after(self.quality, terms.newest, terms.fps, frame);
-        let statuses = terms.statuses.lent();
-        Parts {
-            inputs,
-            statuses,
-            last_recv_frame: frame,
-            quality,
-            ..self
-        }
-    }
-
-    fn running(self) -> Parts
-        ensures { result ≡ running_parts self }
-    {
-        Parts {
-            state: SessionState::Running,
-            ..self
-        }
+        self.inputs.store(self.limits.slots, frame, player, input);
+        self.host.quality = quality_after(self.host.quality, newest, self.host.setup.fps, frame);
+        self.statuses = self.host.statuses.lent();
+        self.last_recv_frame = frame;
     }
 
     // An Input is stored; every other event is announced, and Synchronized sets the session running.
     #[tactic(auto, using(crate::proofs::Laws::Handling::by_kind, crate::proofs::Laws::Handling::by_running))]
-    fn handle(self, terms: Terms, entry: Entry) -> Parts
-        ensures { ChangedAs terms (handled entry) self result }
+    fn handle(&mut self, newest: u32, entry: Entry)
+        requires { newest ≡ newest_of (seen self.old).host }
+        ensures { ChangedAs (handled entry) self.old self.new }
     {
-        let event = entry.event;
-        let input = entry.input;
-        match event {
-            Event::Synchronizing { total, count } => self.announce(
-                terms,
-                SessionEvent::Synchronizing { total, count },
-            ),
-            Event::Synchronized => self.running().announce(terms, SessionEvent::Synchronized),
-            Event::Input { frame, player } => self.store(terms, frame, player, input),
-            Event::Disconnected => self.announce(terms, SessionEvent::Disconnected),
-            Event::NetworkInterrupted { disconnect_timeout } => self.announce(
-                terms,
-                SessionEvent::NetworkInterrupted { disconnect_timeout },
-            ),
-            Event::NetworkResumed => self.announce(terms, SessionEvent::NetworkResumed),
+        match entry.event {
+            Event::Synchronizing { total, count } => {
+                self.announce(SessionEvent::Synchronizing { total, count })
+            }
+            Event::Synchronized => {
+                self.state = SessionState::Running;
+                self.announce(SessionEvent::Synchronized)
+            }
+            Event::Input { frame, player } => self.store(newest, frame, player, entry.input),
+            Event::Disconnected => self.announce(SessionEvent::Disconnected),
+            Event::NetworkInterrupted { disconnect_timeout } => {
+                self.announce(SessionEvent::NetworkInterrupted { disconnect_timeout })
+            }
+            Event::NetworkResumed => self.announce(SessionEvent::NetworkResumed),
         }
     }
 
     // Oldest first.
-    #[tactic(auto, using(crate::proofs::Laws::Handling::handled_end, crate::proofs::Laws::Handling::handled_turn))]
-    pub(crate) fn handle_all(self, terms: Terms, events: Events) -> Parts
-        ensures { ChangedAs terms (handled_all (held_events events)) self result }
+    #[tactic(auto, using(crate::proofs::Laws::Handling::handled_end, crate::proofs::Laws::Handling::handled_turn, crate::proofs::Laws::Handling::newest_shown))]
+    pub(crate) fn handle_all(&mut self, events: &Events)
+        ensures { ChangedAs (handled_all (held_events events.now)) self.old self.new }
     {
-        let n = events.count();
-        let mut parts = self;
-        let mut i = 0;
-        while i < n {
-            let next = parts.handle(terms, events.entry(i));
-            parts = next;
-            i += 1;
+        let newest = self.host.last_recv_frame();
+        for i in 0..events.count() {
+            self.handle(newest, events.entry(i));
         }
-        parts
     }
 }

@@ -8,27 +8,27 @@ ghost use Rattle.spectator.specs.Session.{seen, hosted, DidAs, DoneAs};
 ghost use Rattle.spectator.specs.Answers.{shown, shown_stats, TakenIntoAs};
 
 use crate::{Ended, SpectatorSession};
-use answer::Answer;
+use answer::Refusal;
 use codec::Message;
-use endpoint::{Ended as HostEnded, StatsResult};
+use endpoint::{Ended as HostEnded, NetworkStats};
 
 // The session without its messages, and how many bytes of them were copied.
 #[derive(Clone, Copy)]
 pub struct TakenMessages {
     pub session: SpectatorSession,
-    pub answer: Answer,
-    pub count: usize,
+    pub answer: Result<usize, Refusal>,
 }
 
 impl SpectatorSession {
     fn by_host(self, ended: HostEnded) -> Ended
         ensures { (result.answer ≡ ended.answer) × (result.session ≡ hosted self ended.endpoint) }
     {
-        let answer = ended.answer;
-        let host = ended.endpoint;
         Ended {
-            session: SpectatorSession { host, ..self },
-            answer,
+            session: SpectatorSession {
+                host: ended.endpoint,
+                ..self
+            },
+            answer: ended.answer,
         }
     }
 
@@ -97,17 +97,17 @@ impl SpectatorSession {
         ensures { TakenIntoAs self out.now into.old result into.new }
     {
         let taken = self.host.take_messages_into(out, into);
-        let answer = taken.answer;
-        let host = taken.endpoint;
         TakenMessages {
-            session: SpectatorSession { host, ..self },
-            answer,
-            count: taken.count,
+            session: SpectatorSession {
+                host: taken.endpoint,
+                ..self
+            },
+            answer: taken.answer,
         }
     }
 
     #[tactic(auto, using(crate::proofs::Laws::Getters::shows_stats))]
-    pub fn network_stats(self, epoch: u64) -> StatsResult
+    pub fn network_stats(self, epoch: u64) -> Result<NetworkStats, Refusal>
         ensures { shown_stats result ≡ shown (Call.network_stats epoch) (seen self) }
     {
         self.host.network_stats(epoch)

@@ -14,10 +14,10 @@ mod session_events;
 
 // What a caller meets, so that `use spectator::SessionSetup` is enough.
 pub use advancing::Advanced;
-pub use answer::Answer;
+pub use answer::{Answer, Refusal};
 use endpoint::Endpoint;
-pub use endpoint::{Choices, DesyncDetection, Message, NetworkStats, StatsResult};
-pub use getters::{FramesBehind, TakenEvents};
+pub use endpoint::{Choices, DesyncDetection, Message, NetworkStats};
+pub use getters::TakenEvents;
 pub use hosting::TakenMessages;
 pub use inputs::Inputs;
 pub use polling::Polled;

@@ -7,22 +7,21 @@ ghost use Rattle.spectator.specs.Stores.{inputs_of, request_of, request_frames, 
 ghost use Rattle.spectator_rules.specs.Advance.{synced_of, synced_by, frame_inputs_by, requests_by, frame_refusal_by, frames_refusal_by};
 
 use crate::Inputs;
-use answer::Answer;
+use answer::{Answer, Refusal};
 use ceilings::{MOST_ADVANCED, MOST_INPUT_SIZE, MOST_PLAYERS};
+use fixed_vec::FixedVec;
 use spectator_rules::{InputStatus, PlayerInput, SyncedInput};
 use status::{ConnectionStatus, Statuses};
 
 // One frame.
 #[derive(Clone, Copy)]
 pub struct Request {
-    pub inputs: [SyncedInput; MOST_PLAYERS],
-    pub used: usize,
+    pub inputs: FixedVec<SyncedInput, MOST_PLAYERS>,
 }
 
 #[derive(Clone, Copy)]
 pub struct Requests {
-    pub frames: [Request; MOST_ADVANCED],
-    pub used: usize,
+    pub frames: FixedVec<Request, MOST_ADVANCED>,
 }
 
 // What stands in the place of no player.
@@ -35,22 +34,20 @@ const BLANK_SYNCED: SyncedInput = SyncedInput {
 fn synced(input: PlayerInput, status: ConnectionStatus, frame: u32) -> SyncedInput
     ensures { result ≡ synced_of frame input status }
 {
-    let bytes = input.input;
-    if status.disconnected && status.last_frame < frame {
-        return SyncedInput {
-            input: bytes,
-            status: InputStatus::Disconnected,
-        };
-    }
+    let gone = status.disconnected && status.last_frame < frame;
     SyncedInput {
-        input: bytes,
-        status: InputStatus::Confirmed,
+        input: input.input,
+        status: if gone {
+            InputStatus::Disconnected
+        } else {
+            InputStatus::Confirmed
+        },
     }
 }
 
 impl Inputs {
-    fn synced_at(self, statuses: Statuses, slots: u32, frame: u32, player: u32) -> SyncedInput
-        ensures { result ≡ synced_by slots frame player (inputs_of self) (held_statuses statuses) }
+    fn synced_at(&self, statuses: &Statuses, slots: u32, frame: u32, player: u32) -> SyncedInput
+        ensures { result ≡ synced_by slots frame player (inputs_of self.now) (held_statuses statuses.now) }
     {
         synced(
             self.at(slots, frame, player),
@@ -59,140 +56,135 @@ impl Inputs {
         )
     }
 
-    #[tactic(auto, using(crate::proofs::Laws::Requests::players_counted), unfolding(spectator_rules::specs::Advance::frame_inputs_by, crate::specs::Stores::request_of))]
-    fn request_at(self, statuses: Statuses, slots: u32, frame: u32, players: usize) -> Request
+    #[tactic(auto, using(crate::proofs::Laws::Requests::players_counted), unfolding(spectator_rules::specs::Advance::frame_inputs_by, crate::specs::Stores::request_of, fixed_vec::specs::FixedVec::held))]
+    fn request_at(&self, statuses: &Statuses, slots: u32, frame: u32, players: usize) -> Request
         requires { players ≤ most_players }
-        ensures { RequestAs (frame_inputs_by slots frame players (inputs_of self) (held_statuses statuses)) result }
+        ensures { RequestAs (frame_inputs_by slots frame players (inputs_of self.now) (held_statuses statuses.now)) result }
     {
-        let inputs = [
+        let list = [
             self.synced_at(statuses, slots, frame, 0),
             self.synced_at(statuses, slots, frame, 1),
             self.synced_at(statuses, slots, frame, 2),
             self.synced_at(statuses, slots, frame, 3),
         ];
         Request {
-            inputs,
-            used: players,
+            inputs: FixedVec {
+                list,
+                count: players,
+            },
         }
     }
 
     // 16 where its slot holds an earlier frame (it is not received yet), 17 where it holds a later one (it is gone).
-    fn frame_refusal(self, slots: u32, frame: u32) -> Answer
-        ensures { number_of result ≡ frame_refusal_by slots frame (inputs_of self) }
+    fn frame_refusal(&self, slots: u32, frame: u32) -> Answer
+        ensures { number_of result ≡ frame_refusal_by slots frame (inputs_of self.now) }
     {
-        let held = self.at(slots, frame, 0);
-        if held.frame < frame {
-            return Answer::PredictionThreshold;
+        let held = self.at(slots, frame, 0).frame;
+        if held < frame {
+            return Err(Refusal::PredictionThreshold);
         }
-        if frame < held.frame {
-            return Answer::SpectatorTooFarBehind;
+        if frame < held {
+            return Err(Refusal::SpectatorTooFarBehind);
         }
-        Answer::Done
+        Ok(())
     }
 
     // Of n frames, the refusal of the first that is not there.
-    pub(crate) fn frames_refusal(self, slots: u32, frame: u32, n: u32) -> Answer
+    pub(crate) fn frames_refusal(&self, slots: u32, frame: u32, n: u32) -> Answer
         requires { frame + n ≤ 2 ^ 32 }
-        ensures { number_of result ≡ frames_refusal_by slots n frame (inputs_of self) }
+        ensures { number_of result ≡ frames_refusal_by slots n frame (inputs_of self.now) }
     {
-        let mut k = 0;
-        while k < n {
-            let answer = self.frame_refusal(slots, frame + k);
-            let Answer::Done = answer else {
-                return answer;
-            };
-            k += 1;
+        for k in 0..n {
+            self.frame_refusal(slots, frame + k)?;
         }
-        Answer::Done
+        Ok(())
     }
 
-    #[tactic(auto, using(crate::proofs::Laws::Requests::count_turn, crate::proofs::Laws::Requests::frames_counted, crate::proofs::Laws::Requests::request_turn, base::proofs::Arrays::unmap), unfolding(crate::specs::Stores::request_counts, crate::specs::Stores::request_frames, spectator_rules::specs::Advance::requests_by))]
+    #[tactic(auto, using(crate::proofs::Laws::Requests::count_turn, crate::proofs::Laws::Requests::frames_counted, crate::proofs::Laws::Requests::request_turn, base::proofs::Arrays::unmap), unfolding(crate::specs::Stores::request_counts, crate::specs::Stores::request_frames, spectator_rules::specs::Advance::requests_by, fixed_vec::specs::FixedVec::held))]
     pub(crate) fn requests_from(
-        self,
-        statuses: Statuses,
+        &self,
+        statuses: &Statuses,
         slots: u32,
         players: usize,
         frame: u32,
         n: u32,
     ) -> Requests
         requires { (frame + n ≤ 2 ^ 32) × (n ≤ most_advanced) × (players ≤ most_players) }
-        ensures { RequestsAs (requests_by slots n frame players (inputs_of self) (held_statuses statuses)) result }
+        ensures { RequestsAs (requests_by slots n frame players (inputs_of self.now) (held_statuses statuses.now)) result }
     {
         let mut requests = Requests::none();
-        let mut k = 0;
-        while k < n {
-            let request = self.request_at(statuses, slots, frame + k, players);
-            requests.frames[k as usize] = request;
-            k += 1;
+        for k in 0..n {
+            requests.frames.list[k as usize] = self.request_at(statuses, slots, frame + k, players);
         }
-        requests.used = n as usize;
+        requests.frames.count = n as usize;
         requests
     }
 }
 
 impl Request {
-    #[tactic(auto, unfolding(crate::specs::Stores::request_of))]
+    #[tactic(auto, unfolding(crate::specs::Stores::request_of, fixed_vec::specs::FixedVec::held))]
     fn none() -> Request
         ensures { RequestAs [] result }
     {
         Request {
-            inputs: [BLANK_SYNCED; MOST_PLAYERS],
-            used: 0,
+            inputs: FixedVec {
+                list: [BLANK_SYNCED; MOST_PLAYERS],
+                count: 0,
+            },
         }
     }
 
     // How many players the frame is of.
-    #[tactic(auto, using(base::proofs::Arrays::unmap), unfolding(crate::specs::Stores::request_of))]
-    pub fn count(self) -> usize
-        ensures { result ≡ length (request_of self) }
+    #[tactic(auto, using(base::proofs::Arrays::unmap), unfolding(crate::specs::Stores::request_of, fixed_vec::specs::FixedVec::held))]
+    pub fn count(&self) -> usize
+        ensures { result ≡ length (request_of self.now) }
     {
-        numbers::least(self.used, MOST_PLAYERS)
+        self.inputs.len()
     }
 
     // What the player does in this frame; past the last player, zeros, Confirmed.
-    #[tactic(auto, using(base::proofs::Orders::get_or_within, base::proofs::Arrays::unmap, base::proofs::Arrays::view_at, base::proofs::Arrays::view_le), unfolding(crate::specs::Stores::blank_synced, crate::specs::Stores::request_of))]
-    pub fn input(self, player: usize) -> SyncedInput
-        ensures { result ≡ get_or (request_of self) player blank_synced }
+    #[tactic(auto, using(base::proofs::Orders::get_or_within, base::proofs::Arrays::unmap, base::proofs::Arrays::view_at, base::proofs::Arrays::view_le), unfolding(crate::specs::Stores::blank_synced, crate::specs::Stores::request_of, fixed_vec::specs::FixedVec::held))]
+    pub fn input(&self, player: usize) -> SyncedInput
+        ensures { result ≡ get_or (request_of self.now) player blank_synced }
     {
-        let n = self.count();
-        if player < n {
-            return self.inputs[player];
-        }
-        BLANK_SYNCED
+        self.inputs.get(player).unwrap_or(BLANK_SYNCED)
     }
 }
 
 impl Requests {
-    #[tactic(auto, unfolding(crate::specs::Stores::request_counts, crate::specs::Stores::request_frames))]
+    #[tactic(auto, unfolding(crate::specs::Stores::request_counts, crate::specs::Stores::request_frames, fixed_vec::specs::FixedVec::held))]
     pub(crate) fn none() -> Requests
         ensures { RequestsAs [] result }
     {
-        let none = Request::none();
         Requests {
-            frames: [none; MOST_ADVANCED],
-            used: 0,
+            frames: FixedVec {
+                list: [Request::none(); MOST_ADVANCED],
+                count: 0,
+            },
         }
     }
 
     // How many frames are advanced.
-    #[tactic(auto, using(base::proofs::Arrays::unmap), unfolding(crate::specs::Stores::request_frames))]
-    pub fn count(self) -> usize
-        ensures { result ≡ length (request_frames self) }
+    #[tactic(auto, using(base::proofs::Arrays::unmap), unfolding(crate::specs::Stores::request_frames, fixed_vec::specs::FixedVec::held))]
+    pub fn count(&self) -> usize
+        ensures { result ≡ length (request_frames self.now) }
     {
-        numbers::least(self.used, MOST_ADVANCED)
+        self.frames.len()
     }
 
     // The i-th of them, in the order in which they are to be played; past the last, a frame of no players.
-    #[tactic(auto, using(crate::proofs::Laws::Requests::frame_at, crate::proofs::Laws::Requests::frames_fit, base::proofs::Arrays::unmap))]
-    pub fn frame(self, i: usize) -> Request
-        ensures { RequestAs (get_or (request_frames self) i []) result }
+    #[tactic(auto, using(crate::proofs::Laws::Requests::frame_none, crate::proofs::Laws::Requests::frame_some), unfolding(crate::specs::Stores::request_of))]
+    pub fn frame(&self, i: usize) -> Request
+        ensures { RequestAs (get_or (request_frames self.now) i []) result }
     {
-        let n = self.count();
-        if i < n {
-            let frame = self.frames[i];
-            let used = frame.count();
-            return Request { used, ..frame };
+        let Some(Request { inputs }) = self.frames.get(i) else {
+            return Request::none();
+        };
+        Request {
+            inputs: FixedVec {
+                count: inputs.len(),
+                ..inputs
+            },
         }
-        Request::none()
     }
 }

@@ -32,6 +32,7 @@ use Rattle.spectator_plays.specs.Screens.{Screen, shown_from, after, opens}
 use Rattle.spectator_plays.specs.Plays.{Watching, box_of}
 use Rattle.spectator_plays.specs.Viewed.{Behind}
 use Rattle.spectator_plays.proofs.Written.{queued_messages}
+use Rattle.spectator.proofs.Laws.Advancing.{frames_given}
 
 none_numbered : (t : Bool) (number : ℕ) (statuses : List ConnectionStatus) (l : List (List SyncedInput)) → numbered_from number statuses (pick t l []) ≡ pick t (numbered_from number statuses l) []
 unfolding numbered_from
@@ -79,7 +80,7 @@ module _ (u : Version) (m : Meets u) where
         let d = m.advance_frame s k.good.value in
         let now-at : u.current_frame s ≡ s.current_frame = let q = m.current_frame s k.good.value in cc in
         let copied : b.copied ≡ held_statuses s.statuses = copied_last h.run ∙ ap (λ (w : Watch). w.statuses) h.watch in
-        rw (h.watch, copied, now-at, d.requests.frames, none_numbered)
+        rw (h.watch, copied, now-at, frames_given _ _ d.requests, none_numbered)
 
     shown_is : (c : Asked) → shown_by (call_of c) b ≡ shown_from u x.session c
     shown_is (Asked.synchronize now epoch nonce out) = refl

@@ -89,6 +89,7 @@ use Rattle.spectator_plays.proofs.Waiting.{holds_after}
 use Rattle.spectator_plays.proofs.Lent.{buffer_again}
 use Rattle.spectator_plays.proofs.Viewed.{watched, viewed}
 use Rattle.spectator_plays.proofs.Allowed.{end_cut_allowed, poll_cut_allowed}
+use Rattle.spectator.specs.Answers.{frames_answer}
 
 -- ---- the owner of a session lends one buffer to every call, as that of an endpoint does
 
@@ -464,7 +465,7 @@ module _ (u : Version) (m : Meets u) where
   sample_watched = watched u m sample_watching
 
   -- an advance before the Inputs is refused with 16 (PredictionThreshold), and shows nothing
-  pub sample_refused : (number_of (u.advance_frame (x0 u).screen.session).answer ≡ 16) × ((x1 u).screen.shown ≡ [])
+  pub sample_refused : (number_of (frames_answer (u.advance_frame (x0 u).screen.session).answer) ≡ 16) × ((x1 u).screen.shown ≡ [])
   sample_refused =
       let a = x0_at in
       ((m.advance_frame (x0 u).screen.session a.kept.good.value).answer ∙ rw (← a.behind.watch) refused_advance.0, sym x1_at.behind.shown)

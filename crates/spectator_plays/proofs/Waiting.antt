@@ -21,7 +21,7 @@ use Rattle.endpoint_rules.specs.Call.{Call as HostCall}
 use Rattle.endpoint_rules.specs.Step.{step as host_step, advantage_step, take_step}
 use Rattle.endpoint_rules.proofs.Tested.{tested-both}
 use Rattle.endpoint_invariant.proofs.Choices.{by_pick}
-use Rattle.endpoint.specs.Taken.{shorter}
+use Rattle.endpoint.specs.Taken.{answer_in, count_in, shorter}
 use Rattle.endpoint_plays.proofs.Waiting.{all_taken}
 use Rattle.endpoint_rules.specs.Value.{filled_part}
 use Rattle.endpoint.specs.Endpoint.{seen as seen_host}
@@ -101,9 +101,9 @@ module _ (u : Version) (m : Meets u) (x : Screen) (k : Kept u m x) where
   after_waits (Asked.message from y payload now epoch nonce out) i w = waits_more (Asked.message from y payload now epoch nonce out) i refl w
   after_waits (Asked.datagram from d now epoch nonce out) i w = waits_more (Asked.datagram from d now epoch nonce out) i refl w
   after_waits (Asked.take_messages out) i w = waits_part (Asked.take_messages out) (eqb (number_of (u.take_messages s out).answer) 0) refl w
-  after_waits (Asked.take_messages_into out into) i w = waits_part (Asked.take_messages_into out into) (eqb (number_of (u.take_messages_into s out into).0.answer) 0) refl w
+  after_waits (Asked.take_messages_into out into) i w = waits_part (Asked.take_messages_into out into) (eqb (number_of (answer_in (u.take_messages_into s out into).0.answer)) 0) refl w
   after_waits (Asked.poll_remote_clients now epoch nonce out) i w =
-      waits_part (Asked.poll_remote_clients now epoch nonce out) (eqb (number_of (u.poll_remote_clients s now epoch nonce out).0.answer) 0) refl w
+      waits_part (Asked.poll_remote_clients now epoch nonce out) (eqb (number_of (answer_in (u.poll_remote_clients s now epoch nonce out).0.answer)) 0) refl w
   after_waits Asked.advance_frame i w = waits_part Asked.advance_frame false refl w
   after_waits Asked.take_events i w = waits_part Asked.take_events false refl w
 
@@ -124,10 +124,10 @@ module _ (u : Version) (m : Meets u) (x : Screen) (k : Kept u m x) where
       d : PolledAs s (step (call_of c) (seen s)) (polled_part now epoch nonce (length out) (seen s)) out (u.poll_remote_clients s now epoch nonce out).0 (u.poll_remote_clients s now epoch nonce out).1
       d = m.poll_remote_clients s now epoch nonce out k.good.value i
 
-      none : (u.poll_remote_clients s now epoch nonce out).0.filled ≡ 0 → OfQueued (polled_bytes u s now epoch nonce out) (after u c x).queued
+      none : count_in (u.poll_remote_clients s now epoch nonce out).0.answer ≡ 0 → OfQueued (polled_bytes u s now epoch nonce out) (after u c x).queued
       none z = rw z (of_none _)
 
-      some : (step (call_of c) (seen s)).out ≡ acted.out → (u.poll_remote_clients s now epoch nonce out).0.filled ≡ acted.after.queued
+      some : (step (call_of c) (seen s)).out ≡ acted.out → count_in (u.poll_remote_clients s now epoch nonce out).0.answer ≡ acted.after.queued
           → OfQueued (polled_bytes u s now epoch nonce out) (after u c x).queued
       some o f =
           let room = act_room u m s k.good now epoch nonce out i in

@@ -31,7 +31,7 @@ use Rattle.endpoint_plays.specs.Sides.{read_as}
 use Rattle.endpoint_plays.proofs.Written.{none_of_none, written}
 use Rattle.endpoint_plays.proofs.Queued.{laid_holds}
 use Rattle.endpoint.specs.Endpoint.{seen as seen_host}
-use Rattle.endpoint.specs.Taken.{shorter}
+use Rattle.endpoint.specs.Taken.{count_in, shorter}
 use Rattle.spectator_rules.specs.Watch.{Watch}
 use Rattle.spectator_rules.specs.Advance.{advance_refusal, advanced}
 use Rattle.spectator_rules.specs.Call.{Call}
@@ -217,7 +217,7 @@ module _ (v : Version) (m : Meets v) (s : SpectatorSession) (g : Good v m s) whe
       d = m.poll_remote_clients s now epoch nonce out g.value h
 
       go : Polls now epoch nonce out h (step (call_of c) (seen s)) (polled_part now epoch nonce (length out) (seen s)) → queued_by v s c ≡ queue_of (step (call_of c) (seen s)).out
-      go (inl p) = let z : (v.poll_remote_clients s now epoch nonce out).0.filled - s.host.queued ≡ 0 = omega (arith, d.filled ∙ p.1) in rw (p.0, z)
+      go (inl p) = let z : count_in (v.poll_remote_clients s now epoch nonce out).0.answer - s.host.queued ≡ 0 = omega (arith, d.filled ∙ p.1) in rw (p.0, z)
       go (inr p) = rw p.0 (poll_written now epoch nonce out h _ (d.filled ∙ p.1) _ (rw p.0 at d.lent))
   queued_bytes Asked.advance_frame h = none_written Asked.advance_frame refl advance_quiet
   queued_bytes Asked.take_events h = none_written Asked.take_events refl refl

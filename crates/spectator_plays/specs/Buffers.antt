@@ -3,6 +3,7 @@ use Rattle.std.specs.Prelude.{List, ◌≡◌, ℕ, take}
 use Rattle.spectator.specs.declared.SpectatorSession.{SpectatorSession}
 use Rattle.spectator_version.specs.Version.{Version, Asked, buffer_after}
 use Rattle.spectator_plays.specs.Screens.{Screen}
+use Rattle.endpoint.specs.Taken.{count_in}
 
 -- a buffer that still has, at its front, the bytes that wait
 abbrev pub Holds : List ℕ → Screen → Type 0
@@ -10,7 +11,7 @@ Holds buffer x = take x.session.host.queued buffer ≡ x.waiting
 
 -- the bytes that a poll hands back: the front of the buffer after it, as many as it says
 abbrev pub polled_bytes : Version → SpectatorSession → (now epoch nonce : ℕ) → (out : List ℕ) → List ℕ
-polled_bytes u s now epoch nonce out = take (u.poll_remote_clients s now epoch nonce out).0.filled (u.poll_remote_clients s now epoch nonce out).1
+polled_bytes u s now epoch nonce out = take (count_in (u.poll_remote_clients s now epoch nonce out).0.answer) (u.poll_remote_clients s now epoch nonce out).1
 
 -- a call is lent this buffer, if it is lent one to queue in
 abbrev pub Lends : List ℕ → Asked → Type 0

@@ -9,7 +9,8 @@ use Rattle.endpoint_plays.specs.Sides.{read_as}
 use Rattle.spectator_rules.specs.declared.SessionSetup.{SessionSetup}
 use Rattle.spectator_delivery.specs.Viewing.{Shown, numbered_from}
 use Rattle.spectator.specs.declared.SpectatorSession.{SpectatorSession}
-use Rattle.spectator.specs.Stores.{request_frames}
+use Rattle.endpoint.specs.Taken.{answer_in}
+use Rattle.spectator.specs.Answers.{frames_in}
 use Rattle.spectator_version.specs.Version.{Version, Asked, session_after, queued_by}
 
 -- `queued` are the messages that calls queued, read off the lent buffers; `waiting` are the bytes of those that wait to be taken; `shown` are the frames that advances handed back, each with its number and with the session's copy of
@@ -29,7 +30,7 @@ shown_from v s (Asked.datagram from d now epoch nonce out) = []
 shown_from v s (Asked.take_messages out) = []
 shown_from v s (Asked.take_messages_into out into) = []
 shown_from v s (Asked.poll_remote_clients now epoch nonce out) = []
-shown_from v s Asked.advance_frame = numbered_from (suc (v.current_frame s)) (held_statuses s.statuses) (request_frames (v.advance_frame s).requests)
+shown_from v s Asked.advance_frame = numbered_from (suc (v.current_frame s)) (held_statuses s.statuses) (frames_in (v.advance_frame s).answer)
 shown_from v s Asked.take_events = []
 
 -- the bytes that wait after it: those that it queued come behind them; where messages are taken, and after a poll that is done, which takes them too, none is left
@@ -38,8 +39,8 @@ waiting_after v s (Asked.synchronize now epoch nonce out) l = l ++ queued_by v s
 waiting_after v s (Asked.message from m payload now epoch nonce out) l = l ++ queued_by v s (Asked.message from m payload now epoch nonce out)
 waiting_after v s (Asked.datagram from d now epoch nonce out) l = l ++ queued_by v s (Asked.datagram from d now epoch nonce out)
 waiting_after v s (Asked.take_messages out) l = pick (eqb (number_of (v.take_messages s out).answer) 0) [] l
-waiting_after v s (Asked.take_messages_into out into) l = pick (eqb (number_of (v.take_messages_into s out into).0.answer) 0) [] l
-waiting_after v s (Asked.poll_remote_clients now epoch nonce out) l = pick (eqb (number_of (v.poll_remote_clients s now epoch nonce out).0.answer) 0) [] l
+waiting_after v s (Asked.take_messages_into out into) l = pick (eqb (number_of (answer_in (v.take_messages_into s out into).0.answer)) 0) [] l
+waiting_after v s (Asked.poll_remote_clients now epoch nonce out) l = pick (eqb (number_of (answer_in (v.poll_remote_clients s now epoch nonce out).0.answer)) 0) [] l
 waiting_after v s Asked.advance_frame l = l
 waiting_after v s Asked.take_events l = l
 

@@ -6,21 +6,21 @@ use ceilings::MOST_INPUT_SIZE;
 use setup::Choices;
 
 // The crate's SessionState.
-#[derive(Clone, Copy)]
+#[derive(Clone, Copy, Debug, PartialEq, Eq)]
 pub enum SessionState {
     Synchronizing,
     Running,
 }
 
 // The crate's InputStatus; a spectator never predicts.
-#[derive(Clone, Copy)]
+#[derive(Clone, Copy, Debug, PartialEq, Eq)]
 pub enum InputStatus {
     Confirmed,
     Disconnected,
 }
 
 // The crate's GgrsEvent, as far as a spectator announces it, but for the address.
-#[derive(Clone, Copy)]
+#[derive(Clone, Copy, Debug, PartialEq, Eq)]
 pub enum SessionEvent {
     Synchronizing { total: u32, count: u32 },
     Synchronized,
@@ -30,28 +30,28 @@ pub enum SessionEvent {
 }
 
 // An event with its address, the host's peer number.
-#[derive(Clone, Copy)]
+#[derive(Clone, Copy, Debug, PartialEq, Eq)]
 pub struct SessionEntry {
     pub addr: u32,
     pub event: SessionEvent,
 }
 
 // One player's input of a frame, zeros past its size.
-#[derive(Clone, Copy)]
+#[derive(Clone, Copy, Debug, PartialEq, Eq)]
 pub struct PlayerInput {
     pub frame: u32,
     pub input: [u8; MOST_INPUT_SIZE],
 }
 
 // One player's input as a frame is advanced, with what is known of the player then.
-#[derive(Clone, Copy)]
+#[derive(Clone, Copy, Debug, PartialEq, Eq)]
 pub struct SyncedInput {
     pub input: [u8; MOST_INPUT_SIZE],
     pub status: InputStatus,
 }
 
 // The session's own limits.
-#[derive(Clone, Copy)]
+#[derive(Clone, Copy, Debug, PartialEq, Eq)]
 pub struct Limits {
     // B: so many frames are kept for playing, each in the slot of its number mod B. A frame that comes B later takes the slot, played or not.
     // 2 to 64. The crate's SPECTATOR_BUFFER_SIZE.
@@ -68,7 +68,7 @@ pub struct Limits {
 // What is given to `new`, any numbers; those outside their ranges are refused by 1. But for the limits it is the setup of the endpoint to the
 // host, which the session holds. The endpoint's handles are 0 up to players - 1, and it sends no inputs, so neither they nor its local players are
 // the caller's to choose.
-#[derive(Clone, Copy)]
+#[derive(Clone, Copy, Debug, PartialEq, Eq)]
 pub struct SessionSetup {
     // The players of the game. 1 to 4. The crate's name is the same.
     pub num_players: u32,

@@ -43,6 +43,7 @@ use Rattle.spectator_invariant.specs.Seated.{Seated}
 use Rattle.spectator_invariant.proofs.Slots.{each_set}
 use Rattle.spectator_invariant.proofs.Seated.{act_typed}
 use Rattle.spectator.specs.declared.SpectatorSession.{SpectatorSession}
+use Rattle.fixed_vec.specs.FixedVec.{held}
 use Rattle.spectator.specs.Stores.{inputs_of, events_of}
 use Rattle.spectator.specs.Session.{seen}
 use Rattle.spectator_version.specs.Values.{IsPlayerInput, IsSessionEvent, IsSessionEntry, IsSession}
@@ -190,15 +191,15 @@ all_held (x ∷ l) i w h = all_held l i.1 (handled x w) (handled_held x i.0 w h)
 
 -- of a session that is a value
 pub session_held : (s : SpectatorSession) → IsSession s → Held (seen s)
-unfolding seen seen_host inputs_of events_of held_events terms_with
+unfolding seen seen_host inputs_of events_of held held_events terms_with
 session_held s i =
     record {
       peer = i.host.setup.peer;
       queued = i.host.queued;
       entries = each_take IsEntry s.host.events.used s.host.events.entries i.host.events.entries;
-      inputs = each_take (λ (x : PlayerInput). Bytes x.input) s.inputs.used s.inputs.entries
-          (each_also IsPlayerInput (λ (x : PlayerInput). Bytes x.input) (λ x k. k.bytes) s.inputs.entries i.inputs.inputs);
-      events = each_take IsSessionEntry s.events.used s.events.entries i.events.entries;
+      inputs = each_take (λ (x : PlayerInput). Bytes x.input) s.inputs.entries.count s.inputs.entries.list
+          (each_also IsPlayerInput (λ (x : PlayerInput). Bytes x.input) (λ x k. k.bytes) s.inputs.entries.list i.inputs.inputs);
+      events = each_take IsSessionEntry s.events.entries.count s.events.entries.list i.events.entries;
     }
 
 -- ---- a poll

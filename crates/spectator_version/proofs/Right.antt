@@ -1,6 +1,6 @@
 -- The public statements can be met: a version that does what `step` says. A call of the session's endpoint alone is a call of the version of endpoints; after a poll the session is
 -- written anew from what is seen of it.
-use borrow.Author.Tests.{eqb-true, eqb-false}
+use borrow.Author.Tests.{eqb-true, eqb-false, ne_eqb}
 use mathlib.Core.Bool.{Bool, true, false}
 use mathlib.Core.List.{List, [], ◌∷◌}
 use mathlib.Core.Path.{◌≡◌, refl, sym, ◌∙◌}
@@ -10,7 +10,10 @@ use lib.Dec.{eqb}
 use lib.ListN.{length}
 use Rattle.base.specs.Pick.{pick}
 use Rattle.base.specs.Lay.{laid_at}
-use Rattle.answer.specs.Number.{answer_of, number_back}
+use Rattle.std.specs.Prelude.{Ok, Err}
+use Rattle.answer.specs.Number.{Answered, answer_of, number_of, number_back, refusal_number}
+use Rattle.answer.specs.declared.Refusal.TheVariants.{Overflow}
+use Rattle.answer.proofs.Refused.{not_done}
 use Rattle.codec.specs.Bytes.{queue_of}
 use Rattle.timers.specs.Timers.{bad_clock}
 use Rattle.endpoint_rules.specs.Step.{fresh as host_fresh, step as host_step}
@@ -25,8 +28,10 @@ use Rattle.endpoint_version.specs.Version.{Asked as HostAsked}
 use Rattle.endpoint_version.proofs.Asked.{statuses_typed}
 use Rattle.endpoint_version.proofs.Unseen.{anew, seen_unseen as seen-unseen-host}
 use Rattle.endpoint_version.proofs.Values.{unseen_value as unseen-host-value}
+use Rattle.endpoint_version.proofs.Given.{given, given_answer, given_count}
 use Rattle.endpoint_version.proofs.Right.{right as right_host, right_meets as host-meets}
 use Rattle.spectator_rules.specs.declared.SessionSetup.{SessionSetup}
+use Rattle.spectator_rules.specs.declared.SyncedInput.{SyncedInput}
 use Rattle.spectator_rules.specs.Setup.{host_setup, bad_session}
 use Rattle.spectator_rules.specs.Watch.{Watch, with_current, made_watch}
 use Rattle.spectator_rules.specs.Advance.{behind, behind_overflows, requests_of, advance_refusal, advanced}
@@ -37,13 +42,12 @@ use Rattle.spectator_invariant.proofs.Seated.{fresh_seated, step_seated}
 use Rattle.spectator.specs.declared.SpectatorSession.{SpectatorSession}
 use Rattle.spectator.specs.declared.Ended.{Ended}
 use Rattle.spectator.specs.declared.advancing.Advanced.{Advanced}
-use Rattle.spectator.specs.declared.getters.FramesBehind.TheVariants.{Frames, Overflow}
 use Rattle.spectator.specs.declared.polling.Polled.{Polled}
 use Rattle.spectator.specs.Stores.{events_of}
 use Rattle.spectator.specs.Session.{seen, Counted, hosted, advanced_to, keeping}
-use Rattle.spectator.specs.Answers.{MadeAs, polled_part, PolledAs, AdvancedAs, shown, shown_behind}
+use Rattle.spectator.specs.Answers.{MadeAs, polled_part, PolledAs, AdvancedAs, GivenAs, frames_answer, shown, shown_behind}
 use Rattle.spectator.proofs.Laws.Hosting.{host_did, host_done}
-use Rattle.spectator.proofs.Laws.Getters.{shows_state, shows_frame, shows_players, takes_events, behind_overflow, behind-shown, shows_stats}
+use Rattle.spectator.proofs.Laws.Getters.{shows_state, shows_frame, shows_players, takes_events, behind_overflow, behind_shown, shows_stats}
 use Rattle.spectator_version.specs.Values.{IsSessionSetup, IsSession}
 use Rattle.spectator_version.specs.Version.{Version, Asked, IsAsked, session_after}
 use Rattle.spectator_version.specs.Meets.{GivesValues, Meets}
@@ -92,9 +96,16 @@ advance s =
     let d : Did = step Call.advance_frame (seen s) in
     record {
       session = pick (eqb d.answer 0) (advanced_to s d.after.current) s;
-      answer = answer_of d.answer;
-      requests = requests (pick (eqb d.answer 0) (requests_of (seen s)) []);
+      answer = given (answer_of d.answer) (requests (requests_of (seen s)));
     }
+
+frames_answered : (a : Answered) (l : List (List SyncedInput)) → frames_answer (given a (requests l)) ≡ a
+frames_answered (Ok u) l = refl
+frames_answered (Err r) l = refl
+
+frames_given : (a : Answered) (l : List (List SyncedInput)) → GivenAs (pick (eqb (number_of a) 0) l []) (given a (requests l))
+frames_given (Ok u) l = requests_are l
+frames_given (Err r) l = rw (ne_eqb (refusal_number r) 0 (not_done r))
 
 -- only the frame advanced last changes
 advance_leaves : (w : Watch) → (step Call.advance_frame w).after ≡ with_current (step Call.advance_frame w).after.current w
@@ -114,13 +125,16 @@ module _ (s : SpectatorSession) where
   unfolding seen
   advance_as =
       record {
-        answer = number_back advances.answer (advance_proper (seen s)).bound;
+        answer = rw (frames_answered (answer_of advances.answer) (requests_of (seen s))) number;
         after = after (eqb advances.answer 0) refl;
-        requests = requests_are (pick (eqb advances.answer 0) (requests_of (seen s)) []);
+        requests = rw number at (frames_given (answer_of advances.answer) (requests_of (seen s)));
         own = own (eqb advances.answer 0);
         same = same (eqb advances.answer 0) refl;
       }
     where
+      number : number_of (answer_of advances.answer) ≡ advances.answer
+      number = number_back advances.answer (advance_proper (seen s)).bound
+
       after : (b : Bool) → eqb advances.answer 0 ≡ b → seen (advanced_if b) ≡ advances.after
       after true h = sym (advance_leaves (seen s))
       after false h = sym ((advance_proper (seen s)).keeps (eqb-false advances.answer 0 h))
@@ -144,14 +158,14 @@ module _ (s : SpectatorSession) where
 
 -- ---- take_events
 
-emptied_value : (s : SpectatorSession) → IsSession s → IsSession (keeping s (record { entries = s.events.entries; used = 0 }))
+emptied_value : (s : SpectatorSession) → IsSession s → IsSession (keeping s (record { entries = record { list = s.events.entries.list; count = 0 } }))
 emptied_value s i =
     record {
       host = i.host;
       limits = i.limits;
       inputs = i.inputs;
       statuses = i.statuses;
-      events = record { size = i.events.size; entries = i.events.entries; used = omega arith };
+      events = record { size = i.events.size; entries = i.events.entries; count = omega arith };
       current = i.current;
       newest = i.newest;
     }
@@ -165,7 +179,7 @@ polled_if s w b = pick b (unseen (anew s.host w.host) w) s
 abbrev poll : SpectatorSession → (now epoch nonce : ℕ) → (out : List ℕ) → Polled × List ℕ
 poll s now epoch nonce out =
     let d : Did = step (Call.poll_remote_clients now epoch nonce (length out)) (seen s) in (
-      record { session = polled_if s d.after (eqb d.answer 0); answer = answer_of d.answer; filled = polled_part now epoch nonce (length out) (seen s) },
+      record { session = polled_if s d.after (eqb d.answer 0); answer = given (answer_of d.answer) (polled_part now epoch nonce (length out) (seen s)) },
       laid_at out s.host.queued (queue_of d.out),
     )
 
@@ -180,13 +194,18 @@ module _ (s : SpectatorSession) (i : IsSession s) (now epoch nonce : ℕ) (out :
       let k = poll_stays now epoch nonce (length out) (seen s) in
       seen-unseen-host s.host.setup s.host.statuses.count polls.after.host (sym k.setup) (k.players ∙ (statuses_typed s.host.statuses i.host.statuses).few)
 
+  -- none is handed back where it is refused
+  none_handed : (polls.answer ≡ 0 → ⊥) → polled_part now epoch nonce (length out) (seen s) ≡ 0
+  unfolding polled_part
+  none_handed k = rw (ne_eqb polls.answer 0 k)
+
   poll_as : PolledAs s polls (polled_part now epoch nonce (length out) (seen s)) out (poll s now epoch nonce out).0 (poll s now epoch nonce out).1
   poll_as =
       record {
-        answer = number_back polls.answer proper.bound;
+        answer = rw (given_answer (answer_of polls.answer) (polled_part now epoch nonce (length out) (seen s))) number;
         after = after (eqb polls.answer 0) refl;
         lent = refl;
-        filled = refl;
+        filled = given_count (answer_of polls.answer) (polled_part now epoch nonce (length out) (seen s)) none;
         counted = counted (eqb polls.answer 0) refl;
         terms = terms (eqb polls.answer 0);
         same = same (eqb polls.answer 0) refl;
@@ -194,6 +213,12 @@ module _ (s : SpectatorSession) (i : IsSession s) (now epoch nonce : ℕ) (out :
     where
       proper : Proper (seen s) polls
       proper = poll_proper s i now epoch nonce (length out) t
+
+      number : number_of (answer_of polls.answer) ≡ polls.answer
+      number = number_back polls.answer proper.bound
+
+      none : (number_of (answer_of polls.answer) ≡ 0 → ⊥) → polled_part now epoch nonce (length out) (seen s) ≡ 0
+      none k = none_handed (λ z. k (number ∙ z))
 
       after : (b : Bool) → eqb polls.answer 0 ≡ b → seen (polled_if s polls.after b) ≡ polls.after
       after true h = seen_unseen (anew s.host polls.after.host) polls.after polled_host
@@ -241,15 +266,15 @@ right =
       messages = λ s out. right_host.messages s.host out;
       take_messages_into = λ s out into.
           let r = right_host.take_messages_into s.host out into in
-          (record { session = hosted s r.0.endpoint; answer = r.0.answer; count = r.0.count }, r.1);
+          (record { session = hosted s r.0.endpoint; answer = r.0.answer }, r.1);
       network_stats = λ s epoch. right_host.network_stats s.host epoch;
       poll_remote_clients = poll;
       advance_frame = advance;
       take_events = λ s. record {
-        session = keeping s (record { entries = s.events.entries; used = 0 });
-        events = record { entries = s.events.entries; used = length (events_of s.events) };
+        session = keeping s (record { entries = record { list = s.events.entries.list; count = 0 } });
+        events = record { entries = record { list = s.events.entries.list; count = length (events_of s.events) } };
       };
-      frames_behind_host = λ s. pick (behind_overflows (seen s)) Overflow (Frames (behind (seen s)));
+      frames_behind_host = λ s. pick (behind_overflows (seen s)) (Err Overflow) (Ok (behind (seen s)));
       current_state = λ s. s.state;
       current_frame = λ s. s.current_frame;
       num_players = λ s. s.host.setup.num_players;
@@ -259,9 +284,9 @@ behind_as : (s : SpectatorSession) → shown_behind (right.frames_behind_host s)
 unfolding seen
 behind_as s = go (behind_overflows (seen s)) refl
   where
-    go : (b : Bool) → behind_overflows (seen s) ≡ b → shown_behind (pick b Overflow (Frames (behind (seen s)))) ≡ shown Call.frames_behind_host (seen s)
+    go : (b : Bool) → behind_overflows (seen s) ≡ b → shown_behind (pick b (Err Overflow) (Ok (behind (seen s)))) ≡ shown Call.frames_behind_host (seen s)
     go true h = behind_overflow s h
-    go false h = behind-shown s (behind (seen s)) h refl
+    go false h = behind_shown s (behind (seen s)) h refl
 
 -- ---- its answers are values
 

@@ -6,6 +6,7 @@ use native.Mathlib.Omega.{arith}
 use borrow.Author.Rules.{rules}
 use denote.Laws.{Is}
 use denote.Enum.Declared as Enum
+use denote.Param.{number}
 use denote.Struct.Declared as Struct
 use mir.Syntax.{w16, w32, w64}
 use mir.Val.{Val}
@@ -18,6 +19,7 @@ use Rattle.endpoint_invariant.specs.Each.{Each}
 use Rattle.endpoint_invariant.specs.Typed.{TypedDesync}
 use Rattle.endpoint_version.proofs.Machine.{flag_means, array_is, bytes_are, Means, number_means, ◌▸◌, struct_means, enum_means, array_means, bytes_mean}
 use Rattle.endpoint_version.proofs.Typed.{statuses_is, endpoint_is, statuses_means, endpoint_means}
+use Rattle.fixed_vec.specs.contracts.FixedVec as FixedVec
 use Rattle.spectator_rules.specs.declared.Limits.{Limits}
 use Rattle.spectator_rules.specs.declared.PlayerInput.{PlayerInput}
 use Rattle.spectator_rules.specs.declared.SessionEntry.{SessionEntry}
@@ -84,8 +86,8 @@ player_input_is x vs h =
 
 inputs_is : (x : Inputs) (vs : List Val) → Is (Struct.row Inputs.the_type) x vs → IsInputs x
 inputs_is x vs h =
-    let a = array_is (Struct.row PlayerInput.the_type) IsPlayerInput player_input_is most_places x.entries _ h.1.1.0 in
-    record { size = a.0; inputs = a.1; used = h.1.1.1.0.1 }
+    let a = array_is (Struct.row PlayerInput.the_type) IsPlayerInput player_input_is most_places x.entries.list _ h.1.1.0.1.1.0 in
+    record { size = a.0; inputs = a.1; count = h.1.1.0.1.1.1.0.1 }
 
 event_is : (v : SessionEvent) (vs : List Val) → Is (Enum.row SessionEvent.the_type) v vs → IsSessionEvent v
 event_is (Announced.Synchronizing total count) vs h = search rules
@@ -99,8 +101,8 @@ entry_is x vs h = (h.1.1.0.1, event_is x.event _ h.1.1.1.0)
 
 events_is : (x : SessionEvents) (vs : List Val) → Is (Struct.row SessionEvents.the_type) x vs → IsSessionEvents x
 events_is x vs h =
-    let a = array_is (Struct.row SessionEntry.the_type) IsSessionEntry entry_is most_session_events x.entries _ h.1.1.0 in
-    record { size = a.0; entries = a.1; used = h.1.1.1.0.1 }
+    let a = array_is (Struct.row SessionEntry.the_type) IsSessionEntry entry_is most_session_events x.entries.list _ h.1.1.0.1.1.0 in
+    record { size = a.0; entries = a.1; count = h.1.1.0.1.1.1.0.1 }
 
 -- its fields in their order
 pub session_is : (s : SpectatorSession) (vs : List Val) → Is (Struct.row SpectatorSession.the_type) s vs → IsSession s
@@ -150,9 +152,17 @@ session_setup_means g h =
 player_input_means : (x : PlayerInput) → IsPlayerInput x → Means (Struct.row PlayerInput.the_type) x
 player_input_means x h = struct_means PlayerInput.the_type x (number_means w32 x.frame h.frame ▸ bytes_mean most_input_size x.input h.size h.bytes ▸ tt)
 
+-- the type of their list
+abbrev places_type : Struct.Declared
+places_type = FixedVec.the_type (Struct.row PlayerInput.the_type) (number most_places)
+
 inputs_mean : (x : Inputs) → IsInputs x → Means (Struct.row Inputs.the_type) x
 inputs_mean x h =
-    struct_means Inputs.the_type x (array_means (Struct.row PlayerInput.the_type) IsPlayerInput player_input_means most_places x.entries h.size h.inputs ▸ number_means w64 x.used h.used ▸ tt)
+    let entries : Means (Struct.row places_type) x.entries
+    = struct_means places_type x.entries (
+    array_means (Struct.row PlayerInput.the_type) IsPlayerInput player_input_means most_places x.entries.list h.size h.inputs ▸
+    number_means w64 x.entries.count h.count ▸ tt) in
+    struct_means Inputs.the_type x (entries ▸ tt)
 
 event_means : (v : SessionEvent) → IsSessionEvent v → Means (Enum.row SessionEvent.the_type) v
 event_means (Announced.Synchronizing total count) h = enum_means SessionEvent.the_type (Announced.Synchronizing total count) (number_means w32 total h.0 ▸ number_means w32 count h.1 ▸ tt)
@@ -164,11 +174,17 @@ event_means Announced.NetworkResumed h = enum_means SessionEvent.the_type Announ
 entry_means : (x : SessionEntry) → IsSessionEntry x → Means (Struct.row SessionEntry.the_type) x
 entry_means x h = struct_means SessionEntry.the_type x (number_means w32 x.addr h.0 ▸ event_means x.event h.1 ▸ tt)
 
+-- the type of their list
+abbrev entries_type : Struct.Declared
+entries_type = FixedVec.the_type (Struct.row SessionEntry.the_type) (number most_session_events)
+
 events_mean : (x : SessionEvents) → IsSessionEvents x → Means (Struct.row SessionEvents.the_type) x
 events_mean x h =
-    struct_means SessionEvents.the_type x (
-    array_means (Struct.row SessionEntry.the_type) IsSessionEntry entry_means most_session_events x.entries h.size h.entries ▸
-    number_means w64 x.used h.used ▸ tt)
+    let entries : Means (Struct.row entries_type) x.entries
+    = struct_means entries_type x.entries (
+    array_means (Struct.row SessionEntry.the_type) IsSessionEntry entry_means most_session_events x.entries.list h.size h.entries ▸
+    number_means w64 x.entries.count h.count ▸ tt) in
+    struct_means SessionEvents.the_type x (entries ▸ tt)
 
 state_means : (x : SessionState) → Means (Enum.row SessionState.the_type) x
 state_means Synchronizing = enum_means SessionState.the_type Synchronizing tt

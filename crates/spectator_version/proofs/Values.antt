@@ -66,7 +66,7 @@ module _ (e : Endpoint) (w : Watch) (v : IsEndpoint e) (s : Seated w) (h : Held 
       record {
         host = v;
         limits = limits_value w.limits o.limits;
-        inputs = record { size = filled_size most_places blank_input w.inputs few; inputs = filled_each most_places blank_input IsPlayerInput blank_input_lem w.inputs inputs; used = omega arith };
+        inputs = record { size = filled_size most_places blank_input w.inputs few; inputs = filled_each most_places blank_input IsPlayerInput blank_input_lem w.inputs inputs; count = omega arith };
         statuses = record {
           size = filled_size most_players default_status w.statuses four;
           frames = filled_each most_players default_status (λ (x : ConnectionStatus). IsU32 x.last_frame) blank_status w.statuses o.statuses;
@@ -75,7 +75,7 @@ module _ (e : Endpoint) (w : Watch) (v : IsEndpoint e) (s : Seated w) (h : Held 
         events = record {
           size = filled_size most_session_events blank_session_entry w.events many;
           entries = filled_each most_session_events blank_session_entry IsSessionEntry blank_entry_lem w.events h.events;
-          used = omega arith;
+          count = omega arith;
         };
         current = omega (arith, o.newest, o.frame);
         newest = o.frame;

@@ -33,9 +33,9 @@ pub record IsPlayerInput (x : PlayerInput) : Type 0 where
   pub bytes : Bytes x.input
 
 pub record IsInputs (x : Inputs) : Type 0 where
-  pub size : length x.entries ≡ most_places
-  pub inputs : Each IsPlayerInput x.entries
-  pub used : IsU64 x.used
+  pub size : length x.entries.list ≡ most_places
+  pub inputs : Each IsPlayerInput x.entries.list
+  pub count : IsU64 x.entries.count
 
 abbrev pub IsSessionEvent : SessionEvent → Type 0
 IsSessionEvent (SessionEvent.Synchronizing total count) = IsU32 total × IsU32 count
@@ -48,9 +48,9 @@ abbrev pub IsSessionEntry : SessionEntry → Type 0
 IsSessionEntry x = IsU32 x.addr × IsSessionEvent x.event
 
 pub record IsSessionEvents (x : SessionEvents) : Type 0 where
-  pub size : length x.entries ≡ most_session_events
-  pub entries : Each IsSessionEntry x.entries
-  pub used : IsU64 x.used
+  pub size : length x.entries.list ≡ most_session_events
+  pub entries : Each IsSessionEntry x.entries.list
+  pub count : IsU64 x.entries.count
 
 -- its state is one of two, whatever it is
 pub record IsSession (s : SpectatorSession) : Type 0 where

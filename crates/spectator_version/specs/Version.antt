@@ -1,10 +1,11 @@
 -- A version of the session's public functions, and its calls: what each is given, which rule it is a call of, and what it hands back.
-use Rattle.std.specs.Prelude.{List, [], ℕ, ◌-◌, length, take, drop}
+use Rattle.std.specs.Prelude.{List, [], ℕ, ◌-◌, length, take, drop, Result}
+use Rattle.answer.specs.declared.Refusal.{Refusal}
 use Rattle.codec.specs.Message.{meant}
 use Rattle.codec.specs.declared.Message.{Message}
 use Rattle.endpoint_invariant.specs.Typed.{IsU32, IsU64}
-use Rattle.endpoint.specs.Taken.{shorter}
-use Rattle.endpoint.specs.declared.getters.StatsResult.{StatsResult}
+use Rattle.quality.specs.declared.NetworkStats.{NetworkStats}
+use Rattle.endpoint.specs.Taken.{shorter, count_in}
 use Rattle.endpoint_version.specs.Values.{IsSlice, IsMessage}
 use Rattle.spectator_rules.specs.declared.SessionSetup.{SessionSetup}
 use Rattle.spectator_rules.specs.declared.SessionState.{SessionState}
@@ -12,7 +13,6 @@ use Rattle.spectator_rules.specs.Call.{Call}
 use Rattle.spectator.specs.declared.SpectatorSession.{SpectatorSession}
 use Rattle.spectator.specs.declared.Ended.{Ended}
 use Rattle.spectator.specs.declared.advancing.Advanced.{Advanced}
-use Rattle.spectator.specs.declared.getters.FramesBehind.{FramesBehind}
 use Rattle.spectator.specs.declared.getters.TakenEvents.{TakenEvents}
 use Rattle.spectator.specs.declared.hosting.TakenMessages.{TakenMessages}
 use Rattle.spectator.specs.declared.polling.Polled.{Polled}
@@ -27,11 +27,11 @@ pub record Version : Type 0 where
   pub take_messages : SpectatorSession → (out : List ℕ) → Ended
   pub messages : SpectatorSession → (out : List ℕ) → List ℕ
   pub take_messages_into : SpectatorSession → (out into : List ℕ) → TakenMessages × List ℕ
-  pub network_stats : SpectatorSession → (epoch : ℕ) → StatsResult
+  pub network_stats : SpectatorSession → (epoch : ℕ) → Result NetworkStats Refusal
   pub poll_remote_clients : SpectatorSession → (now epoch nonce : ℕ) → (out : List ℕ) → Polled × List ℕ
   pub advance_frame : SpectatorSession → Advanced
   pub take_events : SpectatorSession → TakenEvents
-  pub frames_behind_host : SpectatorSession → FramesBehind
+  pub frames_behind_host : SpectatorSession → Result ℕ Refusal
   pub current_state : SpectatorSession → SessionState
   pub current_frame : SpectatorSession → ℕ
   pub num_players : SpectatorSession → ℕ
@@ -99,7 +99,7 @@ filled_after v s (Asked.message from m payload now epoch nonce out) = (session_a
 filled_after v s (Asked.datagram from d now epoch nonce out) = (session_after v s (Asked.datagram from d now epoch nonce out)).host.queued
 filled_after v s (Asked.take_messages out) = 0
 filled_after v s (Asked.take_messages_into out into) = 0
-filled_after v s (Asked.poll_remote_clients now epoch nonce out) = (v.poll_remote_clients s now epoch nonce out).0.filled
+filled_after v s (Asked.poll_remote_clients now epoch nonce out) = count_in (v.poll_remote_clients s now epoch nonce out).0.answer
 filled_after v s Asked.advance_frame = 0
 filled_after v s Asked.take_events = 0
 

@@ -19,7 +19,6 @@ pub(crate) fn small() -> Setup {
 
 // Four players, whose inputs all come from the other end, S = 16.
 pub(crate) fn large() -> Setup {
-    let setup = small();
     Setup {
         num_players: 4,
         handles: Handles {
@@ -28,23 +27,21 @@ pub(crate) fn large() -> Setup {
         },
         local_players: 4,
         input_size: 16,
-        ..setup
+        ..small()
     }
 }
 
 // A message without statuses and payload.
 pub(crate) fn body_only(magic: u16, body: MessageBody) -> Message {
-    let reports = codec::no_reports();
     Message {
         magic,
         body,
-        reports,
+        reports: codec::no_reports(),
     }
 }
 
 pub(crate) fn ready(setup: Setup, other: u16) -> Endpoint {
-    let made = Endpoint::new(setup, START);
-    demo_ends::synchronized(made.endpoint, other)
+    demo_ends::synchronized(Endpoint::new(setup, START).endpoint, other)
 }
 
 // Both queues emptied in place: a store each, and no call that is timed.

@@ -1,16 +1,14 @@
 // The codec on an Input that comes from standard input, so that nothing of it is known beforehand.
-use crate::wide;
-use ceilings::MOST_PLAYERS;
+use crate::ends;
 use codec::{Message, MessageBody, StatusReports};
 use frame::BIAS32;
-use std::num::{wrapping_add_u32, wrapping_add_u64, wrapping_sub_u32};
 
 // Where the first frame's number stands, after magic, kind, count, statuses and flag.
 fn frame_at(datagram: &[u8]) -> usize {
-    if datagram.len() < 7 {
-        return 0;
+    match datagram.get(6) {
+        Some(statuses) => 15 + 5 * usize::from(*statuses),
+        None => 0,
     }
-    15 + 5 * (wide(datagram[6]) as usize)
 }
 
 // Each repetition reads other bytes: the lowest one of the first frame is the repetition's number.
@@ -20,108 +18,81 @@ pub(crate) fn read(count: u32, datagram: &mut [u8]) -> u64 {
         return 0;
     }
     let mut sum = 0u64;
-    let mut i = 0u32;
-    while i < count {
+    for i in 0..count {
         datagram[at] = (i % 256) as u8;
-        sum = wrapping_add_u64(sum, fields(datagram));
-        i += 1;
+        sum = sum.wrapping_add(fields(datagram));
     }
     sum
 }
 
 // Every field is looked at.
 fn fields(datagram: &[u8]) -> u64 {
-    let received = codec::read(datagram);
-    let message = received.message;
+    let Ok(message) = codec::read(datagram) else {
+        return 0;
+    };
     let payload = codec::payload_of(datagram);
-    let body = message.body;
     let MessageBody::Input {
         disconnect_requested,
         start_frame,
         ack_frame,
-    } = body
+    } = message.body
     else {
         return 0;
     };
-    let n = payload.len();
-    if n == 0 {
+    let (Some(first), Some(last)) = (payload.first(), payload.last()) else {
         return 0;
-    }
-    let mut sum = wrapping_add_u64(message.magic as u64, reported(message.reports));
-    sum = wrapping_add_u64(sum, frame_sum(disconnect_requested, start_frame));
-    sum = wrapping_add_u64(sum, frame_sum(false, ack_frame));
-    sum = wrapping_add_u64(sum, n as u64);
-    sum = wrapping_add_u64(sum, wide(payload[0]) as u64);
-    wrapping_add_u64(sum, wide(payload[n - 1]) as u64)
+    };
+    u64::from(message.magic)
+        .wrapping_add(reported(&message.reports))
+        .wrapping_add(frame_sum(disconnect_requested, start_frame))
+        .wrapping_add(frame_sum(false, ack_frame))
+        .wrapping_add(payload.len() as u64)
+        .wrapping_add(u64::from(*first))
+        .wrapping_add(u64::from(*last))
 }
 
 fn frame_sum(flag: bool, frame: u32) -> u64 {
-    let number = wrapping_sub_u32(frame, BIAS32) as u64;
-    if flag {
-        return number + 1;
-    }
-    number
+    u64::from(frame.wrapping_sub(BIAS32)) + u64::from(flag)
 }
 
-fn reported(reports: StatusReports) -> u64 {
-    let n = reports.count;
-    let mut sum = 0u64;
-    let mut i = 0;
-    while i < MOST_PLAYERS {
-        if i < n {
-            let report = reports.list[i];
-            sum = wrapping_add_u64(sum, frame_sum(report.disconnected, report.last_frame));
-        }
-        i += 1;
-    }
-    sum
+fn reported(reports: &StatusReports) -> u64 {
+    reports.as_slice().iter().fold(0u64, |sum, report| {
+        sum.wrapping_add(frame_sum(report.disconnected, report.last_frame))
+    })
 }
 
 // Each repetition writes another first frame.
 pub(crate) fn write(count: u32, datagram: &[u8]) -> u64 {
     let at = frame_at(datagram);
-    let received = codec::read(datagram);
-    let message = received.message;
+    // What cannot be read counts as a KeepAlive.
+    let message = codec::read(datagram).unwrap_or(ends::body_only(0, MessageBody::KeepAlive));
     let payload = codec::payload_of(datagram);
-    let mut out = [0u8; 128];
+    let mut out = [0; 128];
     let mut sum = 0u64;
-    let mut i = 0u32;
-    while i < count {
-        let written = codec::write(&mut out, 0, with_start(message, i), payload);
-        sum = wrapping_add_u64(sum, seen(&out, at, written.end));
-        i += 1;
+    for i in 0..count {
+        if let Ok(end) = codec::write(&mut out, 0, with_start(message, i), payload) {
+            sum = sum.wrapping_add(seen(&out, at, end));
+        }
     }
     sum
 }
 
-fn with_start(message: Message, i: u32) -> Message {
-    let body = message.body;
-    let MessageBody::Input {
-        disconnect_requested,
-        start_frame: _,
-        ack_frame,
-    } = body
-    else {
-        return message;
-    };
-    Message {
-        body: MessageBody::Input {
-            disconnect_requested,
-            start_frame: wrapping_add_u32(BIAS32, 1000 + i % 256),
-            ack_frame,
-        },
-        ..message
+fn with_start(mut message: Message, i: u32) -> Message {
+    if let MessageBody::Input { start_frame, .. } = &mut message.body {
+        *start_frame = BIAS32 + 1000 + i % 256;
     }
+    message
 }
 
 // The end, a byte of the first frame and the last one.
 fn seen(out: &[u8], at: usize, end: usize) -> u64 {
-    if out.len() < end {
+    let Some(written) = out.get(at..end) else {
         return 0;
-    }
-    if end <= at {
+    };
+    let (Some(first), Some(last)) = (written.first(), written.last()) else {
         return 0;
-    }
-    let sum = wrapping_add_u64(end as u64, wide(out[at]) as u64);
-    wrapping_add_u64(sum, wide(out[end - 1]) as u64)
+    };
+    (end as u64)
+        .wrapping_add(u64::from(*first))
+        .wrapping_add(u64::from(*last))
 }

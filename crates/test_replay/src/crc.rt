@@ -34,21 +34,13 @@ pub(crate) fn sum_of(crc: u32) -> u32 {
 pub(crate) fn with_bytes(before: u32, bytes: &[u8]) -> u32 {
     // Lent to each step: a step that named the constant would copy it.
     let table = TABLE;
-    let mut crc = before;
-    let mut i = 0;
-    while i < bytes.len() {
-        crc = with_byte(crc, bytes[i], &table);
-        i += 1;
-    }
-    crc
+    bytes
+        .iter()
+        .fold(before, |crc, byte| with_byte(crc, *byte, &table))
 }
 
 fn with_byte(crc: u32, byte: u8, table: &[u32; 16]) -> u32 {
-    four_shifts(four_shifts(crc ^ wide(byte), table), table)
-}
-
-fn wide(byte: u8) -> u32 {
-    byte as u32
+    four_shifts(four_shifts(crc ^ u32::from(byte), table), table)
 }
 
 fn four_shifts(crc: u32, table: &[u32; 16]) -> u32 {

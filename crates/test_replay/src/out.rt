@@ -1,113 +1,106 @@
 // What is written for one record: little-endian numbers, as they come, or their length and their sum.
 use crate::crc::{NONE, sum_of, with_bytes};
-use crate::faults::Failed;
-use crate::record::Record;
-use numbers::WORD;
+use crate::stop::Stop;
 use std::io::Stdout;
+
+// How the answers are written.
+#[derive(Clone, Copy, Debug)]
+pub enum Mode {
+    Whole,
+    Digest,
+}
 
 #[derive(Clone, Copy)]
 pub struct Out {
     to: Stdout,
-    // Nothing is written behind a write that failed.
-    failed: bool,
-    digest: bool,
+    // Where digests are written, the one of what came so far.
+    digest: Option<Digest>,
+}
+
+#[derive(Clone, Copy)]
+struct Digest {
     length: u32,
     sum: u32,
 }
 
-fn four(n: u32) -> [u8; 4] {
-    [
-        (n % 0x100) as u8,
-        (n / 0x100 % 0x100) as u8,
-        (n / 0x1_0000 % 0x100) as u8,
-        (n / 0x100_0000) as u8,
-    ]
-}
-
-fn sum_of_lengths(length: u32, more: usize) -> u32 {
-    ((length as u64 + more as u64 % WORD) % WORD) as u32
-}
-
 impl Out {
-    pub(crate) fn begin(to: Stdout, digest: bool, record: Record, answer: u32) -> Out {
-        let out = Out {
-            to,
-            failed: false,
-            digest,
-            length: 0,
-            sum: NONE,
-        };
-        out.write(&[record.call, record.object, (answer % 0x100) as u8, 0])
+    // The head is written as it is in both modes.
+    pub(crate) fn begin(to: Stdout, mode: Mode, head: [u8; 4]) -> Result<Out, Stop> {
+        let out = Out { to, digest: None }.bytes(&head)?;
+        Ok(match mode {
+            Mode::Whole => out,
+            Mode::Digest => Out {
+                digest: Some(Digest {
+                    length: 0,
+                    sum: NONE,
+                }),
+                ..out
+            },
+        })
     }
 
-    fn write(self, bytes: &[u8]) -> Out {
-        if self.failed || self.to.write_all(bytes).is_ok() {
-            return self;
-        }
+    pub(crate) fn end(self) -> Result<(), Stop> {
+        let Some(digest) = self.digest else {
+            return Ok(());
+        };
         Out {
-            failed: true,
+            digest: None,
             ..self
         }
-    }
-
-    pub(crate) fn end(self) -> Result<(), Failed> {
-        let mut out = self;
-        if self.digest {
-            out = self
-                .write(&four(self.length))
-                .write(&four(sum_of(self.sum)));
-        }
-        if out.failed {
-            return Err(Failed::Output);
-        }
+        .u32(digest.length)?
+        .u32(sum_of(digest.sum))?;
         Ok(())
     }
 
-    pub(crate) fn bytes(self, bytes: &[u8]) -> Out {
-        if !self.digest {
-            return self.write(bytes);
-        }
-        Out {
-            length: sum_of_lengths(self.length, bytes.len()),
-            sum: with_bytes(self.sum, bytes),
+    pub(crate) fn bytes(self, bytes: &[u8]) -> Result<Out, Stop> {
+        let Some(digest) = self.digest else {
+            self.to.write_all(bytes).map_err(|_| Stop::Output)?;
+            return Ok(self);
+        };
+        Ok(Out {
+            digest: Some(Digest {
+                length: digest.length.wrapping_add(low_bits(bytes.len())),
+                sum: with_bytes(digest.sum, bytes),
+            }),
             ..self
-        }
+        })
     }
 
-    // The first n bytes of a slice, their count before them.
-    pub(crate) fn part(self, bytes: &[u8], n: usize) -> Out {
-        self.count(n).bytes(text::filled(bytes, n))
+    // The bytes of a slice, their count before them.
+    pub(crate) fn part(self, bytes: &[u8]) -> Result<Out, Stop> {
+        self.count(bytes.len())?.bytes(bytes)
     }
 
-    pub(crate) fn u8(self, n: u8) -> Out {
+    pub(crate) fn u8(self, n: u8) -> Result<Out, Stop> {
         self.bytes(&[n])
     }
 
-    pub(crate) fn u16(self, n: u16) -> Out {
-        self.bytes(&[(n % 0x100) as u8, (n / 0x100) as u8])
+    pub(crate) fn u16(self, n: u16) -> Result<Out, Stop> {
+        self.bytes(&n.to_le_bytes())
     }
 
-    pub(crate) fn u32(self, n: u32) -> Out {
-        self.bytes(&four(n))
+    pub(crate) fn u32(self, n: u32) -> Result<Out, Stop> {
+        self.bytes(&n.to_le_bytes())
     }
 
-    pub(crate) fn u64(self, n: u64) -> Out {
-        self.u32((n % WORD) as u32).u32((n / WORD) as u32)
+    pub(crate) fn u64(self, n: u64) -> Result<Out, Stop> {
+        self.bytes(&n.to_le_bytes())
     }
 
     // A count, as four bytes.
-    pub(crate) fn count(self, n: usize) -> Out {
-        self.u32((n as u64 % WORD) as u32)
+    pub(crate) fn count(self, n: usize) -> Result<Out, Stop> {
+        self.u32(low_bits(n))
     }
 
-    pub(crate) fn frame(self, frame: u32) -> Out {
+    pub(crate) fn frame(self, frame: u32) -> Result<Out, Stop> {
         self.u32(frame::bits_of(frame))
     }
 
-    pub(crate) fn flag(self, flag: bool) -> Out {
-        if flag {
-            return self.u8(1);
-        }
-        self.u8(0)
+    pub(crate) fn flag(self, flag: bool) -> Result<Out, Stop> {
+        self.u8(flag.into())
     }
+}
+
+fn low_bits(n: usize) -> u32 {
+    (n & 0xFFFF_FFFF) as u32
 }

@@ -1,44 +1,104 @@
 // A record of a script: the fields of its 64 bytes.
-ghost use Rattle.std.specs.Prelude.{◌<◌};
-
-use crate::faults::Fault;
 use crate::little::{frame_at, u8_at, u32_at, u64_at};
+use crate::stop::RecordFault;
 use status::{ConnectionStatus, Statuses};
 
 // Longest payload part, and longest lent send buffer.
 const PAYLOAD_MAX: usize = 16384;
 
-const BUFFER_MAX: usize = 65536;
+pub const BUFFER_MAX: usize = 65536;
 
-// The calls that are distinguished outside the tables of calls.
-const NEW: u8 = 0;
-
-pub const CARRY: u8 = 3;
-
-const BUFFER: u8 = 15;
-
-const LAST_CALL: u8 = 17;
-
-pub const SPECTATOR: u8 = 2;
-
-// Beside the numbers of the refusals: the payload part is not what the call takes, where the judge panics; no `new` has made the object.
-pub const PANICKED: u32 = 254;
-
-const ABSENT: u32 = 255;
-
-// What becomes of a record: its object stays as it is, is made, is gone, or is called.
-#[derive(Clone, Copy)]
-pub enum Way {
-    Same(u32),
+// The calls, in the order of their numbers. The session's `Act` is a poll.
+#[derive(Clone, Copy, Debug, PartialEq, Eq)]
+pub enum Call {
     New,
-    Gone,
-    Called,
+    Synchronize,
+    Datagram,
+    Carry,
+    Message,
+    Act,
+    SendInput,
+    Disconnect,
+    SendChecksumReport,
+    UpdateLocalFrameAdvantage,
+    NetworkStats,
+    PeerConnectStatus,
+    TakeEvents,
+    TakeMessages,
+    Getters,
+    Buffer,
+    Advance,
+    FramesBehind,
+}
+
+impl TryFrom<u8> for Call {
+    type Error = RecordFault;
+
+    fn try_from(number: u8) -> Result<Call, RecordFault> {
+        match number {
+            0 => Ok(Call::New),
+            1 => Ok(Call::Synchronize),
+            2 => Ok(Call::Datagram),
+            3 => Ok(Call::Carry),
+            4 => Ok(Call::Message),
+            5 => Ok(Call::Act),
+            6 => Ok(Call::SendInput),
+            7 => Ok(Call::Disconnect),
+            8 => Ok(Call::SendChecksumReport),
+            9 => Ok(Call::UpdateLocalFrameAdvantage),
+            10 => Ok(Call::NetworkStats),
+            11 => Ok(Call::PeerConnectStatus),
+            12 => Ok(Call::TakeEvents),
+            13 => Ok(Call::TakeMessages),
+            14 => Ok(Call::Getters),
+            15 => Ok(Call::Buffer),
+            16 => Ok(Call::Advance),
+            17 => Ok(Call::FramesBehind),
+            _ => Err(RecordFault::Call),
+        }
+    }
+}
+
+// The objects, in the order of their numbers.
+#[derive(Clone, Copy, Debug, PartialEq, Eq)]
+pub enum Object {
+    First,
+    Second,
+    Session,
+}
+
+impl TryFrom<u32> for Object {
+    type Error = RecordFault;
+
+    fn try_from(number: u32) -> Result<Object, RecordFault> {
+        match number {
+            0 => Ok(Object::First),
+            1 => Ok(Object::Second),
+            2 => Ok(Object::Session),
+            _ => Err(RecordFault::Object),
+        }
+    }
+}
+
+impl Object {
+    fn has(self, call: Call) -> bool {
+        match call {
+            Call::SendInput
+            | Call::Disconnect
+            | Call::SendChecksumReport
+            | Call::UpdateLocalFrameAdvantage
+            | Call::PeerConnectStatus => self != Object::Session,
+            Call::Advance | Call::FramesBehind => self == Object::Session,
+            _ => true,
+        }
+    }
 }
 
 #[derive(Clone, Copy)]
 pub struct Record {
-    pub call: u8,
-    pub object: u8,
+    pub call: Call,
+    pub object: Object,
+    // Of the payload part.
     pub length: usize,
     pub now: u64,
     pub epoch: u64,
@@ -47,97 +107,51 @@ pub struct Record {
     pub frame: u32,
     pub number: u32,
     pub statuses: Statuses,
-    // The payload part is what the call takes.
-    pub sound: bool,
 }
 
-fn status_at(head: &[u8], at: usize) -> ConnectionStatus
-    requires { at < 128 }
-{
+fn status_at(head: &[u8], at: usize) -> ConnectionStatus {
     ConnectionStatus {
         disconnected: u8_at(head, at) != 0,
-        last_frame: frame_at(head, at + 1),
+        last_frame: frame_at(head, at.saturating_add(1)),
     }
 }
 
 // The count as given: it may be any.
 fn statuses_of(head: &[u8]) -> Statuses {
-    let list = [
-        status_at(head, 40),
-        status_at(head, 45),
-        status_at(head, 50),
-        status_at(head, 55),
-    ];
     Statuses {
-        list,
-        count: u8_at(head, 2) as usize,
+        list: [40, 45, 50, 55].map(|at| status_at(head, at)),
+        count: u8_at(head, 2).into(),
     }
 }
 
-impl Record {
-    pub(crate) fn read(head: &[u8]) -> Record {
-        let statuses = statuses_of(head);
-        Record {
-            call: u8_at(head, 0),
-            object: u8_at(head, 1),
-            length: u32_at(head, 4) as usize,
+impl TryFrom<&[u8; 64]> for Record {
+    type Error = RecordFault;
+
+    fn try_from(head: &[u8; 64]) -> Result<Record, RecordFault> {
+        let call = Call::try_from(u8_at(head, 0))?;
+        let object = Object::try_from(u32::from(u8_at(head, 1)))?;
+        let length = u32_at(head, 4) as usize;
+        let buffer = u32_at(head, 28) as usize;
+        if !object.has(call) {
+            return Err(RecordFault::Absent);
+        }
+        if PAYLOAD_MAX < length {
+            return Err(RecordFault::Length);
+        }
+        if BUFFER_MAX < buffer {
+            return Err(RecordFault::Buffer);
+        }
+        Ok(Record {
+            call,
+            object,
+            length,
             now: u64_at(head, 8),
             epoch: u64_at(head, 16),
             nonce: u32_at(head, 24),
-            buffer: u32_at(head, 28) as usize,
+            buffer,
             frame: frame_at(head, 32),
             number: u32_at(head, 36),
-            statuses,
-            sound: false,
-        }
-    }
-
-    // Whether the object has the call; the last two are the spectator's, and some are an endpoint's only.
-    fn exists(self) -> bool {
-        let spectator = self.object == SPECTATOR;
-        let call = self.call;
-        match call {
-            6 | 7 | 8 | 9 | 11 => !spectator,
-            16 | 17 => spectator,
-            _ => true,
-        }
-    }
-
-    // By whether the object is there.
-    pub(crate) fn way(self, present: bool) -> Way {
-        let call = self.call;
-        if call == BUFFER {
-            return Way::Same(0);
-        }
-        if call == NEW && self.sound {
-            return Way::New;
-        }
-        if call != NEW && !present {
-            return Way::Same(ABSENT);
-        }
-        if !self.sound {
-            return Way::Gone;
-        }
-        Way::Called
-    }
-
-    pub(crate) fn fault(self) -> Fault {
-        let exists = self.exists();
-        if LAST_CALL < self.call {
-            return Fault::Call;
-        }
-        if SPECTATOR < self.object {
-            return Fault::Object;
-        }
-        if !exists {
-            return Fault::Absent;
-        }
-        if PAYLOAD_MAX < self.length {
-            return Fault::Length;
-        }
-        if BUFFER_MAX < self.buffer {
-            return Fault::Buffer;
-        }
-        Fault::None
+            statuses: statuses_of(head),
+        })
     }
 }

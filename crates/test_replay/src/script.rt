@@ -1,179 +1,102 @@
 // Reading a script: its header, and one record after the other with its payload part.
-use crate::faults;
-use crate::faults::{Failed, Fault};
+ghost use Rattle.std.specs.Prelude.{◌≤◌, length, IfOk};
+
 use crate::little::{u8_at, u32_at};
-use crate::record::{CARRY, Record};
-use crate::streams::Streams;
+use crate::out::Mode;
+use crate::played::Arrays;
+use crate::record::{Call, Object, Record};
+use crate::stop::{HeaderFault, RecordFault, Stop};
 use crate::value::{is_checksum, is_message, is_setup};
-use std::io::Stderr;
+use std::io::{Read, Stdin};
 
-// How the answers are written.
-#[derive(Clone, Copy)]
-pub enum Mode {
-    Whole,
-    Digest,
-    None,
-}
+// What names the bytes that are carried: an object, a place and a length.
+const CARRY_SIZE: usize = 12;
 
-// A record, or the end of what can be read.
-#[derive(Clone, Copy)]
-pub struct Next {
-    pub more: bool,
-    pub record: Record,
-}
-
-// A datagram that is carried: whether there is one, and its length.
-#[derive(Clone, Copy)]
-struct Carried {
-    sound: bool,
-    length: usize,
-}
-
-pub(crate) fn read_mode(streams: Streams) -> Result<Mode, Failed> {
-    let mut header = [0u8; 8];
-    let n = streams.read_full(&mut header)?;
-    if n == 8 {
-        return Ok(mode_of(streams.errors, &header));
+// `GGSC`, version 1, the mode, and two zeros.
+pub(crate) fn read_mode(input: &mut Stdin) -> Result<Mode, Stop> {
+    let mut header = [0; 8];
+    if read_full(input, &mut header)? < 8 {
+        return Err(Stop::NoHeader);
     }
-    faults::tell(streams.errors, "replay: the script ends inside its header");
-    Ok(Mode::None)
+    mode_of(&header).map_err(Stop::Header)
 }
 
-// `GGSC`, version 1, the mode, and two zeros. A header that is none is told.
-fn mode_of(errors: Stderr, header: &[u8]) -> Mode {
-    if u32_at(header, 0) != 0x4353_4747 {
-        faults::tell(
-            errors,
-            "replay: header: the script does not begin with GGSC",
-        );
-        return Mode::None;
+fn mode_of(header: &[u8; 8]) -> Result<Mode, HeaderFault> {
+    if !header.starts_with(b"GGSC") {
+        return Err(HeaderFault::Name);
     }
     if u8_at(header, 4) != 1 {
-        faults::tell(errors, "replay: header: version is not 1");
-        return Mode::None;
+        return Err(HeaderFault::Version);
     }
     match u32_at(header, 4) {
-        0x0001 => Mode::Whole,
-        0x0101 => Mode::Digest,
-        _ => {
-            faults::tell(
-                errors,
-                "replay: header: mode is neither 0 nor 1, or what follows it is not 0",
-            );
-            Mode::None
-        }
+        0x0001 => Ok(Mode::Whole),
+        0x0101 => Ok(Mode::Digest),
+        _ => Err(HeaderFault::Mode),
     }
 }
 
-// The next record; its payload part, or the datagram that it carries, stands at the start of `payload`.
+// The next record, or none where the script ends before it. Its payload part stands at the start of `payload`.
 pub(crate) fn next_record(
-    streams: Streams,
+    input: &mut Stdin,
     at: usize,
     payload: &mut [u8],
-    a: &[u8],
-    b: &[u8],
-    c: &[u8],
-) -> Result<Next, Failed> {
-    let errors = streams.errors;
-    let mut head = [0u8; 64];
-    let n = streams.read_full(&mut head)?;
-    let record = Record::read(&head);
-    if n < 64 {
-        tell_cut(errors, at, 0 < n, "the script ends inside its 64 bytes");
-        return Ok(last(record));
+) -> Result<Option<Record>, Stop> {
+    let mut head = [0; 64];
+    match read_full(input, &mut head)? {
+        0 => return Ok(None),
+        64 => {}
+        _ => return Err(Stop::Record(at, RecordFault::NoHead)),
     }
-    let fault = record.fault();
-    let Fault::None = fault else {
-        faults::tell_field(errors, at, fault);
-        return Ok(last(record));
-    };
-    if !read_part(streams, payload, record.length)? {
-        tell_cut(errors, at, true, "the script ends inside its payload part");
-        return Ok(last(record));
+    let record = Record::try_from(&head).map_err(|fault| Stop::Record(at, fault))?;
+    let part = payload
+        .get_mut(..record.length)
+        .ok_or(Stop::Record(at, RecordFault::Length))?;
+    if read_full(input, part)? < record.length {
+        return Err(Stop::Record(at, RecordFault::NoPayload));
     }
-    Ok(Next {
-        more: true,
-        record: looked_at(record, payload, a, b, c),
-    })
+    Ok(Some(record))
 }
 
-// Where a script ends between two records nothing is cut off.
-fn tell_cut(errors: Stderr, at: usize, cut: bool, words: &str) {
-    if cut {
-        faults::tell_record(errors, at, words);
+// Reads until the slice is full or the script ends. How many bytes it put at the slice's start.
+fn read_full(input: &mut Stdin, buf: &mut [u8]) -> Result<usize, Stop>
+    ensures { IfOk result (λ n. n ≤ length buf.new) }
+{
+    let mut done = 0;
+    while done < buf.len() {
+        let n = input.read(&mut buf[done..]).map_err(|_| Stop::Input)?;
+        if n == 0 {
+            break;
+        }
+        done += n;
     }
+    Ok(done)
 }
 
-fn last(record: Record) -> Next {
-    Next {
-        more: false,
-        record,
-    }
-}
-
-// Whether all of a payload part was read; a record with one longer than `payload` was refused.
-fn read_part(streams: Streams, payload: &mut [u8], length: usize) -> Result<bool, Failed> {
-    if payload.len() < length {
-        return Ok(false);
-    }
-    let n = streams.read_full(&mut payload[..length])?;
-    Ok(n == length)
-}
-
-// The record with what its payload part is to its call.
-fn looked_at(record: Record, payload: &mut [u8], a: &[u8], b: &[u8], c: &[u8]) -> Record {
-    let mut looked = record;
-    if record.call == CARRY {
-        let carried = carry(payload, record.length, a, b, c);
-        looked.length = carried.length;
-        looked.sound = carried.sound;
-        return looked;
-    }
-    looked.sound = is_sound(record.call, text::filled(payload, record.length));
-    looked
-}
-
-fn is_sound(call: u8, payload: &[u8]) -> bool {
-    match call {
-        0 => is_setup(payload),
-        4 => is_message(payload),
-        8 => is_checksum(payload),
-        _ => true,
-    }
-}
-
-// The bytes at a place of an object's array, in the place of the twelve that name them.
-fn carry(payload: &mut [u8], length: usize, a: &[u8], b: &[u8], c: &[u8]) -> Carried {
-    if length != 12 {
-        return Carried {
-            sound: false,
-            length: 0,
+// How much of `payload` is the payload part that a record's call takes; none where it takes no such part. A datagram that is carried comes there first.
+pub(crate) fn part_of(record: &Record, payload: &mut [u8], arrays: &Arrays) -> Option<usize> {
+    if record.call == Call::Carry {
+        return if record.length == CARRY_SIZE {
+            carry(payload, arrays)
+        } else {
+            None
         };
     }
-    let object = u32_at(payload, 0);
+    let part = text::filled(payload, record.length);
+    let is_taken = match record.call {
+        Call::New => is_setup(part),
+        Call::Message => is_message(part),
+        Call::SendChecksumReport => is_checksum(part),
+        _ => true,
+    };
+    is_taken.then_some(record.length)
+}
+
+// The bytes at a place of an object's array, in the place of those that name them.
+fn carry(payload: &mut [u8], arrays: &Arrays) -> Option<usize> {
+    let object = Object::try_from(u32_at(payload, 0)).ok()?;
     let at = u32_at(payload, 4) as usize;
     let count = u32_at(payload, 8) as usize;
-    match object {
-        0 => carry_part(payload, a, at, count),
-        1 => carry_part(payload, b, at, count),
-        2 => carry_part(payload, c, at, count),
-        _ => Carried {
-            sound: false,
-            length: 0,
-        },
-    }
-}
-
-fn carry_part(payload: &mut [u8], array: &[u8], at: usize, count: usize) -> Carried {
-    if array.len() < at || array.len() - at < count || payload.len() < count {
-        return Carried {
-            sound: false,
-            length: 0,
-        };
-    }
-    text::append(payload, 0, text::filled(&array[at..], count));
-    Carried {
-        sound: true,
-        length: count,
-    }
+    let part = arrays.of(object).get(at..)?.get(..count)?;
+    payload.get_mut(..count)?.copy_from_slice(part);
+    Some(count)
 }

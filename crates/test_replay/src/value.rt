@@ -1,6 +1,4 @@
 // The values in a record's payload part: a setup, and a message that is handed over as a value.
-ghost use Rattle.std.specs.Prelude.{◌<◌};
-
 use crate::little::{frame_at, u16_at, u32_at, u64_at};
 use codec::{Message, MessageBody, StatusReport, StatusReports, Wide};
 use setup::{Choices, DesyncDetection, Handles, Setup};
@@ -35,21 +33,14 @@ fn desync_of(bytes: &[u8]) -> DesyncDetection {
 }
 
 pub(crate) fn setup_of(bytes: &[u8]) -> Setup {
-    let list = [
-        u32_at(bytes, 8),
-        u32_at(bytes, 12),
-        u32_at(bytes, 16),
-        u32_at(bytes, 20),
-    ];
-    let handles = Handles {
-        list,
-        count: u32_at(bytes, 4) as usize,
-    };
     let mut choices = Choices::new(desync_of(bytes));
     choices.firm_checksums = u16_at(bytes, 68) != 0;
     Setup {
         num_players: u32_at(bytes, 0),
-        handles,
+        handles: Handles {
+            list: [8, 12, 16, 20].map(|at| u32_at(bytes, at)),
+            count: u32_at(bytes, 4) as usize,
+        },
         local_players: u32_at(bytes, 24),
         input_size: u32_at(bytes, 28),
         max_prediction: u32_at(bytes, 32),
@@ -74,8 +65,6 @@ fn limits_of(bytes: &[u8]) -> Limits {
 // A setup without its handles and its local players, and with the limits.
 pub(crate) fn session_setup_of(bytes: &[u8]) -> SessionSetup {
     let setup = setup_of(bytes);
-    let choices = setup.choices;
-    let limits = limits_of(bytes);
     SessionSetup {
         num_players: setup.num_players,
         input_size: setup.input_size,
@@ -85,39 +74,29 @@ pub(crate) fn session_setup_of(bytes: &[u8]) -> SessionSetup {
         fps: setup.fps,
         magic: setup.magic,
         peer_addr: setup.peer_addr,
-        choices,
-        limits,
+        choices: setup.choices,
+        limits: limits_of(bytes),
     }
 }
 
-pub(crate) fn wide_at(bytes: &[u8], at: usize) -> Wide
-    requires { at < 100 }
-{
+pub(crate) fn wide_at(bytes: &[u8], at: usize) -> Wide {
     Wide {
         low: u64_at(bytes, at),
-        high: u64_at(bytes, at + 8),
+        high: u64_at(bytes, at.saturating_add(8)),
     }
 }
 
-fn report_at(bytes: &[u8], at: usize) -> StatusReport
-    requires { at < 100 }
-{
+fn report_at(bytes: &[u8], at: usize) -> StatusReport {
     StatusReport {
         disconnected: u32_at(bytes, at) != 0,
-        last_frame: frame_at(bytes, at + 4),
+        last_frame: frame_at(bytes, at.saturating_add(4)),
     }
 }
 
 // The count as given: one above four has no more than four entries to show.
 fn reports_of(bytes: &[u8]) -> StatusReports {
-    let list = [
-        report_at(bytes, 48),
-        report_at(bytes, 56),
-        report_at(bytes, 64),
-        report_at(bytes, 72),
-    ];
     StatusReports {
-        list,
+        list: [48, 56, 64, 72].map(|at| report_at(bytes, at)),
         count: u32_at(bytes, 8) as usize,
     }
 }
@@ -155,18 +134,13 @@ fn body_of(bytes: &[u8]) -> MessageBody {
 }
 
 pub(crate) fn message_of(bytes: &[u8]) -> Message {
-    let body = body_of(bytes);
-    let reports = reports_of(bytes);
     Message {
         magic: u16_at(bytes, 0),
-        body,
-        reports,
+        body: body_of(bytes),
+        reports: reports_of(bytes),
     }
 }
 
 pub(crate) fn payload_of(bytes: &[u8]) -> &[u8] {
-    if bytes.len() < VALUE_SIZE {
-        return bytes;
-    }
-    &bytes[VALUE_SIZE..]
+    bytes.get(VALUE_SIZE..).unwrap_or(bytes)
 }

@@ -3,10 +3,8 @@
 // gives the datagram back.
 #![tactic(auto)]
 
-ghost use Rattle.std.specs.Prelude.{◌<◌};
-
-use answer::Answer;
 use codec::Message;
+use std::fmt;
 use std::io::{ErrorKind, Read};
 use std::process::ExitCode;
 
@@ -14,16 +12,29 @@ use std::process::ExitCode;
 const MOST: usize = 1000000;
 
 // The stream that failed.
-#[derive(Clone, Copy)]
+#[derive(Clone, Copy, Debug, PartialEq, Eq)]
 enum Fault {
     Input,
     Output,
 }
 
+impl fmt::Display for Fault {
+    fn fmt<W: fmt::Write>(&self, f: &mut fmt::Formatter<W>) -> fmt::Result {
+        f.write_str(match self {
+            Fault::Input => "test_vectors: standard input cannot be read",
+            Fault::Output => "test_vectors: standard output cannot be written",
+        })
+    }
+}
+
 fn main(rt: HostRuntime) -> ExitCode {
     match run(&mut rt.stdin(), &rt) {
         Ok(()) => ExitCode::SUCCESS,
-        Err(fault) => tell(&rt, fault),
+        Err(fault) => {
+            // One line on standard error; where that fails too, nobody is left to be told.
+            let _ = rt.eprintln(fault);
+            ExitCode::FAILURE
+        }
     }
 }
 
@@ -42,24 +53,8 @@ fn one(input: &mut impl Read, rt: &impl Print) -> Result<bool, Fault> {
     if !is_read(input, &mut prefix)? {
         return Ok(false);
     }
-    let length = length_of(&prefix);
-    let mut datagram = [0u8; 65536];
-    filled(input, rt, &mut datagram[..length])
-}
-
-fn length_of(prefix: &[u8; 2]) -> usize
-    ensures { result < 65536 }
-{
-    wide(prefix[0]) + 256 * wide(prefix[1])
-}
-
-fn wide(byte: u8) -> usize
-    ensures { result < 256 }
-{
-    byte as usize
-}
-
-fn filled(input: &mut impl Read, rt: &impl Print, datagram: &mut [u8]) -> Result<bool, Fault> {
+    let mut room = [0u8; 65536];
+    let datagram = &mut room[..usize::from(u16::from_le_bytes(prefix))];
     if !is_read(input, datagram)? {
         return Ok(false);
     }
@@ -70,36 +65,26 @@ fn filled(input: &mut impl Read, rt: &impl Print, datagram: &mut [u8]) -> Result
 fn print(rt: &impl Print, datagram: &[u8]) -> Result<(), Fault> {
     // More than 256 bytes and two for each byte of the longest payload: every line fits.
     let mut out = [0u8; 16896];
-    let line = message_line::line(&mut out, 0, datagram);
-    let end = line.end;
-    put(rt, &out[..end])?;
-    let received = codec::read(datagram);
-    let answer = received.answer;
-    if let Answer::Done = answer {
-        let message = received.message;
-        print_comparison(rt, datagram, message)?;
+    let end = message_line::line(&mut out, 0, datagram).unwrap_or(0);
+    put(rt, text::filled(&out, end))?;
+    if let Ok(message) = codec::read(datagram) {
+        if same_again(datagram, message) {
+            put(rt, b" same")?;
+        } else {
+            put(rt, b" differs")?;
+        }
     }
     put(rt, b"\n")
-}
-
-fn print_comparison(rt: &impl Print, datagram: &[u8], message: Message) -> Result<(), Fault> {
-    if same_again(datagram, message) {
-        put(rt, b" same")
-    } else {
-        put(rt, b" differs")
-    }
 }
 
 // Whether writing the message gives the datagram that it was read from.
 fn same_again(datagram: &[u8], message: Message) -> bool {
     // As long as the longest message.
     let mut again = [0u8; 8307];
-    let written = codec::write(&mut again, 0, message, codec::payload_of(datagram));
-    let end = written.end;
-    if again.len() < end {
-        return false;
+    match codec::write(&mut again, 0, message, codec::payload_of(datagram)) {
+        Ok(end) => text::filled(&again, end) == datagram,
+        Err(_) => false,
     }
-    check::same(&again[..end], datagram)
 }
 
 // Whether all of the slice was read. Where it was not, the input ended.
@@ -113,14 +98,4 @@ fn is_read(input: &mut impl Read, buf: &mut [u8]) -> Result<bool, Fault> {
 
 fn put(rt: &impl Print, bytes: &[u8]) -> Result<(), Fault> {
     rt.write_all(bytes).map_err(|_| Fault::Output)
-}
-
-// One line on standard error, with which the program ends; where that fails too, nobody is left to be told.
-fn tell(rt: &impl Eprint, fault: Fault) -> ExitCode {
-    let line = match fault {
-        Fault::Input => "test_vectors: standard input cannot be read",
-        Fault::Output => "test_vectors: standard output cannot be written",
-    };
-    let _ = rt.eprintln(line);
-    ExitCode::FAILURE
 }

@@ -7,7 +7,9 @@ use mathlib.Core.List.{List, [], ◌∷◌, ◌++◌}
 use Prim.Native.Nat.{ℕ, zero, suc, ◌+◌, ◌-◌, ◌*◌, ◌/◌, ◌%◌, ◌^◌, ◌<◌, ◌≤◌}
 use native.Mathlib.Omega.{arith}
 use native.Mathlib.Nat.{lt_of_lt_of_le}
-use lib.Dec.{lit≤, leb}
+use Rattle.std.specs.Fmt.{decimal}
+use Rattle.std.proofs.lemmas.Fmt.{decimal_from_appends_wide, length-decimal-le_wide}
+use lib.Dec.{lit≤, lit<, leb}
 use lib.ListN.{length, get_or, length-append, get_or-append}
 use lib.Seq.{get_or_at}
 use Rattle.base.specs.Pick.{pick}
@@ -142,3 +144,10 @@ digits_first (suc (suc k)) n h e =
 pub decimal_first : (n : ℕ) → n < 10 ^ 39 → get_or (decimal_of n) 0 0 ≡ 48 → n ≡ 0
 unfolding decimal_of
 decimal_first n h e = digits_first 39 n h e
+
+-- the standard library's decimal text of a number is this text
+pub decimal_std : (n : ℕ) → n < 2 ^ 128 → decimal_of n ≡ decimal n
+unfolding decimal_of
+decimal_std n h =
+    let wide : n < 10 ^ 64 = lt_of_lt_of_le h (lit≤ tt) in
+    decimal_from_appends_wide digits (record { one = digits_one; more = digits_more }) 39 n wide (length-decimal-le_wide 39 n (lit< tt) (lt_of_lt_of_le h (lit≤ tt)) wide)

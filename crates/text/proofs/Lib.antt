@@ -2,7 +2,6 @@ pub mod AppendLaws
 pub mod DecimalLaws
 pub mod HexLaws
 pub mod NumeralLaws
-pub mod TenthLaws
 pub mod Settled
 pub mod PageLaws
 pub mod DraftLaws

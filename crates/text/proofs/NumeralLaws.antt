@@ -1,56 +1,26 @@
--- Laws of a numeral: its digits are written from the array's end towards the front, and its length determines where it starts.
+-- Laws of a numeral: its digits stand at the array's end, and their number determines where it starts.
 use borrow.Author.Tests.{le-leb, lt-leb}
+use borrow.Rule.Slice.PartMut.{put_mid}
 use mathlib.Core.Path.{◌≡◌, sym, ◌∙◌, ap}
-use mathlib.Core.List.{List, ◌++◌}
-use Prim.Native.Nat.{ℕ, zero, suc, ◌+◌, ◌-◌, ◌*◌, ◌/◌, ◌%◌, ◌^◌, ◌<◌, ◌≤◌}
+use mathlib.Core.List.{List, [], ◌++◌, append-nil}
+use Prim.Native.Nat.{ℕ, ◌+◌, ◌-◌, ◌*◌, ◌^◌, ◌<◌, ◌≤◌}
 use native.Mathlib.Omega.{arith}
-use native.Mathlib.Nat.{lt_of_lt_of_le, mul-le-mul_left, mul-suc, add_comm, add-zero}
-use native.Mathlib.Numerals.{add-one}
-use lib.Dec.{lit≤}
-use lib.ListN.{length, take, drop, set, length-drop}
-use lib.Seq.{append_snoc, take_all}
-use Rattle.base.proofs.Digits.{div_below, drop-set}
+use native.Mathlib.Nat.{add-zero}
+use lib.ListN.{length, take, drop, set, length-drop, drop_of_length-le}
+use lib.Seq.{take_all, drop_at, length-take-le}
+use Rattle.base.proofs.Digits.{drop-set}
 use Rattle.text.specs.declared.number.Numeral.{Numeral}
-use Rattle.text.specs.Decimal.{digits, decimal_of, signed_of, text_of}
-use Rattle.text.proofs.DecimalLaws.{digits_one, digits_more, decimal_some, decimal_32}
+use Rattle.text.specs.Decimal.{decimal_of, signed_of, text_of}
+use Rattle.text.proofs.DecimalLaws.{decimal_some, decimal_32}
 
--- a number of two words has at most 39 digits
-words : (b low high : ℕ) → low < b → high < b → low + b * high < b * b
-words b low high hl hh = lt_of_lt_of_le {m = b + b * high} (omega arith) (rw (mul-suc b high, add_comm (b * high) b) at (mul-le-mul_left b hh))
-
-pub words_fit : (low high : ℕ) → low < 2 ^ 64 → high < 2 ^ 64 → low + 2 ^ 64 * high < 10 ^ 39
-words_fit low high hl hh = lt_of_lt_of_le (words (2 ^ 64) low high hl hh) (lit≤ tt)
-
--- what the loop's test says of the number that is left
-module _ (low high : ℕ) where
-  pub more_low : 9 < low → 10 ≤ low + 2 ^ 64 * high
-  more_low h = omega arith
-
-  pub more_high : 0 < high → 10 ≤ low + 2 ^ 64 * high
-  more_high h = omega arith
-
-  pub one_left : low ≤ 9 → high ≤ 0 → low + 2 ^ 64 * high ≡ low
-  one_left hl hh = omega arith
-
-pub digit_fits : (base n digit : ℕ) → base ≤ 246 → digit ≡ n % 10 → base + digit < 2 ^ 8
-digit_fits base n digit b e = omega arith
-
--- a turn of the loop: the last digit of what is left goes in front of those that stand
-pub turn_less : (at n rest : ℕ) → 10 ≤ n → n < 10 ^ at → rest ≡ n / 10 → rest < 10 ^ (at - 1)
-turn_less zero n rest g h e = absurd (omega arith)
-turn_less (suc k) n rest g h e = let less : suc k - 1 ≡ k = omega arith in rw (less, e) (div_below 10 k n (lit≤ tt) h)
-
-pub turn : (l : List ℕ) (at n rest digit : ℕ) → at < length l → 10 ≤ n → n < 10 ^ at → rest ≡ n / 10 → digit ≡ n % 10
-    → digits (at - 1) rest ++ drop (at - 1 + 1) (set l at (48 + digit)) ≡ digits at n ++ drop (at + 1) l
-turn l zero n rest digit i g h er ed = absurd (omega arith)
-turn l (suc k) n rest digit i g h er ed =
-    let less : suc k - 1 ≡ k = omega arith in
-    rw (less, add-one k, drop-set l (suc k) (48 + digit) i, digits_more k n g, er, ed, append_snoc)
-
--- the end of the loop: the number left is one digit
-pub last : (l : List ℕ) (at n : ℕ) → at < length l → 1 ≤ at → n < 10 → digits at n ++ drop (at + 1) l ≡ drop at (set l at (48 + n))
-last l zero n i p h = absurd (omega arith)
-last l (suc k) n i p h = rw (drop-set l (suc k) (48 + n) i, digits_one k n h)
+-- digits that are copied to an array's end stand there from their start on
+pub at_end : (blank digits part text : List ℕ) → length blank ≡ 40 → length digits ≤ 40 → part ≡ digits → digits ≡ text
+    → text_of (record { bytes = put_mid (40 - length digits) (40 - (40 - length digits)) blank part; start = 40 - length digits }) ≡ text
+unfolding text_of
+at_end blank digits part text long few ep et =
+    let a : ℕ = 40 - length digits in
+    let nothing : drop (40 - a) (drop a blank) ≡ [] = drop_of_length-le (drop a blank) {i = 40 - a} (simp length-drop (omega arith)) in
+    drop_at (take a blank) (part ++ drop (40 - a) (drop a blank)) a (length-take-le a blank (omega arith)) ∙ rw (nothing, append-nil) (ep ∙ et)
 
 -- where a numeral starts: as many bytes before the array's end as the text has. What a slice from there on holds is the text
 module _ (r : Numeral) (text : List ℕ) (long : length r.bytes ≡ 40) (e : text_of r ≡ text) where

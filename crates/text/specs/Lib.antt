@@ -1,7 +1,6 @@
 pub mod Decimal
 pub mod Hex
 pub mod Append
-pub mod Tenth
 pub mod Page
 pub mod Draft
 pub mod Ascii

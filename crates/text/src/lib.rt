@@ -5,7 +5,6 @@ mod draft;
 mod hexadecimal;
 mod number;
 mod pieces;
-mod tenth;
 
 pub use draft::Draft;
 pub use hexadecimal::hex;

@@ -1,8 +1,8 @@
-// Numbers in decimal. There are no integers of 128 bits, so a number is two words: low + 2 ^ 64 * high.
-ghost use Rattle.std.specs.Prelude.{◌≡◌, ◌+◌, ◌*◌, ◌^◌};
+// Numbers in decimal. The digits are those of crate itoa.
+ghost use Rattle.std.specs.Prelude.{◌≡◌};
 ghost use Rattle.text.specs.Decimal.{decimal_of, signed_of, text_of};
 
-use crate::tenth::divided;
+use itoa::Buffer;
 
 // A number as text: the bytes from `start` on. The longest number has 39 digits, and one byte more leaves room for a sign.
 #[derive(Clone, Copy)]
@@ -11,37 +11,38 @@ pub struct Numeral {
     pub start: usize,
 }
 
-// Digits are had from the low end, so they are written from the array's end towards its front.
-#[tactic(auto, using(crate::proofs::NumeralLaws::digit_fits, crate::proofs::NumeralLaws::last, crate::proofs::NumeralLaws::more_high, crate::proofs::NumeralLaws::more_low, crate::proofs::NumeralLaws::one_left, crate::proofs::NumeralLaws::turn, crate::proofs::NumeralLaws::turn_less, crate::proofs::DecimalLaws::two_places, crate::proofs::NumeralLaws::words_fit), unfolding(crate::specs::Decimal::decimal_of, crate::specs::Decimal::text_of))]
-pub fn decimal(low: u64, high: u64) -> Numeral
-    ensures { text_of result ≡ decimal_of (low + 2 ^ 64 * high) }
-{
-    let mut bytes = [0u8; 40];
-    let mut at: usize = 39;
-    let mut rest_low = low;
-    let mut rest_high = high;
-    while 9 < rest_low || 0 < rest_high {
-        let t = divided(rest_low, rest_high);
-        bytes[at] = 48 + t.digit;
-        rest_low = t.low;
-        rest_high = t.high;
-        at -= 1;
+impl Numeral {
+    // The text; none where `start` lies beyond the array.
+    #[tactic(auto, unfolding(crate::specs::Decimal::text_of))]
+    pub fn as_slice(&self) -> &[u8]
+        ensures { result.now ≡ text_of self.now }
+    {
+        &self.bytes[self.start.min(40)..]
     }
-    bytes[at] = 48 + rest_low as u8;
-    Numeral { bytes, start: at }
+}
+
+#[tactic(auto, using(crate::proofs::DecimalLaws::decimal_std, crate::proofs::NumeralLaws::at_end))]
+pub fn decimal(n: u128) -> Numeral
+    ensures { text_of result ≡ decimal_of n }
+{
+    let mut buffer = Buffer::new();
+    let digits = buffer.format(n).as_bytes();
+    let mut bytes = [0u8; 40];
+    let start = bytes.len() - digits.len();
+    bytes[start..].copy_from_slice(digits);
+    Numeral { bytes, start }
 }
 
 // The number n - bias.
-#[tactic(auto, using(crate::proofs::NumeralLaws::minus, crate::proofs::NumeralLaws::not_negative, crate::proofs::NumeralLaws::one_word, crate::proofs::NumeralLaws::sign_place))]
+#[tactic(auto, using(crate::proofs::NumeralLaws::minus, crate::proofs::NumeralLaws::not_negative, crate::proofs::NumeralLaws::sign_place))]
 pub fn signed(n: u32, bias: u32) -> Numeral
     ensures { text_of result ≡ signed_of bias n }
 {
     if bias <= n {
-        return decimal((n - bias) as u64, 0);
+        return decimal(u128::from(n - bias));
     }
-    let size = decimal((bias - n) as u64, 0);
-    let mut bytes = size.bytes;
-    let at = size.start - 1;
-    bytes[at] = 45;
-    Numeral { bytes, start: at }
+    let mut value = decimal(u128::from(bias - n));
+    value.start -= 1;
+    value.bytes[value.start] = b'-';
+    value
 }

@@ -4,15 +4,12 @@ ghost use Rattle.text.specs.Append.{AppendedAs};
 ghost use Rattle.text.specs.Page.{page, written};
 
 // Lays the piece at the place, or leaves the buffer as it is where the piece does not fit.
+#[tactic(auto, using(crate::proofs::AppendLaws::copied, crate::proofs::AppendLaws::refused))]
 pub fn append(out: &mut [u8], at: usize, piece: &[u8]) -> bool
     ensures { AppendedAs out.old at piece.now result out.new }
 {
-    let len = out.len();
     // The room is a difference, since the sum of a place and a length can wrap.
-    if len < at {
-        return false;
-    }
-    if len - at < piece.len() {
+    if out.len() < at || out.len() - at < piece.len() {
         return false;
     }
     out[at..at + piece.len()].copy_from_slice(piece);
@@ -34,8 +31,5 @@ pub fn lay(out: &mut [u8], at: usize, piece: &[u8]) -> usize
 pub fn filled(out: &[u8], end: usize) -> &[u8]
     ensures { result.now ≡ take end out.now }
 {
-    if end < out.len() {
-        return &out[..end];
-    }
-    out
+    &out[..end.min(out.len())]
 }

@@ -2,8 +2,6 @@
 use Rattle.std.specs.Prelude.{Bool, true, false, ◌||◌, List, [], ◌∷◌, ◌≡◌, refl, ℕ, ◌+◌, ◌-◌, ◌^◌, ltb, leb}
 use Rattle.base.specs.Pick.{pick}
 use Rattle.timers.specs.declared.Clocks.{Clocks}
-use Rattle.timers.specs.declared.Firing.{Firing}
-use Rattle.timers.specs.declared.Firing.TheVariants.{Requested, Sent, Heard, InputReceived, Acted, ShuttingDown}
 
 -- a reading above its ceiling (C-11)
 abbrev pub bad_clock : ℕ → Bool
@@ -109,7 +107,21 @@ timed now resend report sends c =
       shutdown_timeout = c.shutdown_timeout;
     }
 
--- ---- which clocks a step that fires sets to a time; every other stays as it was
+-- ---- the steps that fire, and which clocks each sets to a time; every other stays as it was
+
+pub data Firing : Type 0 where
+  -- a request of the handshake goes out
+  Requested : Firing
+  -- a message goes out
+  Sent : Firing
+  -- a message was heard
+  Heard : Firing
+  -- an Input came whose reference is held
+  InputReceived : Firing
+  -- an act
+  Acted : (resend report sends : Bool) → Firing
+  -- a disconnect: the time is that of the shutdown
+  ShuttingDown : Firing
 
 abbrev pub fired_by : Firing → (at : ℕ) → Clocks → Clocks
 fired_by Requested at c = request_at at c

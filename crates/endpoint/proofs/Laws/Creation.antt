@@ -1,4 +1,5 @@
 -- What `new` refuses, and that what it makes is the endpoint of its setup.
+use Rattle.std.specs.Prelude.{Ok, Err}
 use mathlib.Core.Bool.{true, false}
 use mathlib.Core.List.{[], ◌∷◌}
 use mathlib.Core.Path.{◌≡◌, sym, ◌∙◌}
@@ -8,8 +9,8 @@ use Rattle.ceilings.specs.Ceilings.{most_players}
 use Rattle.frame.specs.Bias.{null_frame}
 use Rattle.answer.specs.Number.{number_of}
 use Rattle.answer.proofs.Number.{number_determines}
-use Rattle.answer.specs.declared.Answer.{Answer}
-use Rattle.answer.specs.declared.Answer.TheVariants.{Done, BadSetup, BadClock}
+use Rattle.answer.specs.Number.{Answered}
+use Rattle.answer.specs.declared.Refusal.TheVariants.{BadSetup, BadClock}
 use Rattle.packing.specs.Pad.{zeros}
 use Rattle.pending.specs.declared.Pending.{Pending}
 use Rattle.pending.specs.Pending.{waiting}
@@ -38,16 +39,16 @@ use Rattle.endpoint.specs.Endpoint.{seen}
 use Rattle.endpoint.specs.Made.{MadeAs}
 
 module _ (g : Setup) (now : ℕ) where
-  pub refused_clock : bad_clock now ≡ true → number_of BadClock ≡ (fresh g now).0
+  pub refused_clock : bad_clock now ≡ true → number_of (Err BadClock) ≡ (fresh g now).0
   unfolding fresh
   refused_clock h = rw h
 
   module _ (good : bad_clock now ≡ false) where
-    pub refused_setup : bad_setup g ≡ true → number_of BadSetup ≡ (fresh g now).0
+    pub refused_setup : bad_setup g ≡ true → number_of (Err BadSetup) ≡ (fresh g now).0
     unfolding fresh
     refused_setup h = rw (good, h)
 
-    pub not_refused : bad_setup g ≡ false → number_of Done ≡ (fresh g now).0
+    pub not_refused : bad_setup g ≡ false → number_of (Ok tt) ≡ (fresh g now).0
     unfolding fresh
     not_refused h = rw (good, h)
 
@@ -81,7 +82,7 @@ module _ (g : Setup) (now : ℕ) where
   unfolding seen made blank_frame zeros
   makes s p h n c q st cs ev es ep eh en ec eq est ecs eev = rw (es, ep, eh, en, ec, eq, est, ecs, eev)
 
-  pub made_as : (a : Answer) (e : Endpoint) → number_of a ≡ (fresh g now).0 → seen e ≡ made g now → e.setup.handles.count ≡ g.handles.count → e.statuses.count ≡ min g.num_players most_players
+  pub made_as : (a : Answered) (e : Endpoint) → number_of a ≡ (fresh g now).0 → seen e ≡ made g now → e.setup.handles.count ≡ g.handles.count → e.statuses.count ≡ min g.num_players most_players
       → MadeAs g now (record { answer = a; endpoint = e })
   unfolding fresh
   made_as a e ea ee handles count = record { answer = ea; made = ee; handles = handles; count = count }

@@ -1,11 +1,12 @@
 -- The ways out of `disconnect`.
+use Rattle.std.specs.Prelude.{Ok, Err}
 use borrow.Author.Tests.{leb-false}
 use native.Mathlib.Omega.{arith}
 use mathlib.Core.Bool.{true, false}
 use mathlib.Core.Path.{◌≡◌, refl}
 use Prim.Native.Nat.{ℕ, ◌+◌, ◌^◌, ◌<◌}
 use Rattle.timers.specs.Timers.{bad_clock, shutdown_at}
-use Rattle.answer.specs.declared.Answer.TheVariants.{Done, BadClock}
+use Rattle.answer.specs.declared.Refusal.TheVariants.{BadClock}
 use Rattle.timers.specs.declared.Clocks.{Clocks}
 use Rattle.endpoint_rules.specs.declared.Phase.TheVariants.{Disconnected}
 use Rattle.endpoint_rules.specs.Seen.{is_shutdown}
@@ -22,18 +23,18 @@ pub low : (now : ℕ) → bad_clock now ≡ false → now < 2 ^ 62
 low now h = omega (arith, leb-false (2 ^ 62) now h)
 
 module _ (e : Endpoint) (now : ℕ) where
-  pub disconnect_clock : bad_clock now ≡ true → DoneAs e (step (Call.disconnect now) (seen e)) (record { answer = BadClock; endpoint = e })
+  pub disconnect_clock : bad_clock now ≡ true → DoneAs e (step (Call.disconnect now) (seen e)) (record { answer = Err BadClock; endpoint = e })
   unfolding step disconnect_step tested
-  disconnect_clock h = refused-done e BadClock (disconnect_step now (seen e)) (rw h)
+  disconnect_clock h = refused-done e (Err BadClock) (disconnect_step now (seen e)) (rw h)
 
   module _ (good : bad_clock now ≡ false) where
-    pub disconnect_ignored : is_shutdown e.sync.phase ≡ true → DoneAs e (step (Call.disconnect now) (seen e)) (record { answer = Done; endpoint = e })
+    pub disconnect_ignored : is_shutdown e.sync.phase ≡ true → DoneAs e (step (Call.disconnect now) (seen e)) (record { answer = Ok tt; endpoint = e })
     unfolding step disconnect_step tested refused seen
-    disconnect_ignored h = refused-done e Done (disconnect_step now (seen e)) (rw (good, h))
+    disconnect_ignored h = refused-done e (Ok tt) (disconnect_step now (seen e)) (rw (good, h))
 
     -- c: what the code sets
     pub disconnect_done : (c : Clocks) → is_shutdown e.sync.phase ≡ false → c ≡ shutdown_at (now + 5000) e.clocks
-        → DoneAs e (step (Call.disconnect now) (seen e)) (record { answer = Done; endpoint = remade e e.pending e.acked e.history (in_phase Disconnected e.sync) e.nonces c e.flags e.quality e.statuses e.checksums e.events e.queued })
+        → DoneAs e (step (Call.disconnect now) (seen e)) (record { answer = Ok tt; endpoint = remade e e.pending e.acked e.history (in_phase Disconnected e.sync) e.nonces c e.flags e.quality e.statuses e.checksums e.events e.queued })
     unfolding step disconnect_step tested seen
     disconnect_done c h ec = rw (good, h, ec) (record { answer = refl; after = refl; terms = record { setup = refl; count = refl }; same = λ n. absurd (n refl) })
 

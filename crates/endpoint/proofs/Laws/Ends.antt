@@ -1,13 +1,15 @@
 -- How calls end: refused or ignored, where the very endpoint and buffer are given back; done with nothing queued, or with one message.
-use mathlib.Core.Bool.{true}
+use Rattle.std.specs.Prelude.{Ok, Err}
 use mathlib.Core.List.{List, [], ◌∷◌, ◌++◌, append-nil, flatten}
-use mathlib.Core.Path.{◌≡◌, refl, sym, ◌∙◌}
+use mathlib.Core.Path.{◌≡◌, refl, sym, ◌∙◌, ap}
+use Rattle.std.specs.Result.{IsErrAnd}
+use Rattle.std.proofs.lemmas.Result.{err_from_is_err_and}
+use Rattle.answer.specs.declared.Refusal.{Refusal}
 use native.Mathlib.Nat.{add-zero}
 use Prim.Native.Nat.{ℕ}
 use Rattle.base.proofs.Lay.{laid_none}
 use Rattle.answer.specs.Number.{number_of}
-use Rattle.answer.specs.declared.Answer.{Answer}
-use Rattle.answer.specs.declared.Answer.TheVariants.{Done}
+use Rattle.answer.specs.Number.{Answered}
 use Rattle.packing.specs.declared.input_bytes.InputBytes.{InputBytes}
 use Rattle.pending.specs.declared.Pending.{Pending}
 use Rattle.history.specs.declared.History.{History}
@@ -21,13 +23,16 @@ use Rattle.endpoint_rules.specs.declared.Flags.{Flags}
 use Rattle.endpoint_rules.specs.declared.Phase.{Phase}
 use Rattle.endpoint.specs.declared.Sync.{Sync}
 use Rattle.codec.specs.Message.{Wire}
-use Rattle.outbox.specs.declared.Queued.{Queued}
 use Rattle.outbox.specs.Outbox.{queue_size, QueuedAs}
 use Rattle.endpoint_rules.specs.Seen.{with_events, with_queued}
 use Rattle.endpoint_rules.specs.Did.{Did, Effect, refused, done}
 use Rattle.endpoint.specs.declared.Endpoint.{Endpoint}
 use Rattle.endpoint.specs.Endpoint.{seen, SameTerms, DidAs, DoneAs}
 use Rattle.endpoint.specs.Inside.Batch.{BatchWrittenAs}
+
+-- what `?` passes on is the refusal that it met
+pub passed_on : (r : Answered) (x : Refusal) → IsErrAnd r (λ y. y ≡ x) → r ≡ Err x
+passed_on r x h = let z = err_from_is_err_and r h in z.1 ∙ ap Err z.2
 
 -- the same in another phase
 abbrev pub in_phase : Phase → Sync → Sync
@@ -57,7 +62,7 @@ abbrev pub grown : Endpoint → Events → ℕ → Endpoint
 grown e events queued =
     remade e e.pending e.acked e.history e.sync e.nonces e.clocks e.flags e.quality e.statuses e.checksums events queued
 
-module _ (e : Endpoint) (a : Answer) (d : Did) (h : d ≡ refused (number_of a) (seen e)) where
+module _ (e : Endpoint) (a : Answered) (d : Did) (h : d ≡ refused (number_of a) (seen e)) where
   pub refused-done : DoneAs e d (record { answer = a; endpoint = e })
   unfolding refused
   refused-done = rw h (record { answer = refl; after = refl; terms = record { setup = refl; count = refl }; same = λ _. refl })
@@ -70,28 +75,28 @@ module _ (e : Endpoint) (a : Answer) (d : Did) (h : d ≡ refused (number_of a) 
 module _ (e : Endpoint) (n : Endpoint) (terms : SameTerms e n) (f : Effect) (d : Did) (h : d ≡ done f) where
   -- nothing is queued
   module _ (o : f.out ≡ []) (after : seen n ≡ with_events (f.state.events ++ f.events) f.state) where
-    pub done-done : DoneAs e d (record { answer = Done; endpoint = n })
+    pub done-done : DoneAs e d (record { answer = Ok tt; endpoint = n })
     unfolding done queue_size
     done-done = rw h (record { answer = refl; after = after ∙ rw (o, add-zero); terms = terms; same = λ x. absurd (x refl) })
 
   -- one message is
-  module _ (w : Wire) (o : f.out ≡ w ∷ []) (buffer buffer' : List ℕ) (q : Queued) (eq : QueuedAs buffer e.queued w q buffer') (ok : q.ok ≡ true) where
-    pub queued_did : f.state.queued ≡ e.queued → seen n ≡ with_events (f.state.events ++ f.events) (with_queued q.end f.state)
-        → DidAs e d buffer (record { answer = Done; endpoint = n }) buffer'
+  module _ (w : Wire) (o : f.out ≡ w ∷ []) (buffer buffer' : List ℕ) (q : ℕ) (eq : QueuedAs buffer e.queued w (Ok q) buffer') where
+    pub queued_did : f.state.queued ≡ e.queued → seen n ≡ with_events (f.state.events ++ f.events) (with_queued q f.state)
+        → DidAs e d buffer (record { answer = Ok tt; endpoint = n }) buffer'
     unfolding done queue_size flatten
     queued_did k after =
         rw h (record {
           answer = refl;
-          after = after ∙ rw (rw ok at eq.end, o, k, add-zero);
+          after = after ∙ rw (eq.end, o, k, add-zero);
           terms = terms;
-          lent = rw o ((rw ok at eq.lent) ∙ rw append-nil);
+          lent = rw o (eq.lent ∙ rw append-nil);
           same = λ x. absurd (x refl);
         })
 
 -- done, with several messages queued or none
 pub batch_did : (e n : Endpoint) → SameTerms e n → (f : Effect) (d : Did) (buffer buffer' : List ℕ) (stop : ℕ) → d ≡ done f → f.state.queued ≡ e.queued
     → BatchWrittenAs buffer e.queued f.out stop buffer' → seen n ≡ with_events (f.state.events ++ f.events) (with_queued stop f.state)
-    → DidAs e d buffer (record { answer = Done; endpoint = n }) buffer'
+    → DidAs e d buffer (record { answer = Ok tt; endpoint = n }) buffer'
 unfolding done
 batch_did e n terms f d buffer buffer' stop h k w after =
     rw h (record { answer = refl; after = after ∙ rw (w.end, k); terms = terms; lent = w.lent; same = λ x. absurd (x refl) })

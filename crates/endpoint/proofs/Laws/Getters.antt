@@ -1,4 +1,5 @@
 -- What each getter shows is the value of its call.
+use Rattle.std.specs.Prelude.{Result, Ok, Err}
 use borrow.Author.Tests.{le-leb, lt-leb}
 use mathlib.Core.Bool.{Bool, true, false, not, ◌||◌}
 use mathlib.Core.Path.{◌≡◌, refl, sym, ◌∙◌, ap}
@@ -7,7 +8,10 @@ use lib.Dec.{ltb, eqb}
 use lib.ListN.{length, take, get_or}
 use Rattle.base.proofs.Arrays.{take_count}
 use Rattle.answer.proofs.Number.{number_determines}
-use Rattle.answer.specs.declared.Answer.TheVariants.{BadClock, NotSynchronized, NotEnoughData}
+use Rattle.answer.specs.declared.Refusal.TheVariants.{BadHandle, BadClock, NotSynchronized, NotEnoughData}
+use Rattle.answer.specs.declared.Refusal.{Refusal}
+use Rattle.answer.specs.Number.{refusal_number}
+use Rattle.quality.specs.declared.NetworkStats.{NetworkStats}
 use Rattle.pending.specs.Pending.{waiting}
 use Rattle.history.specs.History.{received, newest_of}
 use Rattle.status.specs.declared.ConnectionStatus.{ConnectionStatus}
@@ -26,10 +30,6 @@ use Rattle.endpoint_rules.specs.Call.{Call, Question}
 use Rattle.endpoint_rules.specs.Step.{step, status_step, stats_step}
 use Rattle.endpoint_rules.specs.Value.{Value, value_of, synchronized_in}
 use Rattle.endpoint.specs.declared.Endpoint.{Endpoint}
-use Rattle.endpoint.specs.declared.getters.StatusResult.{StatusResult}
-use Rattle.endpoint.specs.declared.getters.StatusResult.TheVariants.{Status, BadHandle}
-use Rattle.endpoint.specs.declared.getters.StatsResult.{StatsResult}
-use Rattle.endpoint.specs.declared.getters.StatsResult.TheVariants.{Stats, Refused}
 use Rattle.endpoint.specs.Endpoint.{seen}
 use Rattle.endpoint.specs.Shown.{shown, HandlesAs, ChecksumsAs, shown_status, shown_stats}
 
@@ -67,32 +67,32 @@ module _ (e : Endpoint) where
       (ap Value.checksums same, h ∙ ap length (sym same))
 
   module _ (handle : ℕ) where
-    pub status_refused : e.setup.num_players ≤ handle → shown_status BadHandle ≡ shown (Call.peer_connect_status handle) (seen e)
+    pub status_refused : e.setup.num_players ≤ handle → shown_status (Err BadHandle) ≡ shown (Call.peer_connect_status handle) (seen e)
     unfolding shown step status_step tested refused seen terms_with
     status_refused h = rw (le-leb e.setup.num_players handle h)
 
     pub status_shown : handle < e.setup.num_players → (s : ConnectionStatus) → s ≡ get_or (held_statuses e.statuses) handle default_status
-        → shown_status (Status s) ≡ shown (Call.peer_connect_status handle) (seen e)
+        → shown_status (Ok s) ≡ shown (Call.peer_connect_status handle) (seen e)
     unfolding shown step status_step tested value_of seen terms_with
     status_shown h s es = rw (lt-leb e.setup.num_players handle h, es)
 
   module _ (epoch : ℕ) where
-    pub stats_clock : bad_clock epoch ≡ true → shown_stats (Refused BadClock) ≡ shown (Call.network_stats epoch) (seen e)
+    pub stats_clock : bad_clock epoch ≡ true → shown_stats (Err BadClock) ≡ shown (Call.network_stats epoch) (seen e)
     unfolding shown step stats_step tested refused
     stats_clock h = rw h
 
     module _ (good : bad_clock epoch ≡ false) where
-      pub stats_phase : not (is_synchronizing e.sync.phase || is_running e.sync.phase) ≡ true → shown_stats (Refused NotSynchronized) ≡ shown (Call.network_stats epoch) (seen e)
+      pub stats_phase : not (is_synchronizing e.sync.phase || is_running e.sync.phase) ≡ true → shown_stats (Err NotSynchronized) ≡ shown (Call.network_stats epoch) (seen e)
       unfolding shown step stats_step tested refused seen
       stats_phase h = rw (good, h)
 
       module _ (talks : not (is_synchronizing e.sync.phase || is_running e.sync.phase) ≡ false) where
-        pub stats_early : ltb (epoch - e.quality.stats_start_time) 1000 ≡ true → shown_stats (Refused NotEnoughData) ≡ shown (Call.network_stats epoch) (seen e)
+        pub stats_early : ltb (epoch - e.quality.stats_start_time) 1000 ≡ true → shown_stats (Err NotEnoughData) ≡ shown (Call.network_stats epoch) (seen e)
         unfolding shown step stats_step tested refused seen
         stats_early h = rw (good, talks, h)
 
         pub stats_shown : ltb (epoch - e.quality.stats_start_time) 1000 ≡ false → (n : ℕ) → n ≡ length (waiting e.pending)
-            → shown_stats (Stats (record {
+            → shown_stats (Ok (record {
               ping = e.quality.round_trip_time;
               send_queue_len = n;
               local_frames_behind = e.quality.local_frame_advantage;
@@ -104,17 +104,23 @@ module _ (e : Endpoint) where
 
 -- ---- two answers that a contract allows are equal: stores up to what their array holds past the count
 
-same_status : (r s : StatusResult) → shown_status r ≡ shown_status s → r ≡ s
-same_status (Status a) (Status b) h = let v : Value.status a ≡ Value.status b = ap (λ (t : ℕ × Value). t.1) h in cc
-same_status (Status a) BadHandle h = let v : Value.status a ≡ Value.nothing = ap (λ (t : ℕ × Value). t.1) h in cc
-same_status BadHandle (Status b) h = let v : Value.nothing ≡ Value.status b = ap (λ (t : ℕ × Value). t.1) h in cc
-same_status BadHandle BadHandle h = refl
+-- two answers that show the same, f: how a value that is given is shown
+same_shown : {A : Type 0} (f : A → Value) (other : (a : A) → f a ≡ Value.nothing → ⊥) (one : (a b : A) → f a ≡ f b → a ≡ b)
+    (shows : Result A Refusal → ℕ × Value) → ((a : A) → shows (Ok a) ≡ (0, f a)) → ((r : Refusal) → shows (Err r) ≡ (refusal_number r, Value.nothing))
+    → (r s : Result A Refusal) → shows r ≡ shows s → r ≡ s
+same_shown f other one shows ok err (Ok a) (Ok b) h = ap Ok (one a b (ap (λ (t : ℕ × Value). t.1) (sym (ok a) ∙ h ∙ ok b)))
+same_shown f other one shows ok err (Ok a) (Err b) h = absurd (other a (ap (λ (t : ℕ × Value). t.1) (sym (ok a) ∙ h ∙ err b)))
+same_shown f other one shows ok err (Err a) (Ok b) h = absurd (other b (sym (ap (λ (t : ℕ × Value). t.1) (sym (err a) ∙ h ∙ ok b))))
+same_shown f other one shows ok err (Err a) (Err b) h =
+    let n = number_determines (Err a) (Err b) (ap (λ (t : ℕ × Value). t.0) (sym (err a) ∙ h ∙ err b)) in
+    let same : a ≡ b = cc in
+    ap Err same
 
-same_stats : (r s : StatsResult) → shown_stats r ≡ shown_stats s → r ≡ s
-same_stats (Stats a) (Stats b) h = let v : Value.stats a ≡ Value.stats b = ap (λ (t : ℕ × Value). t.1) h in cc
-same_stats (Stats a) (Refused b) h = let v : Value.stats a ≡ Value.nothing = ap (λ (t : ℕ × Value). t.1) h in cc
-same_stats (Refused a) (Stats b) h = let v : Value.nothing ≡ Value.stats b = ap (λ (t : ℕ × Value). t.1) h in cc
-same_stats (Refused a) (Refused b) h = ap Refused (number_determines a b (ap (λ (t : ℕ × Value). t.0) h))
+same_status : (r s : Result ConnectionStatus Refusal) → shown_status r ≡ shown_status s → r ≡ s
+same_status = same_shown Value.status (λ a h. cc) (λ a b h. cc) shown_status (λ a. refl) (λ r. refl)
+
+same_stats : (r s : Result NetworkStats Refusal) → shown_stats r ≡ shown_stats s → r ≡ s
+same_stats = same_shown Value.stats (λ a h. cc) (λ a b h. cc) shown_stats (λ a. refl) (λ r. refl)
 
 module _ (e : Endpoint) where
   pub handles_settled : (r s : Handles) → HandlesAs (seen e) r → HandlesAs (seen e) s → (handle_list r ≡ handle_list s) × (r.count ≡ s.count)
@@ -140,8 +146,8 @@ module _ (e : Endpoint) where
       let same : stored r ≡ stored s = let n : Value.checksums (stored r) ≡ Value.checksums (stored s) = a.0 ∙ sym b.0 in cc in
       (same, a.1 ∙ ap length same ∙ sym b.1)
 
-  pub peer_connect_status_settled : (handle : ℕ) (r s : StatusResult) → shown_status r ≡ shown (Call.peer_connect_status handle) (seen e) → shown_status s ≡ shown (Call.peer_connect_status handle) (seen e) → r ≡ s
+  pub peer_connect_status_settled : (handle : ℕ) (r s : Result ConnectionStatus Refusal) → shown_status r ≡ shown (Call.peer_connect_status handle) (seen e) → shown_status s ≡ shown (Call.peer_connect_status handle) (seen e) → r ≡ s
   peer_connect_status_settled handle r s a b = same_status r s (a ∙ sym b)
 
-  pub network_stats_settled : (epoch : ℕ) (r s : StatsResult) → shown_stats r ≡ shown (Call.network_stats epoch) (seen e) → shown_stats s ≡ shown (Call.network_stats epoch) (seen e) → r ≡ s
+  pub network_stats_settled : (epoch : ℕ) (r s : Result NetworkStats Refusal) → shown_stats r ≡ shown (Call.network_stats epoch) (seen e) → shown_stats s ≡ shown (Call.network_stats epoch) (seen e) → r ≡ s
   network_stats_settled epoch r s a b = same_stats r s (a ∙ sym b)

@@ -23,9 +23,9 @@ events_long e vs h = search (unmap, rules)
 pub entries_long : (e : Endpoint) (vs : List Val) → shadow ((Endpoint.the_field).row.own_val ((Endpoint.the_type).to e) vs) → length e.events.entries ≡ 640
 entries_long e vs h = events_long e.events _ h.1.1.1.1.1.1.1.1.1.1.1.1.1.0
 
-pub no_event_fits : (e : Endpoint) (vs : List Val) → shadow ((Endpoint.the_field).row.own_val ((Endpoint.the_type).to e) vs) → has_room (held_events e.events) 0 ≡ true
+pub no_event_fits : (e : Endpoint) → length e.events.entries ≡ 640 → has_room (held_events e.events) 0 ≡ true
 unfolding has_room held_events
-no_event_fits e vs h = le-leb (length (held_events e.events) + 0) 640 (omega (arith, entries_long e vs h, view_le e.events.used e.events.entries))
+no_event_fits e h = le-leb (length (held_events e.events) + 0) 640 (omega (arith, h, view_le e.events.used e.events.entries))
 
 pub acked_long : (e : Endpoint) (vs : List Val) → shadow ((Endpoint.the_field).row.own_val ((Endpoint.the_type).to e) vs) → length e.acked.bytes ≡ 64
 acked_long e vs h = search rules

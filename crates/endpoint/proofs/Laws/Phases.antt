@@ -7,7 +7,7 @@ use denote.Enum.Declared.{tag_of}
 use Rattle.base.proofs.Tags.{none_of}
 use Rattle.endpoint_rules.specs.declared.Phase.{Phase}
 use Rattle.endpoint_rules.specs.declared.Phase.TheVariants.{Initializing, Synchronizing, Running, Disconnected, Shutdown}
-use Rattle.endpoint_rules.specs.Seen.{is_initializing, is_synchronizing, is_running, is_disconnected, is_shutdown}
+use Rattle.endpoint_rules.specs.Seen.{is_initializing, is_running, is_shutdown}
 use Rattle.endpoint_rules.specs.contracts.Phase.{the_type}
 
 pub not_initializing : (p : Phase) → OneOf (1 ∷ 2 ∷ 3 ∷ 4 ∷ []) (tag_of the_type p) → is_initializing p ≡ false
@@ -16,13 +16,6 @@ not_initializing Synchronizing h = refl
 not_initializing Running h = refl
 not_initializing Disconnected h = refl
 not_initializing Shutdown h = refl
-
-pub not_synchronizing : (p : Phase) → OneOf (0 ∷ 2 ∷ 3 ∷ 4 ∷ []) (tag_of the_type p) → is_synchronizing p ≡ false
-not_synchronizing Initializing h = refl
-not_synchronizing Synchronizing h = absurd (none_of (0 ∷ 2 ∷ 3 ∷ 4 ∷ []) 1 tt h)
-not_synchronizing Running h = refl
-not_synchronizing Disconnected h = refl
-not_synchronizing Shutdown h = refl
 
 pub not_running : (p : Phase) → OneOf (0 ∷ 1 ∷ 3 ∷ 4 ∷ []) (tag_of the_type p) → is_running p ≡ false
 not_running Initializing h = refl
@@ -37,10 +30,3 @@ not_shutdown Synchronizing h = refl
 not_shutdown Running h = refl
 not_shutdown Disconnected h = refl
 not_shutdown Shutdown h = absurd (none_of (0 ∷ 1 ∷ 2 ∷ 3 ∷ []) 4 tt h)
-
-pub not_disconnected : (p : Phase) → OneOf (0 ∷ 1 ∷ 2 ∷ 4 ∷ []) (tag_of the_type p) → is_disconnected p ≡ false
-not_disconnected Initializing h = refl
-not_disconnected Synchronizing h = refl
-not_disconnected Running h = refl
-not_disconnected Disconnected h = absurd (none_of (0 ∷ 1 ∷ 2 ∷ 4 ∷ []) 3 tt h)
-not_disconnected Shutdown h = refl

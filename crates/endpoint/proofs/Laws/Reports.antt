@@ -1,18 +1,19 @@
 -- The ways out of `send_checksum_report` and of `update_local_frame_advantage`.
-use borrow.Author.Tests.{eq-eqb, ne_eqb, not-true, not-false}
+use borrow.Author.Tests.{eq-eqb, ne_eqb}
 use mathlib.Core.Bool.{Bool, true, false, and-false}
-use mathlib.Core.Path.{◌≡◌, refl, ap, sym, ◌∙◌}
+use mathlib.Core.Path.{◌≡◌, refl, ap}
 use native.Mathlib.Omega.{arith}
 use Prim.Native.Nat.{ℕ}
 use mathlib.Core.List.{List, append-nil}
 use lib.ListN.{length}
 use Rattle.base.specs.Pick.{pick}
-use Rattle.answer.specs.declared.Answer.{Answer}
+use Rattle.answer.specs.Number.{Answered}
 use Rattle.frame.specs.Bias.{null_frame}
 use Rattle.setup.specs.Setup.{terms_with}
 use Rattle.history.specs.History.{received, newest_of}
 use Rattle.quality.specs.declared.Quality.{Quality}
-use Rattle.quality.specs.declared.Advantage.TheVariants.{Frames, Overflow}
+use Rattle.answer.proofs.Number.{number_determines}
+use Rattle.answer.proofs.Refused.{not_done}
 use Rattle.quality.specs.Quality.{local_set}
 use Rattle.quality.specs.Advantage.{advantage_of, advantage_overflows, shown_advantage}
 use Rattle.endpoint_rules.specs.Did.{Did, refused, tested, Effect, begin, queue_wire}
@@ -30,7 +31,8 @@ use Rattle.codec.specs.declared.MessageBody.TheVariants.{ChecksumReport}
 use Rattle.timers.specs.declared.Clocks.{Clocks}
 use Rattle.timers.specs.Timers.{bad_clock, sent_at}
 use Rattle.events.specs.Events.{held_events, has_room}
-use Rattle.outbox.specs.declared.Queued.{Queued}
+use Rattle.answer.specs.declared.Refusal.{Refusal}
+use Rattle.std.specs.Prelude.{Ok, Err}
 use Rattle.outbox.specs.Outbox.{QueuedAs}
 use Rattle.endpoint_rules.specs.Checksum.{checksum_sent}
 use Rattle.endpoint.proofs.Laws.Room.{full_buffer, room_one}
@@ -41,30 +43,31 @@ module _ (e : Endpoint) (buffer : List ℕ) (frame : ℕ) (checksum : Wide) (now
   abbrev Sent : Did
   Sent = step (Call.send_checksum_report frame checksum now (length buffer)) (seen e)
 
-  abbrev Sends : Endpoint → Answer → List ℕ → Type 0
+  abbrev Sends : Endpoint → Answered → List ℕ → Type 0
   Sends n a b' = DidAs e Sent buffer (record { answer = a; endpoint = n }) b'
 
   abbrev Sending : Effect
   Sending = checksum_sent now frame checksum (begin (seen e))
 
-  pub send_checksum_clock : bad_clock now ≡ true → Sends e Answer.BadClock buffer
+  pub send_checksum_clock : bad_clock now ≡ true → Sends e (Err Refusal.BadClock) buffer
   unfolding step checksum_step tested
-  send_checksum_clock h = refused_did e Answer.BadClock (checksum_step frame checksum now (length buffer) (seen e)) (rw h) buffer
+  send_checksum_clock h = refused_did e (Err Refusal.BadClock) (checksum_step frame checksum now (length buffer) (seen e)) (rw h) buffer
 
-  module _ (good : bad_clock now ≡ false) (q : Queued) (b' : List ℕ) (eq : QueuedAs buffer e.queued (body_only e.setup.magic (ChecksumReport checksum frame)) q b') where
-    pub send_checksum_full : q.ok ≡ false → Sends e Answer.Full b'
+  module _ (good : bad_clock now ≡ false) (b' : List ℕ) where
+    pub send_checksum_full : (r : Refusal) → QueuedAs buffer e.queued (body_only e.setup.magic (ChecksumReport checksum frame)) (Err r) b' → Sends e (Err r) b'
     unfolding step checksum_step tested checksum_sent queue_wire seen terms_with
-    send_checksum_full k =
-        rw (rw k at eq.lent)
-        (refused_did e Answer.Full (checksum_step frame checksum now (length buffer) (seen e)) (rw (good, full_buffer buffer Sending _ (omega arith) refl (not-false _ (sym eq.ok ∙ k)))) buffer)
+    send_checksum_full r eq =
+        let x = eq in
+        rw (x.1, x.2)
+        (refused_did e (Err Refusal.Full) (checksum_step frame checksum now (length buffer) (seen e)) (rw (good, full_buffer buffer Sending _ (omega arith) refl x.0)) buffer)
 
-    pub send_checksum_done : (c : Clocks) → has_room (held_events e.events) 0 ≡ true → q.ok ≡ true → c ≡ sent_at now e.clocks
-        → Sends (remade e e.pending e.acked e.history e.sync e.nonces c e.flags e.quality e.statuses e.checksums e.events q.end) Answer.Done b'
+    pub send_checksum_done : (q : ℕ) → QueuedAs buffer e.queued (body_only e.setup.magic (ChecksumReport checksum frame)) (Ok q) b' → (c : Clocks) → has_room (held_events e.events) 0 ≡ true → c ≡ sent_at now e.clocks
+        → Sends (remade e e.pending e.acked e.history e.sync e.nonces c e.flags e.quality e.statuses e.checksums e.events q) (Ok tt) b'
     unfolding step checksum_step tested checksum_sent queue_wire seen terms_with
-    send_checksum_done c room ok ec =
+    send_checksum_done q eq c room ec =
         queued_did e _ (record { setup = refl; count = refl }) Sending (checksum_step frame checksum now (length buffer) (seen e))
-        (rw (good, room_one buffer Sending _ (omega arith) refl room (not-true _ (sym eq.ok ∙ ok))))
-        _ refl buffer b' q eq ok refl (rw (ec, append-nil))
+        (rw (good, room_one buffer Sending _ (omega arith) refl room eq.room))
+        _ refl buffer b' q eq refl (rw (ec, append-nil))
 
   pub send_checksum_report_settled : (r s : Ended) (b c : List ℕ) → DidAs e Sent buffer r b → DidAs e Sent buffer s c
       → (r.answer ≡ s.answer) × (seen r.endpoint ≡ seen s.endpoint) × SameTerms r.endpoint s.endpoint × (b ≡ c)
@@ -76,9 +79,9 @@ module _ (e : Endpoint) (buffer : List ℕ) (frame : ℕ) (checksum : Wide) (now
 abbrev Shown : Bool → ℕ → ℕ × ℕ
 Shown overflows n = pick overflows (6, 0) (0, n)
 
-shown_overflow : (b : Bool) (n : ℕ) → (6, 0) ≡ Shown b n → b ≡ true
-shown_overflow true n e = refl
-shown_overflow false n e = absurd (omega (arith, ap (λ (x : ℕ × ℕ). x.0) e))
+shown_overflow : (b : Bool) (n : ℕ) (r : Refusal) → shown_advantage (Err r) ≡ Shown b n → (b ≡ true) × (r ≡ Refusal.Overflow)
+shown_overflow true n r e = (refl, let same = number_determines (Err r) (Err Refusal.Overflow) (ap (λ (x : ℕ × ℕ). x.0) e) in cc)
+shown_overflow false n r e = absurd (not_done r (ap (λ (x : ℕ × ℕ). x.0) e))
 
 shown_frames : (b : Bool) (n m : ℕ) → (0, m) ≡ Shown b n → (b ≡ false) × (m ≡ n)
 shown_frames true n m e = absurd (omega (arith, ap (λ (x : ℕ × ℕ). x.0) e))
@@ -88,22 +91,22 @@ module _ (e : Endpoint) (frame : ℕ) where
   abbrev Advanced : Did
   Advanced = step (Call.update_local_frame_advantage frame) (seen e)
 
-  abbrev Advances : Endpoint → Answer → Type 0
+  abbrev Advances : Endpoint → Answered → Type 0
   Advances n a = DoneAs e Advanced (record { answer = a; endpoint = n })
 
   pub update_local_frame_advantage_settled : (r s : Ended) → DoneAs e Advanced r → DoneAs e Advanced s
       → (r.answer ≡ s.answer) × (seen r.endpoint ≡ seen s.endpoint) × SameTerms r.endpoint s.endpoint
   update_local_frame_advantage_settled = done_settled e Advanced
 
-  unknown : both_known frame (seen e) ≡ false → Advances e Answer.Done
+  unknown : both_known frame (seen e) ≡ false → Advances e (Ok tt)
   unfolding step advantage_step advantage_updated tested refused
-  unknown h = refused-done e Answer.Done (advantage_step frame (seen e)) (rw h)
+  unknown h = refused-done e (Ok tt) (advantage_step frame (seen e)) (rw h)
 
-  pub local_unknown : frame ≡ null_frame → Advances e Answer.Done
+  pub local_unknown : frame ≡ null_frame → Advances e (Ok tt)
   local_unknown h = unknown (rw (eq-eqb frame null_frame h))
 
   module _ (newest : ℕ) (en : newest ≡ newest_of (received e.history)) where
-    pub newest_unknown : newest ≡ null_frame → Advances e Answer.Done
+    pub newest_unknown : newest ≡ null_frame → Advances e (Ok tt)
     unfolding seen
     newest_unknown h = unknown (rw (← en, eq-eqb newest null_frame h, and-false))
 
@@ -114,13 +117,14 @@ module _ (e : Endpoint) (frame : ℕ) where
       abbrev Behind : ℕ
       Behind = advantage_of newest e.quality.round_trip_time e.setup.fps frame
 
-      pub advantage-overflows : shown_advantage Overflow ≡ Shown Overflows Behind → Advances e Answer.Overflow
+      pub advantage-overflows : (r : Refusal) → shown_advantage (Err r) ≡ Shown Overflows Behind → Advances e (Err r)
       unfolding step advantage_step tested seen terms_with
-      advantage-overflows h =
-          refused-done e Answer.Overflow (advantage_step frame (seen e)) (rw (← en, ne_eqb frame null_frame known, ne_eqb newest null_frame some, shown_overflow Overflows Behind h))
+      advantage-overflows r h =
+          let x = shown_overflow Overflows Behind r h in
+          rw x.1 (refused-done e (Err Refusal.Overflow) (advantage_step frame (seen e)) (rw (← en, ne_eqb frame null_frame known, ne_eqb newest null_frame some, x.0)))
 
-      pub advantage-shown : (m : ℕ) (y : Quality) → shown_advantage (Frames m) ≡ Shown Overflows Behind → y ≡ local_set m e.quality
-          → Advances (remade e e.pending e.acked e.history e.sync e.nonces e.clocks e.flags y e.statuses e.checksums e.events e.queued) Answer.Done
+      pub advantage-shown : (m : ℕ) (y : Quality) → shown_advantage (Ok m) ≡ Shown Overflows Behind → y ≡ local_set m e.quality
+          → Advances (remade e e.pending e.acked e.history e.sync e.nonces e.clocks e.flags y e.statuses e.checksums e.events e.queued) (Ok tt)
       unfolding step advantage_step advantage_updated local_advantage tested seen terms_with
       advantage-shown m y h ey =
           rw (← en, ne_eqb frame null_frame known, ne_eqb newest null_frame some, (shown_frames Overflows Behind m h).0, ey, (shown_frames Overflows Behind m h).1)

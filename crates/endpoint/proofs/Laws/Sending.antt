@@ -1,17 +1,17 @@
 -- The ways out of `send_input`.
+use Rattle.std.specs.Prelude.{Ok, Err}
 use borrow.Author.Tests.{not-false, eqb-true, lt-ltb, le-ltb, le-leb, lt-leb, eqb-false, eq-eqb, ne_eqb}
 use mathlib.Core.Bool.{Bool, true, false, not, ◌||◌, ◌&&◌}
 use mathlib.Core.List.{List, [], ◌∷◌, ◌++◌}
 use mathlib.Core.Path.{◌≡◌, refl, sym, ◌∙◌}
-use native.Mathlib.Nat.{add-zero}
 use Prim.Native.Nat.{ℕ, suc, ◌-◌, ◌≤◌, ◌<◌}
 use lib.Dec.{leb, eqb}
 use lib.ListN.{length, take, drop, replicate}
 use lib.Seq.{take-length}
 use Rattle.base.specs.Pick.{pick}
 use Rattle.base.proofs.Bools.{neither}
-use Rattle.answer.specs.declared.Answer.{Answer}
-use Rattle.answer.specs.declared.Answer.TheVariants.{Done, BadLength, BadFrame, Full, BadClock}
+use Rattle.answer.specs.Number.{Answered}
+use Rattle.answer.specs.declared.Refusal.TheVariants.{BadLength, BadFrame, Full, BadClock}
 use Rattle.packing.specs.Packing.{xors}
 use Rattle.packing.specs.Pad.{padded}
 use Rattle.packing.proofs.Pads.{padded_plain}
@@ -32,20 +32,20 @@ use Rattle.setup.specs.Setup.{terms_of, terms_with, sending_width}
 use Rattle.timers.specs.declared.Clocks.{Clocks}
 use Rattle.timers.specs.Timers as Timers
 use Rattle.timers.specs.Timers.{bad_clock}
-use Rattle.outbox.specs.declared.Queued.{Queued}
-use Rattle.outbox.specs.Outbox.{queue_size, pending_input, QueuedAs, InputSizedAs}
+use Rattle.codec.specs.Message.{Wire, table_size}
+use Rattle.answer.specs.declared.Refusal.{Refusal}
+use Rattle.outbox.specs.Outbox.{pending_input, QueuedAs}
 use Rattle.endpoint_rules.specs.Seen.{Seen, is_running, sent_at}
 use Rattle.endpoint_rules.specs.Did.{Did, Effect, refused, tested, begin, change, queue_wire, announce_event, done}
-use Rattle.endpoint_rules.specs.Room.{is_full, buffer_full}
+use Rattle.endpoint_rules.specs.Room.{is_full}
 use Rattle.endpoint_rules.specs.Sending.{bad_statuses, bad_bytes, bad_after, bad_frame, accepted, announces_most, input_sent, pending_in, pending_queued, queue_pending}
 use Rattle.endpoint_rules.specs.Call.{Call}
 use Rattle.endpoint_rules.specs.Step.{step, send_step}
 use Rattle.endpoint.specs.declared.Endpoint.{Endpoint}
 use Rattle.endpoint.specs.declared.Ended.{Ended}
 use Rattle.endpoint.specs.Endpoint.{seen, SameTerms, DidAs}
-use Rattle.endpoint.proofs.Laws.Room.{crowded, roomy, full_events, full_bytes, room-bytes}
-use Rattle.endpoint.proofs.Laws.Ends.{remade, refused_did, batch_did}
-use Rattle.endpoint.proofs.Laws.Act.Batch.{written_one}
+use Rattle.endpoint.proofs.Laws.Room.{crowded, roomy, full_events, full_buffer, room_one}
+use Rattle.endpoint.proofs.Laws.Ends.{remade, refused_did, queued_did}
 use Rattle.endpoint.proofs.Laws.Announced.{with_events_of, AnnouncedAs, announced_all_lem, announced_nothing}
 use Rattle.endpoint.proofs.Laws.Settled.{did_settled}
 use native.Mathlib.Omega.{arith}
@@ -101,7 +101,7 @@ module _ (e : Endpoint) (frame : ℕ) (bytes : List ℕ) (st : Statuses) (now : 
   abbrev Does : Did
   Does = step (Call.send_input frame bytes st.count (held_statuses st) now (length buffer)) (seen e)
 
-  abbrev Sends : Endpoint → Answer → List ℕ → Type 0
+  abbrev Sends : Endpoint → Answered → List ℕ → Type 0
   Sends n a b' = DidAs e Does buffer (record { answer = a; endpoint = n }) b'
 
   abbrev taken : InputBytes
@@ -113,9 +113,9 @@ module _ (e : Endpoint) (frame : ℕ) (bytes : List ℕ) (st : Statuses) (now : 
   abbrev Sending : Effect
   Sending = Sent now frame bytes (held_statuses st) (seen e) (announced_with (before ++ taken ∷ []))
 
-  pub send_clock : bad_clock now ≡ true → Sends e BadClock buffer
+  pub send_clock : bad_clock now ≡ true → Sends e (Err BadClock) buffer
   unfolding step send_step tested
-  send_clock h = refused_did e BadClock _ (rw h) buffer
+  send_clock h = refused_did e (Err BadClock) _ (rw h) buffer
 
   -- w: the width that the code has
   module _ (good : bad_clock now ≡ false) (w : ℕ) (ew : w ≡ sending_width (terms_of e.setup)) where
@@ -126,41 +126,41 @@ module _ (e : Endpoint) (frame : ℕ) (bytes : List ℕ) (st : Statuses) (now : 
     unfolding seen terms_with
     same_tests = rw ew
 
-    pub send_length : wrong ≡ true → Sends e BadLength buffer
+    pub send_length : wrong ≡ true → Sends e (Err BadLength) buffer
     unfolding step send_step tested
-    send_length h = refused_did e BadLength _ (rw (good, same_tests, h)) buffer
+    send_length h = refused_did e (Err BadLength) _ (rw (good, same_tests, h)) buffer
 
     module _ (right : wrong ≡ false) where
       wide : length bytes ≡ w
       wide = eqb-true (length bytes) w (not-false (eqb (length bytes) w) (neither (not (eqb st.count e.setup.num_players)) _ right).1)
 
       -- the clock is good and the lengths are right, as the modules around say: then outside Running it is ignored
-      pub send_ignored : is_running e.sync.phase ≡ false → Sends e Done buffer
+      pub send_ignored : is_running e.sync.phase ≡ false → Sends e (Ok tt) buffer
       unfolding step send_step tested refused seen
-      send_ignored h = refused_did e Done _ (rw (good, same_tests ∙ right, h)) buffer
+      send_ignored h = refused_did e (Ok tt) _ (rw (good, same_tests ∙ right, h)) buffer
 
       module _ (running : is_running e.sync.phase ≡ true) where
         -- what the code makes: the input, the store with it
         module _ (b : List ℕ) (eb : b ≡ padded (xors (take w (drop 0 bytes)) (replicate 64 0))) (p : Pushed) (ep : PushedAs e.pending (record { frame = frame; bytes = b }) e.acked.frame p) where
-          pub send_frame : bad_after p.last frame ≡ true → Sends e BadFrame buffer
+          pub send_frame : bad_after p.last frame ≡ true → Sends e (Err BadFrame) buffer
           unfolding step send_step tested seen bad_frame
-          send_frame h = refused_did e BadFrame _ (rw (good, same_tests ∙ right, running, ← ep.last, h)) buffer
+          send_frame h = refused_did e (Err BadFrame) _ (rw (good, same_tests ∙ right, running, ← ep.last, h)) buffer
 
           module _ (follows : bad_after p.last frame ≡ false) where
             next : bad_after (last_frame e.acked.frame before) frame ≡ false
             next = rw (← ep.last) follows
 
-            send_full : room before ≡ true → is_full (length buffer) Sending ≡ true → Sends e Full buffer
+            send_full : room before ≡ true → is_full (length buffer) Sending ≡ true → Sends e (Err Full) buffer
             unfolding step send_step tested seen bad_frame
-            send_full k h = refused_did e Full _ (rw (good, same_tests ∙ right, running, next, k, sends now frame bytes (held_statuses st) (seen e), h)) buffer
+            send_full k h = refused_did e (Err Full) _ (rw (good, same_tests ∙ right, running, next, k, sends now frame bytes (held_statuses st) (seen e), h)) buffer
 
             send_fits : room before ≡ true → is_full (length buffer) Sending ≡ false → Does ≡ done Sending
             unfolding step send_step tested seen bad_frame
             send_fits k h = rw (good, same_tests ∙ right, running, next, k, sends now frame bytes (held_statuses st) (seen e), h)
 
-            pub send_crowded : p.ok ≡ false → Sends e Full buffer
+            pub send_crowded : p.ok ≡ false → Sends e (Err Full) buffer
             unfolding step send_step tested seen bad_frame
-            send_crowded k = refused_did e Full _ (rw (good, same_tests ∙ right, running, next, sym ep.ok ∙ k)) buffer
+            send_crowded k = refused_did e (Err Full) _ (rw (good, same_tests ∙ right, running, next, sym ep.ok ∙ k)) buffer
 
             module _ (ok : p.ok ≡ true) (n : ℕ) (en : n ≡ length (waiting p.pending)) where
               pends : waiting p.pending ≡ before ++ taken ∷ []
@@ -170,33 +170,39 @@ module _ (e : Endpoint) (frame : ℕ) (bytes : List ℕ) (st : Statuses) (now : 
               announcing : announced_if (leb 129 n) ≡ announced_with (before ++ taken ∷ [])
               announcing = rw (en, pends)
 
-              pub send_unannounced : (m : ℕ) → m ≡ length (held_events e.events) → (leb 129 n && leb 640 m) ≡ true → Sends e Full buffer
+              pub send_unannounced : (m : ℕ) → m ≡ length (held_events e.events) → (leb 129 n && leb 640 m) ≡ true → Sends e (Err Full) buffer
               unfolding seen accepted
               send_unannounced m em k = send_full (sym ep.ok ∙ ok) (full_events buffer Sending (rw (← announcing) (sym (crowded e.events disconnection m em (leb 129 n) k).ok)))
 
-              -- size: the bytes that the Input takes, f: whether they have no room
-              module _ (size : ℕ) (sized : InputSizedAs (held_statuses st) (waiting p.pending) w size) (long : length e.acked.bytes ≡ 64) (f : Bool)
-                  (ef : f ≡ buffer_full (length buffer) e.queued size) where
-                whole : queue_size Sending.out ≡ size
-                unfolding seen accepted terms_with queue_size
-                whole = rw (← ew, ← pends, add-zero, sized.sized e.setup.magic (newest_of (received e.history)) e.acked long)
+              -- b': the buffer with the Input
+              module _ (newest : ℕ) (nn : newest ≡ newest_of (received e.history)) (b' : List ℕ) where
+                -- the Input of all that pends then
+                abbrev Whole : Wire
+                Whole = pending_input e.setup.magic newest (held_statuses st) (waiting p.pending) w e.acked
 
-                pub send_choked : f ≡ true → Sends e Full buffer
+                whole : Sending.out ≡ Whole ∷ []
+                unfolding seen accepted terms_with
+                whole = rw (← ew, ← pends, nn)
+
+                some : 0 < table_size Whole
+                unfolding pending_input
+                some = omega arith
+
+                pub send_choked : (r : Refusal) → QueuedAs buffer e.queued Whole (Err r) b' → Sends e (Err r) b'
                 unfolding seen accepted
-                send_choked k = send_full (sym ep.ok ∙ ok) (full_bytes buffer Sending (rw (whole, ← ef, k)))
+                send_choked r eq =
+                    let x = eq in
+                    rw (x.1, x.2) (send_full (sym ep.ok ∙ ok) (full_buffer buffer Sending Whole some whole x.0))
 
                 -- s: e after what is announced
-                pub send_done : f ≡ false → (s : Endpoint) → Announcing e n s → (a : ℕ) → a ≡ newest_of (received s.history) → (q : Queued) (b' : List ℕ)
-                    → QueuedAs buffer s.queued (pending_input s.setup.magic a (held_statuses st) (waiting p.pending) w e.acked) q b'
-                    → (c : Clocks) → c ≡ Timers.sent_at now s.clocks
-                    → Sends (remade s p.pending s.acked s.history s.sync s.nonces c s.flags s.quality s.statuses s.checksums s.events q.end) Done b'
+                pub send_done : (q : ℕ) → QueuedAs buffer e.queued Whole (Ok q) b' → (s : Endpoint) → Announcing e n s → (c : Clocks) → c ≡ Timers.sent_at now s.clocks
+                    → Sends (remade s p.pending s.acked s.history s.sync s.nonces c s.flags s.quality s.statuses s.checksums s.events q) (Ok tt) b'
                 unfolding seen accepted terms_with
-                send_done k s es =
-                    let fit : buffer_full (length buffer) e.queued (queue_size Sending.out) ≡ false = rw (whole, ← ef, k) in
-                    rw es.rest (λ a ea q b' eq c ec.
-                    batch_did e _ (record { setup = refl; count = refl }) Sending Does buffer b' q.end
-                    (send_fits (sym ep.ok ∙ ok) (room-bytes buffer Sending (rw (← announcing) es.room) fit))
-                    refl (written_one buffer e.queued _ q b' (rw (ea, ew, pends) at eq) fit) (rw (pends, ec, es.view, announcing)))
+                send_done q eq s es =
+                    rw es.rest (λ c ec.
+                    queued_did e _ (record { setup = refl; count = refl }) Sending Does
+                    (send_fits (sym ep.ok ∙ ok) (room_one buffer Sending Whole some whole (rw (← announcing) es.room) eq.room))
+                    Whole whole buffer b' q eq refl (rw (pends, ec, es.view, announcing)))
 
   pub send_input_settled : (r s : Ended) (b c : List ℕ) → DidAs e Does buffer r b → DidAs e Does buffer s c
       → (r.answer ≡ s.answer) × (seen r.endpoint ≡ seen s.endpoint) × SameTerms r.endpoint s.endpoint × (b ≡ c)

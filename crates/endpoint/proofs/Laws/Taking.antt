@@ -1,4 +1,6 @@
 -- Taking events, and taking messages: refused, done, the part of the buffer that is handed back, and its copy.
+use Rattle.std.specs.Prelude.{Result, Ok, Err}
+use Rattle.answer.specs.declared.Refusal.{Refusal}
 use borrow.Author.Tests.{ltb-false}
 use mathlib.Core.Bool.{Bool, true, false, not, ◌&&◌}
 use mathlib.Core.List.{List, ◌++◌}
@@ -13,7 +15,7 @@ use Rattle.base.specs.Lay.{laid_at}
 use Rattle.base.proofs.Lay.{laid_none, laid_first}
 use Rattle.base.proofs.Arrays.{take_count}
 use Rattle.base.proofs.Settled.{settled}
-use Rattle.answer.specs.declared.Answer.TheVariants.{Done, Full}
+use Rattle.answer.specs.declared.Refusal.TheVariants.{Full}
 use Rattle.events.specs.Events.{held_events}
 use Rattle.events.proofs.Laws.{held_none}
 use Rattle.endpoint_rules.specs.Seen.{is_shutdown}
@@ -26,7 +28,7 @@ use Rattle.endpoint.specs.declared.Ended.{Ended}
 use Rattle.endpoint.specs.declared.taking.TakenEvents.{TakenEvents}
 use Rattle.endpoint.specs.declared.taking.TakenMessages.{TakenMessages}
 use Rattle.endpoint.specs.Endpoint.{seen, SameTerms, DoneAs}
-use Rattle.endpoint.specs.Taken.{TakenAs, shorter, TakenIntoAs}
+use Rattle.endpoint.specs.Taken.{TakenAs, shorter, answer_in, count_in, TakenIntoAs}
 use Rattle.endpoint.proofs.Laws.Settled.{same_terms, done_settled}
 use Rattle.endpoint.proofs.Laws.Handshake.{false_true}
 use Rattle.endpoint.proofs.Laws.Ends.{remade, refused-done}
@@ -56,12 +58,12 @@ module _ (e : Endpoint) where
       record { events = ap Value.events same; count = h ∙ ap length (sym same); after = rw (held_none e.events); terms = record { setup = refl; count = refl } }
 
   module _ (room : ℕ) where
-    pub take_short : not (is_shutdown e.sync.phase) && ltb room e.queued ≡ true → DoneAs e (step (Call.take_messages room) (seen e)) (record { answer = Full; endpoint = e })
+    pub take_short : not (is_shutdown e.sync.phase) && ltb room e.queued ≡ true → DoneAs e (step (Call.take_messages room) (seen e)) (record { answer = Err Full; endpoint = e })
     unfolding step take_step tested seen
-    take_short h = refused-done e Full (take_step room (seen e)) (rw h)
+    take_short h = refused-done e (Err Full) (take_step room (seen e)) (rw h)
 
     pub take_done : not (is_shutdown e.sync.phase) && ltb room e.queued ≡ false
-        → DoneAs e (step (Call.take_messages room) (seen e)) (record { answer = Done; endpoint = remade e e.pending e.acked e.history e.sync e.nonces e.clocks e.flags e.quality e.statuses e.checksums e.events 0 })
+        → DoneAs e (step (Call.take_messages room) (seen e)) (record { answer = Ok tt; endpoint = remade e e.pending e.acked e.history e.sync e.nonces e.clocks e.flags e.quality e.statuses e.checksums e.events 0 })
     unfolding step take_step tested seen
     take_done h = rw h (record { answer = refl; after = refl; terms = record { setup = refl; count = refl }; same = λ n. absurd (n refl) })
 
@@ -82,7 +84,7 @@ none_filled false false queued h = absurd (false_true h)
 
 module _ (e : Endpoint) (queue into : List ℕ) where
   pub into_short : not (is_shutdown e.sync.phase) && ltb (shorter queue into) e.queued ≡ true
-      → TakenIntoAs e queue into (record { endpoint = e; answer = Full; count = 0 }) into
+      → TakenIntoAs e queue into (record { endpoint = e; answer = Err Full }) into
   into_short h =
       record {
         taken = take_short e (shorter queue into) h;
@@ -93,7 +95,7 @@ module _ (e : Endpoint) (queue into : List ℕ) where
   pub into_done : not (is_shutdown e.sync.phase) && ltb (shorter queue into) e.queued ≡ false
       → (n : ℕ) → n ≡ pick (is_shutdown e.sync.phase) 0 (pick (ltb (shorter queue into) e.queued) 0 e.queued)
       → (into' : List ℕ) → into' ≡ take (length (take n queue)) (take n queue) ++ drop (length (take n queue)) into
-      → TakenIntoAs e queue into (record { answer = Done; count = n; endpoint = remade e e.pending e.acked e.history e.sync e.nonces e.clocks e.flags e.quality e.statuses e.checksums e.events 0 }) into'
+      → TakenIntoAs e queue into (record { answer = Ok n; endpoint = remade e e.pending e.acked e.history e.sync e.nonces e.clocks e.flags e.quality e.statuses e.checksums e.events 0 }) into'
   into_done h n en into' copied =
       record {
         taken = take_done e (shorter queue into) h;
@@ -124,12 +126,18 @@ module _ (e : Endpoint) where
     pub take_messages_settled : (r s : Ended) → DoneAs e Took r → DoneAs e Took s → (r.answer ≡ s.answer) × (seen r.endpoint ≡ seen s.endpoint) × SameTerms r.endpoint s.endpoint
     take_messages_settled = done_settled e Took
 
+    same_taken : (r s : Result ℕ Refusal) → answer_in r ≡ answer_in s → count_in r ≡ count_in s → r ≡ s
+    same_taken (Ok n) (Ok m) h k = ap Ok k
+    same_taken (Ok n) (Err r) h k = cc
+    same_taken (Err r) (Ok n) h k = cc
+    same_taken (Err r) (Err s) h k = let same : r ≡ s = cc in ap Err same
+
     pub take_messages_into_settled : (into : List ℕ) (r s : TakenMessages) (b c : List ℕ) → TakenIntoAs e buffer into r b → TakenIntoAs e buffer into s c
-        → (r.answer ≡ s.answer) × (seen r.endpoint ≡ seen s.endpoint) × SameTerms r.endpoint s.endpoint × (r.count ≡ s.count) × (b ≡ c)
+        → (r.answer ≡ s.answer) × (seen r.endpoint ≡ seen s.endpoint) × SameTerms r.endpoint s.endpoint × (b ≡ c)
     take_messages_into_settled into r s b c x y =
-        let same : r.count ≡ s.count = x.count ∙ sym y.count in
+        let same : count_in r.answer ≡ count_in s.answer = x.count ∙ sym y.count in
         let t = done_settled e (step (Call.take_messages (shorter buffer into)) (seen e)) _ _ x.taken y.taken in
-        (t.0, t.1, t.2, same, x.lent ∙ ap (λ n. laid_at into 0 (take n buffer)) same ∙ sym y.lent)
+        (same_taken r.answer s.answer t.0 same, t.1, t.2, x.lent ∙ ap (λ n. laid_at into 0 (take n buffer)) same ∙ sym y.lent)
 
     pub messages_settled : (r s : List ℕ) → r ≡ take (handed_back (length buffer) (seen e)) buffer → s ≡ take (handed_back (length buffer) (seen e)) buffer → r ≡ s
     messages_settled = settled (λ r. r) (take (handed_back (length buffer) (seen e)) buffer)

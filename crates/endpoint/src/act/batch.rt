@@ -15,11 +15,10 @@ use status::Statuses;
 fn body_only_if(due: bool, out: &mut [u8], at: usize, magic: u16, body: MessageBody) -> usize
     ensures { WrittenWhere out.old at (pick due (body_only magic body ∷ []) []) result out.new }
 {
-    if due {
-        let queued = outbox::body_only(out, at, magic, body);
-        return queued.end;
+    if !due {
+        return at;
     }
-    at
+    outbox::body_only(out, at, magic, body).unwrap_or(at)
 }
 
 // The bytes that are due, whatever they are.
@@ -27,10 +26,9 @@ fn body_only_if(due: bool, out: &mut [u8], at: usize, magic: u16, body: MessageB
 pub(crate) fn size(due: Due, statuses: Statuses, pending: Pending, width: usize) -> usize
     ensures { SizedWith due (held_statuses statuses) (waiting pending) width result }
 {
-    let input = outbox::input_size(statuses, pending, width);
-    numbers::count_if(due.input, input)
-        + numbers::count_if(due.report, FIXED_SIZES[4])
-        + numbers::count_if(due.keep_alive, FIXED_SIZES[7])
+    usize::from(due.input) * outbox::input_size(statuses, pending, width)
+        + usize::from(due.report) * FIXED_SIZES[4]
+        + usize::from(due.keep_alive) * FIXED_SIZES[7]
 }
 
 // Quality report and keepalive, each where it is due; where the queue then ends.

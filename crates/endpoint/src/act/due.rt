@@ -62,7 +62,7 @@ pub(crate) fn due_at(
 pub(crate) fn event_count(due: Due) -> usize
     ensures { result ≡ pick due.interruption 1 0 + pick due.disconnect 1 0 }
 {
-    numbers::count_if(due.interruption, 1) + numbers::count_if(due.disconnect, 1)
+    usize::from(due.interruption) + usize::from(due.disconnect)
 }
 
 // Whether any message is due.
@@ -99,12 +99,11 @@ pub(crate) fn announce(
 ) -> Pushed
     ensures { PushedAs events (has_room (held_events events) (length (due_events due (disconnect_timeout - notify_start)))) (due_events due (disconnect_timeout - notify_start)) result }
 {
-    let left = numbers::minus(disconnect_timeout, notify_start);
     events.push_both(
         due.interruption,
         Entry {
             event: Event::NetworkInterrupted {
-                disconnect_timeout: left,
+                disconnect_timeout: disconnect_timeout.saturating_sub(notify_start),
             },
             input: NO_INPUT,
         },

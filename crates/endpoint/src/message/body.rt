@@ -15,7 +15,6 @@ pub struct InputHead {
     pub ack_frame: u32,
 }
 
-#[tactic(auto, using(codec::proofs::KindNumbers::kind_other))]
 pub(crate) fn reply_of(body: MessageBody) -> u32
     ensures { kind_of body ≡ 1 → body ≡ SyncReply result }
 {
@@ -25,7 +24,6 @@ pub(crate) fn reply_of(body: MessageBody) -> u32
     random_reply
 }
 
-#[tactic(auto, using(codec::proofs::KindNumbers::kind_other))]
 pub(crate) fn input_of(body: MessageBody) -> InputHead
     ensures { kind_of body ≡ 2 → body ≡ Input result.disconnect_requested result.start_frame result.ack_frame }
 {
@@ -48,7 +46,6 @@ pub(crate) fn input_of(body: MessageBody) -> InputHead
     }
 }
 
-#[tactic(auto, using(codec::proofs::KindNumbers::kind_other))]
 pub(crate) fn ack_of(body: MessageBody) -> u32
     ensures { kind_of body ≡ 3 → body ≡ InputAck result }
 {
@@ -58,7 +55,6 @@ pub(crate) fn ack_of(body: MessageBody) -> u32
     ack_frame
 }
 
-#[tactic(auto, using(codec::proofs::KindNumbers::kind_other))]
 pub(crate) fn checksum_of(body: MessageBody) -> Checksum
     ensures { kind_of body ≡ 6 → body ≡ ChecksumReport (record { low = result.low; high = result.high }) result.frame }
 {

@@ -17,10 +17,7 @@ pub struct Heard {
 pub(crate) fn is_resuming(phase: Phase, flags: Flags) -> bool
     ensures { result ≡ (is_running phase && flags.disconnect_notify_sent) }
 {
-    let Phase::Running = phase else {
-        return false;
-    };
-    flags.disconnect_notify_sent
+    matches!(phase, Phase::Running) && flags.disconnect_notify_sent
 }
 
 fn resumed_flags(flags: Flags, resumes: bool) -> Flags

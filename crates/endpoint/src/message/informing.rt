@@ -7,7 +7,6 @@ ghost use Rattle.endpoint_rules.specs.Receiving.{announces_by};
 ghost use Rattle.endpoint.specs.Inside.Informing.{statuses_of, InformedAs};
 
 use crate::message::hearing;
-use ceilings::MOST_PLAYERS;
 use codec::StatusReports;
 use endpoint_rules::{Flags, Phase};
 use status::Statuses;
@@ -23,16 +22,13 @@ pub struct Informed {
     pub statuses: Statuses,
 }
 
-#[tactic(auto, using(status::proofs::MergeAll::all_none, crate::proofs::Laws::Message::Informing::reports_end, crate::proofs::Laws::Message::Informing::reports_turn, base::proofs::Arrays::unmap))]
+#[tactic(auto, using(status::proofs::MergeAll::all_none))]
 fn merge_reports(statuses: Statuses, reports: StatusReports) -> Statuses
     ensures { HeldAs (merged_all (held_statuses statuses) (statuses_of (report_list reports))) statuses.count result }
 {
     let mut next = statuses;
-    let mut i = 0;
-    while i < MOST_PLAYERS && i < reports.count {
-        let report = reports.list[i];
+    for (i, report) in reports.as_slice().iter().enumerate() {
         next = next.merge_report(i, report.disconnected, report.last_frame);
-        i += 1;
     }
     next
 }
@@ -55,13 +51,7 @@ fn informed_statuses(
 fn announces_disconnect(disconnect_requested: bool, phase: Phase, flags: Flags) -> bool
     ensures { result ≡ (disconnect_requested && announces_by phase flags) }
 {
-    if !disconnect_requested {
-        return false;
-    }
-    if let Phase::Disconnected = phase {
-        return false;
-    }
-    !flags.disconnect_event_sent
+    disconnect_requested && !matches!(phase, Phase::Disconnected) && !flags.disconnect_event_sent
 }
 
 fn announced_flags(flags: Flags, disconnects: bool) -> Flags
@@ -89,13 +79,11 @@ pub(crate) fn inform(
 {
     let heard = hearing::hear(phase, clocks, flags, now);
     let disconnects = announces_disconnect(disconnect_requested, phase, heard.flags);
-    let flags = announced_flags(heard.flags, disconnects);
-    let clocks = heard.clocks;
     Informed {
         resumes: heard.resumes,
         disconnects,
-        clocks,
-        flags,
+        clocks: heard.clocks,
+        flags: announced_flags(heard.flags, disconnects),
         statuses: informed_statuses(statuses, disconnect_requested, reports),
     }
 }

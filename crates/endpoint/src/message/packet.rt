@@ -10,8 +10,9 @@ ghost use Rattle.endpoint.specs.Inside.Admission.{WeighedAs};
 ghost use Rattle.endpoint.specs.Inside.Packet.{NewsIf, OpenedAs};
 
 use crate::message::admission;
-use crate::message::admission::Door;
+use crate::message::body::InputHead;
 use crate::room;
+use answer::Answer;
 use ceilings::MOST_PENDING;
 use codec::FIXED_SIZES;
 use frame::{BIAS32, FRAMES};
@@ -44,7 +45,7 @@ pub struct News {
 fn is_discarded(disconnect_requested: bool, count: usize, players: u32, start_frame: u32) -> bool
     ensures { result ≡ discarded_by disconnect_requested count players start_frame }
 {
-    (!disconnect_requested & (count != players as usize)) | (start_frame < BIAS32)
+    (!disconnect_requested && count != players as usize) || start_frame < BIAS32
 }
 
 // Whether a payload has more frames than may be pending at the other end.
@@ -59,10 +60,7 @@ fn is_too_long(setup: Setup, length: usize) -> bool
 fn is_readable(held: bool, length: usize, width: usize) -> bool
     ensures { result ≡ (held && decodable_length width length) }
 {
-    if held {
-        return packing::decodable(length, width);
-    }
-    false
+    held && packing::decodable(length, width)
 }
 
 // Whether the last of some frames would have no number.
@@ -76,24 +74,27 @@ fn overflows(start_frame: u32, count: usize) -> bool
 pub(crate) fn open(
     history: History,
     setup: Setup,
-    disconnect_requested: bool,
-    start_frame: u32,
+    head: InputHead,
     count: usize,
     length: usize,
 ) -> Opened
-    ensures { OpenedAs history setup disconnect_requested start_frame count length result }
+    ensures { OpenedAs history setup head.disconnect_requested head.start_frame count length result }
 {
     let width = setup.receiving_width();
-    let looked = history.look(start_frame);
-    let input = looked.input;
+    let looked = history.look(head.start_frame);
     Opened {
-        input,
+        input: looked.input,
         held: looked.held,
         newest: looked.newest,
-        discarded: is_discarded(disconnect_requested, count, setup.num_players, start_frame),
+        discarded: is_discarded(
+            head.disconnect_requested,
+            count,
+            setup.num_players,
+            head.start_frame,
+        ),
         too_long: is_too_long(setup, length),
         readable: is_readable(looked.held, length, width),
-        overflows: overflows(start_frame, packing::frame_count(length, width)),
+        overflows: overflows(head.start_frame, packing::frame_count(length, width)),
     }
 }
 
@@ -104,8 +105,7 @@ fn known(newest: u32, start_frame: u32, count: u32) -> u32
     if newest < start_frame {
         return 0;
     }
-    let behind = newest - start_frame;
-    if behind < count { behind + 1 } else { count }
+    count.min((newest - start_frame).saturating_add(1))
 }
 
 // The first of those above; where there are none, any frame does.
@@ -148,12 +148,12 @@ pub(crate) fn news_of(
 }
 
 // What refuses a packet before its inputs are announced: the InputAck of one that can be read must fit.
-pub(crate) fn admit(opened: Opened, len: usize, queued: usize) -> Door
+pub(crate) fn admit(opened: Opened, len: usize, queued: usize) -> Answer
     ensures { WeighedAs opened.too_long (opened.readable && opened.overflows) (buffer_full len queued (pick opened.readable 10 0)) result }
 {
-    let size = numbers::count_if(opened.readable, FIXED_SIZES[3]);
+    let size = if opened.readable { FIXED_SIZES[3] } else { 0 };
     let full = room::buffer_full(len, queued, size);
-    admission::weigh(opened.too_long, opened.readable & opened.overflows, full)
+    admission::weigh(opened.too_long, opened.readable && opened.overflows, full)
 }
 
 // The input time is noted where the reference is held, and the send time of the InputAck.

@@ -1,16 +1,16 @@
 -- The sum of the lengths does not fit, or the head and the payload's digits stand one after the other.
-use Rattle.std.proofs.Common.{arith, rules}
-use Rattle.text.specs.Draft.{drafted}
+use Rattle.std.proofs.Common.{arith}
 use Rattle.message_line.proofs.LayLaws.{no_room_lem, both_laid}
 use Rattle.message_line.proofs.lay.Goals as goal
+use Rattle.message_line.proofs.lay.Goals.{then-out-at-via-then-out-at, then-out-at-via-else-out-at+then-out-at-2, then-out-at-via-else-out-at+else-out-at-2+then-out-at-3}
 
-pub returns-then-len-at-3 : goal.returns-then-len-at-3
-returns-then-len-at-3 c =
+pub returns-then-out-at : goal.returns-then-out-at
+returns-then-out-at c =
     let a = c.args in
-    no_room_lem a.out.now a.at a.head a.payload.now (search rules) c.requires _ c.full-then-len-at-3.ensures (omega arith)
+    no_room_lem a.out.now a.at a.head.now a.payload.now
+    (elim c.then-out-at.branch [ then-out-at-via-then-out-at w ↦ omega arith | then-out-at-via-else-out-at+then-out-at-2 w ↦ omega arith | then-out-at-via-else-out-at+else-out-at-2+then-out-at-3 w ↦ omega arith ])
 
 pub returns : goal.returns
-unfolding drafted
 returns c =
     let a = c.args in
-    both_laid a.out.now a.at a.head a.payload.now (search rules) c.requires _ _ _ _ c.append.ensures c.hex.ensures (omega arith)
+    both_laid a.out.now a.at a.head.now a.payload.now _ _ _ _ c.append.ensures c.hex.ensures (omega arith)

@@ -5,6 +5,4 @@ use Rattle.message_line.proofs.line_after.Goals as goal
 
 pub returns : goal.returns
 unfolding ascii
-returns c =
-    let line = c.line-laid in
-    three_pieces _ _ _ _ _ _ _ c.lay-start.ensures (line_page _ _ _ line.result _ line.ensures) c.lay.ensures
+returns c = three_pieces _ _ _ _ _ _ _ c.lay-start.ensures (rw c.unwrap_or-end.ensures (line_page c.line.ensures)) c.lay.ensures

@@ -1,32 +1,39 @@
 -- Advancing: refused, or done, and how many frames that can be.
 use borrow.Author.Tests.{eq-eqb, ne_eqb, eqb-false}
 use mathlib.Core.Bool.{Bool, true, false, not}
-use mathlib.Core.List.{[], ◌∷◌}
+use mathlib.Core.List.{List, [], ◌∷◌}
 use mathlib.Core.Logic.{◌⊎◌, inl, inr}
-use mathlib.Core.Path.{◌≡◌, refl, ap, sym, ◌∙◌}
+use mathlib.Core.Path.{◌≡◌, refl, sym, ◌∙◌}
 use Prim.Native.Nat.{ℕ, suc, ◌+◌, ◌-◌, ◌^◌, ◌≤◌, min}
 use native.Mathlib.Numerals.{add-one}
 use native.Mathlib.Omega.{arith}
 use lib.Dec.{ltb}
 use Rattle.base.specs.Pick.{pick}
 use Rattle.base.specs.First.{first_of}
-use Rattle.answer.specs.Number.{number_of}
-use Rattle.answer.specs.declared.Answer.{Answer}
-use Rattle.answer.specs.declared.Answer.TheVariants.{Done}
+use Rattle.std.specs.Prelude.{Result, Ok, Err}
+use Rattle.answer.specs.Number.{refusal_number}
+use Rattle.answer.specs.declared.Refusal.{Refusal}
+use Rattle.answer.proofs.Refused.{not_done}
 use Rattle.status.specs.Statuses.{held_statuses}
 use Rattle.setup.specs.Setup.{terms_with}
 use Rattle.endpoint.specs.Endpoint.{seen as seen_host}
 use Rattle.spectator_rules.specs.declared.Limits.{Limits}
+use Rattle.spectator_rules.specs.declared.SyncedInput.{SyncedInput}
 use Rattle.spectator_rules.specs.Watch.{is_running}
 use Rattle.spectator_rules.specs.Advance.{behind_overflows, next_overflows, frames_by, frames_to_advance, frames_refusal, frames_refusal_by, requests_by, requests_of, advance_tests, advance_refusal, advanced}
 use Rattle.spectator_rules.specs.Call.{Call}
 use Rattle.spectator_rules.specs.Step.{step, advance_step, decided, refused, changed}
 use Rattle.spectator.specs.declared.SpectatorSession.{SpectatorSession}
-use Rattle.spectator.specs.declared.advancing.Advanced.{Advanced}
 use Rattle.spectator.specs.declared.requests.Requests.{Requests}
 use Rattle.spectator.specs.Stores.{inputs_of, RequestsAs}
 use Rattle.spectator.specs.Session.{seen, advanced_to}
-use Rattle.spectator.specs.Answers.{AdvancedAs}
+use Rattle.spectator.specs.Answers.{AdvancedAs, GivenAs, frames_in}
+
+-- ---- the frames of an answer
+
+pub frames_given : (l : List (List SyncedInput)) (r : Result Requests Refusal) → GivenAs l r → frames_in r ≡ l
+frames_given l (Ok q) h = h.frames
+frames_given l (Err x) h = h
 
 -- ---- how many frames
 
@@ -82,45 +89,38 @@ module _ (s : SpectatorSession) where
   unfolding step advance_step decided
   step-done h = rw (eq-eqb (advance_refusal (seen s)) 0 h)
 
-  refused_by : (a : Answer) → number_of a ≡ advance_refusal (seen s) → (number_of a ≡ 0 → ⊥)
-      → (r : Advanced) → (r.answer ≡ a) × RequestsAs [] r.requests × (r.session ≡ s) → AdvancedAs s r
+  refused_by : (x : Refusal) → refusal_number x ≡ advance_refusal (seen s) → AdvancedAs s (record { session = s; answer = Err x })
   unfolding refused
-  refused_by a h n r er =
-      let k : advance_refusal (seen s) ≡ 0 → ⊥ = λ e. n (h ∙ e) in
+  refused_by x h =
+      let k : advance_refusal (seen s) ≡ 0 → ⊥ = λ e. not_done x (h ∙ e) in
       record {
-        answer = rw (step-refused k) (ap number_of er.0 ∙ h);
-        after = rw (step-refused k) (ap seen er.2);
-        requests = rw (step-refused k, ne_eqb (advance_refusal (seen s)) 0 k) er.1;
-        own = rw er.2;
-        same = λ _. er.2;
+        answer = rw (step-refused k) h;
+        after = rw (step-refused k);
+        requests = rw (step-refused k, ne_eqb (advance_refusal (seen s)) 0 k);
+        own = refl;
+        same = λ _. refl;
       }
 
-  pub refused_early : (a : Answer) → number_of a ≡ first_of (advance_tests (seen s)) → (number_of a ≡ 0 → ⊥)
-      → (r : Advanced) → (r.answer ≡ a) × RequestsAs [] r.requests × (r.session ≡ s) → AdvancedAs s r
+  pub refused_early : (x : Refusal) → refusal_number x ≡ first_of (advance_tests (seen s)) → AdvancedAs s (record { session = s; answer = Err x })
   unfolding advance_refusal
-  refused_early a h n = refused_by a (h ∙ rw (ne_eqb (first_of (advance_tests (seen s))) 0 (λ e. n (h ∙ e)))) n
+  refused_early x h = refused_by x (h ∙ rw (ne_eqb (first_of (advance_tests (seen s))) 0 (λ e. not_done x (h ∙ e))))
 
   module _ (free : first_of (advance_tests (seen s)) ≡ 0) where
     past : advance_refusal (seen s) ≡ frames_refusal (frames_to_advance (seen s)) (suc (seen s).current) (seen s)
     unfolding advance_refusal
     past = rw (eq-eqb (first_of (advance_tests (seen s))) 0 free)
 
-    pub refused_late : (a : Answer) → number_of a ≡ frames_refusal (frames_to_advance (seen s)) (suc (seen s).current) (seen s) → (number_of a ≡ 0 → ⊥)
-        → (r : Advanced) → (r.answer ≡ a) × RequestsAs [] r.requests × (r.session ≡ s) → AdvancedAs s r
-    refused_late a h n = refused_by a (h ∙ sym past) n
+    pub refused_late : (x : Refusal) → refusal_number x ≡ frames_refusal (frames_to_advance (seen s)) (suc (seen s).current) (seen s) → AdvancedAs s (record { session = s; answer = Err x })
+    refused_late x h = refused_by x (h ∙ sym past)
 
-    pub advances : (a : Answer) → a ≡ Done → number_of a ≡ frames_refusal (frames_to_advance (seen s)) (suc (seen s).current) (seen s)
+    pub advances : 0 ≡ frames_refusal (frames_to_advance (seen s)) (suc (seen s).current) (seen s)
         → (n : ℕ) → n ≡ frames_to_advance (seen s) → (q : Requests) → RequestsAs (requests_of (seen s)) q
-        → AdvancedAs s (record {
-          answer = a;
-          requests = q;
-          session = advanced_to s (s.current_frame + n);
-        })
+        → AdvancedAs s (record { session = advanced_to s (s.current_frame + n); answer = Ok q })
     unfolding seen
-    advances a d h n en q eq =
-        let z : advance_refusal (seen s) ≡ 0 = past ∙ sym h ∙ ap number_of d in
+    advances h n en q eq =
+        let z : advance_refusal (seen s) ≡ 0 = past ∙ sym h in
         record {
-          answer = rw (step-done z, d);
+          answer = rw (step-done z);
           after = rw (step-done z, en);
           requests = rw (step-done z) eq;
           own = refl;

@@ -8,8 +8,7 @@ use lib.ListN.{length-replicate}
 use Rattle.base.specs.Pick.{pick}
 use Rattle.base.specs.First.{first_of}
 use Rattle.frame.specs.Bias.{null_frame}
-use Rattle.answer.specs.Number.{number_of}
-use Rattle.answer.specs.declared.Answer.{Answer}
+use Rattle.answer.specs.Number.{Answered, number_of}
 use Rattle.status.specs.declared.list.Statuses.{Statuses}
 use Rattle.status.specs.Statuses.{HeldAs, default_statuses}
 use Rattle.setup.specs.Setup.{bad_setup}
@@ -38,7 +37,7 @@ in_order false false limits = refl
 
 module _ (g : SessionSetup) (now : ℕ) where
   pub makes : (e : HostEnded) → HostMadeAs (host_setup g) now e
-      → (a : Answer) → number_of a ≡ pick (eqb (number_of e.answer) 0) (pick (bad_limits g.limits) 1 0) (number_of e.answer)
+      → (a : Answered) → number_of a ≡ pick (eqb (number_of e.answer) 0) (pick (bad_limits g.limits) 1 0) (number_of e.answer)
       → (inputs : Inputs) → InputsAs (fresh_inputs g.limits.slots) inputs
       → (statuses : Statuses) → HeldAs (default_statuses g.num_players) (min g.num_players 4) statuses
       → (events : SessionEvents) → EventsAs [] events

@@ -12,8 +12,10 @@ use lib.Seq.{length-take-le}
 use Rattle.base.specs.Pick.{pick}
 use Rattle.base.specs.Lay.{laid_at}
 use Rattle.base.proofs.Lay.{laid_none}
-use Rattle.answer.specs.Number.{number_of}
-use Rattle.answer.specs.declared.Answer.TheVariants.{Done}
+use Rattle.std.specs.Prelude.{Ok, Err}
+use Rattle.answer.specs.Number.{number_of, refusal_number}
+use Rattle.answer.specs.declared.Refusal.{Refusal}
+use Rattle.answer.proofs.Refused.{not_done}
 use Rattle.codec.specs.Message.{Wire, body_size}
 use Rattle.codec.specs.Bytes.{queue_of}
 use Rattle.codec.specs.declared.MessageBody.{MessageBody}
@@ -27,15 +29,15 @@ use Rattle.endpoint_rules.specs.Did.Verdict.{refuse}
 use Rattle.endpoint_rules.specs.Room.{events_full, buffer_full, is_full}
 use Rattle.endpoint_rules.specs.Act.{acted}
 use Rattle.timers.specs.Timers.{bad_clocks}
-use Rattle.endpoint_rules.specs.Call.{Call as HostCall, Question as HostQuestion}
-use Rattle.endpoint_rules.specs.Sending.{newest, bad_statuses}
+use Rattle.endpoint_rules.specs.Call.{Call as HostCall}
+use Rattle.endpoint_rules.specs.Sending.{bad_statuses}
 use Rattle.endpoint_rules.specs.Step.{changed as host_changed, short_buffer, act_step, take_step, step as host_step}
-use Rattle.endpoint_rules.specs.Value.{Value as HostValue, value_of as host_value_of, filled_part, handed_back}
+use Rattle.endpoint_rules.specs.Value.{value_of as host_value_of, filled_part, handed_back}
 use Rattle.endpoint.specs.declared.Endpoint.{Endpoint}
 use Rattle.endpoint.specs.declared.Ended.{Ended as HostEnded}
 use Rattle.endpoint.specs.declared.taking.TakenEvents.{TakenEvents}
-use Rattle.endpoint.specs.Endpoint.{seen as seen_host, SameTerms, DidAs as HostDidAs, DoneAs as HostDoneAs}
-use Rattle.endpoint.specs.Taken.{TakenAs}
+use Rattle.endpoint.specs.Endpoint.{seen as seen_host, DidAs as HostDidAs, DoneAs as HostDoneAs}
+use Rattle.endpoint.specs.Taken.{TakenAs, answer_in, count_in}
 use Rattle.spectator_rules.specs.Watch.{Watch}
 use Rattle.spectator_rules.specs.Handling.{handled_all}
 use Rattle.spectator_rules.specs.Call.{Call}
@@ -43,35 +45,34 @@ use Rattle.spectator_rules.specs.Step.{step, refused, decided, host_acts, host_t
 use Rattle.status.specs.declared.list.Statuses.{Statuses}
 use Rattle.status.specs.Statuses.{held_statuses, HeldAs}
 use Rattle.spectator.specs.declared.SpectatorSession.{SpectatorSession}
-use Rattle.spectator.specs.declared.handling.Parts.{Parts}
 use Rattle.spectator.specs.declared.polling.Polled.{Polled}
 use Rattle.spectator.specs.Stores.{inputs_of, events_of}
 use Rattle.spectator.specs.Session.{seen, Counted, hosted}
 use Rattle.spectator.specs.Answers.{polled_part, PolledAs, TakenInAs}
-use Rattle.spectator.specs.Inside.Handling.{assembled, PartsCounted}
+use Rattle.spectator.specs.Inside.Handling.{ChangedAs}
 use Rattle.spectator.proofs.Laws.Counts.{inputs_counted, events_counted, own_count}
-use Rattle.spectator.proofs.Laws.Handling.{handled-append}
+use Rattle.spectator.proofs.Laws.Handling.{handled-append, terms_kept}
 
--- the frame that `last_recv_frame` gives
-pub newest-shown : (e : Endpoint) (n : ℕ) → HostValue.frame n ≡ host_value_of (HostCall.ask HostQuestion.newest_frame) (seen_host e) → n ≡ newest (seen_host e)
-unfolding host_value_of
-newest-shown e n h = cc
-
--- the parts of a session, with each count set to the number of what its store holds
-pub parts_counted : (s : SpectatorSession) (n : ℕ) → n ≡ length (inputs_of s.inputs)
+-- the session, with each count set to the number of what its store holds
+pub settles : (s : SpectatorSession) (n : ℕ) → n ≡ length (inputs_of s.inputs)
     → (statuses : Statuses) → HeldAs (held_statuses s.statuses) (length (held_statuses s.statuses)) statuses
     → (m : ℕ) → m ≡ length (events_of s.events)
-    → let p : Parts = record { state = s.state; inputs = record { entries = s.inputs.entries; used = n }; statuses = statuses; events = record { entries = s.events.entries; used = m }; last_recv_frame = s.last_recv_frame; quality = s.host.quality } in
-    (assembled (seen s) p ≡ seen s) × PartsCounted p
-unfolding seen seen_host
-parts_counted s n en statuses es m em =
+    → let r : SpectatorSession = record {
+      host = s.host;
+      limits = s.limits;
+      state = s.state;
+      inputs = record { entries = record { list = s.inputs.entries.list; count = n } };
+      statuses = statuses;
+      events = record { entries = record { list = s.events.entries.list; count = m } };
+      current_frame = s.current_frame;
+      last_recv_frame = s.last_recv_frame;
+    } in
+    (seen r ≡ seen s) × Counted r × (r.host ≡ s.host)
+unfolding seen
+settles s n en statuses es m em =
     let i = inputs_counted n s.inputs en in
     let e = events_counted m s.events em in
-    (rw (i.0, es.0, e.0), record { inputs = own_count i; statuses = own_count es; events = own_count e })
-
--- what stays over one call and over the next stays over both
-terms_kept : (e r s : Endpoint) → SameTerms e r → SameTerms r s → SameTerms e s
-terms_kept e r s a b = record { setup = b.setup ∙ a.setup; count = b.count ∙ a.count }
+    (rw (i.0, es.0, e.0), record { inputs = own_count i; statuses = own_count es; events = own_count e }, refl)
 
 -- ---- taking messages does not look at events
 
@@ -124,32 +125,32 @@ module _ (s : SpectatorSession) (old : Events) (acted : Endpoint) (buffer : List
     unfolding host_step
     number = et.answer ∙ rw apart (take_answer (length buffer) (seen_host acted))
 
-    pub take_in_refused : (r : Polled) → (r.answer ≡ taken.answer) × (r.session ≡ s) × (r.filled ≡ 0) → (number_of taken.answer ≡ 0 → ⊥)
-        → TakenInAs s (held_events old) acted (length buffer) r
-    take_in_refused r er n =
-        let k : (take_step (length buffer) (seen_host acted)).answer ≡ 0 → ⊥ = λ z. n (number ∙ z) in
+    pub take_in_refused : (x : Refusal) → taken.answer ≡ Err x → TakenInAs s (held_events old) acted (length buffer) (record { session = s; answer = Err x })
+    take_in_refused x e =
+        let h : refusal_number x ≡ (take_step (length buffer) (seen_host acted)).answer = sym (ap number_of e) ∙ number in
+        let k : (take_step (length buffer) (seen_host acted)).answer ≡ 0 → ⊥ = λ z. not_done x (h ∙ z) in
         record {
-          answer = ap number_of er.0 ∙ number;
+          answer = h;
           done = λ z. absurd (k z);
           counted = λ z. absurd (k z);
           terms = λ z. absurd (k z);
-          filled = er.2 ∙ rw (ne_eqb (take_step (length buffer) (seen_host acted)).answer 0 k);
-          same = λ _. er.1;
+          filled = rw (ne_eqb (take_step (length buffer) (seen_host acted)).answer 0 k);
+          same = λ _. refl;
         }
 
-    pub take_in_done : (part : List ℕ) → part ≡ take (handed_back (length buffer) (seen_host new.endpoint)) buffer → taken.answer ≡ Done
-        → (mid last : SpectatorSession) → seen mid ≡ handled_all (held_events old) (seen (hosted s taken.endpoint)) → seen last ≡ handled_all (held_events new.events) (seen mid)
-        → SameTerms taken.endpoint mid.host → SameTerms mid.host last.host → Counted last
-        → TakenInAs s (held_events old) acted (length buffer) (record { answer = taken.answer; session = last; filled = length part })
+    pub take_in_done : (part : List ℕ) → part ≡ take (handed_back (length buffer) (seen_host new.endpoint)) buffer → number_of taken.answer ≡ 0
+        → (ready mid last : SpectatorSession) → seen ready ≡ seen (hosted s taken.endpoint) → Counted ready → ready.host ≡ taken.endpoint
+        → ChangedAs (handled_all (held_events old)) ready mid → ChangedAs (handled_all (held_events new.events)) mid last
+        → TakenInAs s (held_events old) acted (length buffer) (record { session = last; answer = Ok (length part) })
     unfolding seen host_step handed_back filled_part
-    take_in_done part ep d mid last em el tm tl counts =
-        let z : (take_step (length buffer) (seen_host acted)).answer ≡ 0 = sym number ∙ ap number_of d in
+    take_in_done part ep d ready mid last er cr hr em el =
+        let z : (take_step (length buffer) (seen_host acted)).answer ≡ 0 = sym number ∙ d in
         let f : handed_back (length buffer) (seen_host new.endpoint) ≤ length buffer = handed_fits (length buffer) (seen_host new.endpoint) in
         record {
-          answer = number;
-          done = λ _. el ∙ rw (em, news, et.after, apart, take_after (length buffer) (seen_host acted)) (sym (handled-append (held_events old) (seen_host acted).events _));
-          counted = λ _. counts;
-          terms = λ _. terms_kept acted new.endpoint last.host en.terms (terms_kept new.endpoint taken.endpoint last.host et.terms (terms_kept taken.endpoint mid.host last.host tm tl));
+          answer = sym z;
+          done = λ _. el.after ∙ rw (em.after, er, news, et.after, apart, take_after (length buffer) (seen_host acted)) (sym (handled-append (held_events old) (seen_host acted).events _));
+          counted = λ _. el.counted (em.counted cr);
+          terms = λ _. terms_kept acted new.endpoint last.host en.terms (terms_kept new.endpoint taken.endpoint last.host et.terms (terms_kept taken.endpoint mid.host last.host (rw hr at em.terms) el.terms));
           filled = ap length ep ∙ length-take-le _ buffer f ∙ rw (apart, take_answer (length buffer) (seen_host acted), z);
           same = λ n. absurd (n z);
         }
@@ -254,28 +255,28 @@ module _ (s : SpectatorSession) (now epoch nonce : ℕ) (buffer buffer' : List �
   abbrev Acted : HostDid
   Acted = host_acts now epoch nonce (length buffer) (seen s)
 
-  abbrev Refusal : ℕ
-  Refusal = poll_refusal now epoch nonce (length buffer) (seen s)
+  abbrev Refused : ℕ
+  Refused = poll_refusal now epoch nonce (length buffer) (seen s)
 
   abbrev Poll : Polled → Type 0
   Poll r = PolledAs s (step (Call.poll_remote_clients now epoch nonce (length buffer)) (seen s)) (polled_part now epoch nonce (length buffer) (seen s)) buffer r buffer'
 
-  step-refused : (Refusal ≡ 0 → ⊥) → step (Call.poll_remote_clients now epoch nonce (length buffer)) (seen s) ≡ refused Refusal (seen s)
+  step-refused : (Refused ≡ 0 → ⊥) → step (Call.poll_remote_clients now epoch nonce (length buffer)) (seen s) ≡ refused Refused (seen s)
   unfolding step poll_step decided
-  step-refused n = rw (ne_eqb Refusal 0 n)
+  step-refused n = rw (ne_eqb Refused 0 n)
 
-  step-done : Refusal ≡ 0 → step (Call.poll_remote_clients now epoch nonce (length buffer)) (seen s) ≡ polled now epoch nonce (length buffer) (seen s)
+  step-done : Refused ≡ 0 → step (Call.poll_remote_clients now epoch nonce (length buffer)) (seen s) ≡ polled now epoch nonce (length buffer) (seen s)
   unfolding step poll_step decided
-  step-done h = rw (eq-eqb Refusal 0 h)
+  step-done h = rw (eq-eqb Refused 0 h)
 
-  refused_poll : (r : Polled) → number_of r.answer ≡ Refusal → (Refusal ≡ 0 → ⊥) → r.session ≡ s → r.filled ≡ 0 → buffer' ≡ buffer → Poll r
+  refused_poll : (r : Polled) → number_of (answer_in r.answer) ≡ Refused → (Refused ≡ 0 → ⊥) → r.session ≡ s → count_in r.answer ≡ 0 → buffer' ≡ buffer → Poll r
   unfolding refused polled_part flatten
   refused_poll r ea n es ef eb =
       rw (step-refused n) (record {
         answer = ea;
         after = ap seen es;
         lent = eb ∙ sym (laid_none buffer s.host.queued);
-        filled = rw (ne_eqb Refusal 0 n) ef;
+        filled = rw (ne_eqb Refused 0 n) ef;
         counted = λ z. absurd (n z);
         terms = rw es (record { setup = refl; count = refl });
         same = λ _. es;
@@ -311,28 +312,29 @@ module _ (s : SpectatorSession) (now epoch nonce : ℕ) (buffer buffer' : List �
     unfolding flatten
     kept h = lent_is ∙ rw h (laid_none buffer s.host.queued)
 
-    pub act_refuses : (number_of acts.answer ≡ 0 → ⊥) → (r : Polled) → (r.answer ≡ acts.answer) × (r.session ≡ s) × (r.filled ≡ 0) → Poll r
+    pub act_refuses : (x : Refusal) → acts.answer ≡ Err x → Poll (record { session = s; answer = Err x })
     unfolding poll_refusal
-    act_refuses n r er =
-        let k : Acted.answer ≡ 0 → ⊥ = λ z. n (number_is ∙ z) in
-        let f : Refusal ≡ Acted.answer = rw (ne_eqb Acted.answer 0 k) in
-        refused_poll r (ap number_of er.0 ∙ number_is ∙ sym f) (λ z. k (sym f ∙ z)) er.1 er.2 (kept (act_refused now epoch nonce (length buffer) (seen s) k))
+    act_refuses x e =
+        let h : refusal_number x ≡ Acted.answer = sym (ap number_of e) ∙ number_is in
+        let k : Acted.answer ≡ 0 → ⊥ = λ z. not_done x (h ∙ z) in
+        let f : Refused ≡ Acted.answer = rw (ne_eqb Acted.answer 0 k) in
+        refused_poll (record { session = s; answer = Err x }) (h ∙ sym f) (λ z. k (sym f ∙ z)) refl refl (kept (act_refused now epoch nonce (length buffer) (seen s) k))
 
-    module _ (d : acts.answer ≡ Done) (el : length buffer' ≡ length buffer) (r : Polled) (et : TakenInAs s (held_events old.events) acts.endpoint (length buffer') r) where
+    module _ (d : number_of acts.answer ≡ 0) (el : length buffer' ≡ length buffer) (r : Polled) (et : TakenInAs s (held_events old.events) acts.endpoint (length buffer') r) where
       acted_is : Acted.answer ≡ 0
-      acted_is = sym number_is ∙ ap number_of d
+      acted_is = sym number_is ∙ d
 
       take_is : take_step (length buffer') (seen_host acts.endpoint) ≡ take_step (length buffer) Acted.after
       take_is = rw (el, after_is)
 
-      refusal_is : Refusal ≡ (take_step (length buffer) Acted.after).answer
+      refusal_is : Refused ≡ (take_step (length buffer) Acted.after).answer
       unfolding poll_refusal host_takes
       refusal_is = rw (eq-eqb Acted.answer 0 acted_is)
 
-      answer_is : number_of r.answer ≡ Refusal
+      answer_is : number_of (answer_in r.answer) ≡ Refused
       answer_is = et.answer ∙ rw take_is (sym refusal_is)
 
-      taken_in : Refusal ≡ 0 → Poll r
+      taken_in : Refused ≡ 0 → Poll r
       unfolding polled polled_part host_takes
       taken_in z =
           let t : (take_step (length buffer) Acted.after).answer ≡ 0 = sym refusal_is ∙ z in
@@ -347,14 +349,14 @@ module _ (s : SpectatorSession) (now epoch nonce : ℕ) (buffer buffer' : List �
             same = λ n. absurd (n refl);
           })
 
-      not_taken : (Refusal ≡ 0 → ⊥) → Poll r
+      not_taken : (Refused ≡ 0 → ⊥) → Poll r
       not_taken n =
           let k : (take_step (length buffer) Acted.after).answer ≡ 0 → ⊥ = λ z. n (refusal_is ∙ z) in
           let k' : (take_step (length buffer') (seen_host acts.endpoint)).answer ≡ 0 → ⊥ = rw take_is k in
           refused_poll r answer_is n (et.same k') (et.filled ∙ rw (ne_eqb (take_step (length buffer') (seen_host acts.endpoint)).answer 0 k')) (kept (nothing_taken now epoch nonce (length buffer) (seen s) acted_is k))
 
       pub act_done_polls : Poll r
-      act_done_polls = elim (ℕ_discrete Refusal 0) [
+      act_done_polls = elim (ℕ_discrete Refused 0) [
         | yes z ↦ taken_in z
         | no n ↦ not_taken n
       ]

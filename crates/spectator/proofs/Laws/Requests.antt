@@ -7,10 +7,13 @@ use native.Mathlib.Omega.{arith}
 use Prim.Native.Nat.{ℕ, zero, suc, ◌+◌, ◌≤◌, ◌<◌}
 use native.Mathlib.Nat.{add-suc, suc-add, add-zero}
 use native.Mathlib.Numerals.{add-one}
-use lib.ListN.{length, take, set, get_or, length-map, length-take, get_or-map}
+use lib.ListN.{length, take, set, get_or, length-take}
 use lib.Seq.{take-suc-set}
-use Rattle.base.proofs.Arrays.{view_at, view_le}
-use Rattle.base.proofs.Orders.{get_or_within}
+use Rattle.std.specs.Prelude.{Option, Some, None}
+use Rattle.std.specs.List.{slice_get}
+use Rattle.std.specs.Option.{unwrap_or, option_map}
+use Rattle.std.proofs.lemmas.Option.{unwrap_or-slice_get, slice_get-map}
+use Rattle.fixed_vec.specs.FixedVec.{held}
 use Rattle.status.specs.declared.ConnectionStatus.{ConnectionStatus}
 use Rattle.spectator_rules.specs.declared.InputStatus.TheVariants.{Confirmed, Disconnected}
 use Rattle.spectator_rules.specs.declared.PlayerInput.{PlayerInput}
@@ -38,17 +41,17 @@ module _ (frame : ℕ) (x : PlayerInput) (s : ConnectionStatus) where
 
 -- a frame, by what its slot holds
 module _ (slots frame : ℕ) (l : List PlayerInput) (x : PlayerInput) (e : x ≡ player_input_at slots frame 0 l) where
-  held : held_by slots frame l ≡ x.frame
-  held = ap (λ (p : PlayerInput). p.frame) (sym e)
+  held-frame : held_by slots frame l ≡ x.frame
+  held-frame = ap (λ (p : PlayerInput). p.frame) (sym e)
 
   pub held_earlier : x.frame < frame → 16 ≡ frame_refusal_by slots frame l
-  held_earlier h = rw (lt-ltb (held_by slots frame l) frame (omega (arith, held)))
+  held_earlier h = rw (lt-ltb (held_by slots frame l) frame (omega (arith, held-frame)))
 
   pub held_later : frame ≤ x.frame → frame < x.frame → 17 ≡ frame_refusal_by slots frame l
-  held_later h k = rw (le-ltb (held_by slots frame l) frame (omega (arith, held)), lt-ltb frame (held_by slots frame l) (omega (arith, held)))
+  held_later h k = rw (le-ltb (held_by slots frame l) frame (omega (arith, held-frame)), lt-ltb frame (held_by slots frame l) (omega (arith, held-frame)))
 
   pub held_there : frame ≤ x.frame → x.frame ≤ frame → 0 ≡ frame_refusal_by slots frame l
-  held_there h k = rw (le-ltb (held_by slots frame l) frame (omega (arith, held)), le-ltb frame (held_by slots frame l) (omega (arith, held)))
+  held_there h k = rw (le-ltb (held_by slots frame l) frame (omega (arith, held-frame)), le-ltb frame (held_by slots frame l) (omega (arith, held-frame)))
 
 module _ (slots : ℕ) (l : List PlayerInput) where
   pub refusals_next : (m frame : ℕ) → frame_refusal_by slots frame l ≡ 0 → frames_refusal_by slots (suc m) frame l ≡ frames_refusal_by slots m (suc frame) l
@@ -87,9 +90,9 @@ module _ (slots players frame k : ℕ) (l : List PlayerInput) (s : List Connecti
   request_turn h e q = rw (add-one, take-suc-set, map-append request_of (take k frames) (x ∷ []), e, q, requests_more slots players l s k frame)
 
   abbrev count_of : Request → ℕ
-  count_of r = r.used
+  count_of r = r.inputs.count
 
-  pub count_turn : k < length frames → map count_of (take k frames) ≡ map length (requests_by slots k frame players l s) → x.used ≡ length (frame_inputs_by slots (frame + k) players l s)
+  pub count_turn : k < length frames → map count_of (take k frames) ≡ map length (requests_by slots k frame players l s) → x.inputs.count ≡ length (frame_inputs_by slots (frame + k) players l s)
       → map count_of (take (k + 1) (set frames k x)) ≡ map length (requests_by slots (k + 1) frame players l s)
   count_turn h e q =
       rw (add-one, take-suc-set, map-append count_of (take k frames) (x ∷ []), e, q, requests_more slots players l s k frame, map-append length (requests_by slots k frame players l s) (frame_inputs_by slots (frame + k) players l s ∷ []))
@@ -97,17 +100,13 @@ module _ (slots players frame k : ℕ) (l : List PlayerInput) (s : List Connecti
 -- ---- a frame, read from those advanced
 
 module _ (q : Requests) where
-  pub frames_fit : length (request_frames q) ≤ length q.frames
+  frame_as : (i : ℕ) (o : Option Request) → slice_get (held q.frames) i ≡ o → get_or (request_frames q) i [] ≡ unwrap_or (option_map request_of o) []
   unfolding request_frames
-  frames_fit = rw length-map (view_le q.used q.frames)
+  frame_as i o h = sym (unwrap_or-slice_get (map request_of (held q.frames)) i []) ∙ rw (slice_get-map, h)
 
-  held_at : (i : ℕ) (d : Request) → i < length (request_frames q) → request_of (get_or q.frames i d) ≡ get_or (request_frames q) i []
-  unfolding request_frames
-  held_at i d h =
-      let held : List Request = take q.used q.frames in
-      let k : i < length held = rw length-map at h in
-      ap request_of (sym (view_at q.used q.frames i d k)) ∙ sym (get_or-map request_of held i d) ∙ get_or_within (map request_of held) i (request_of d) [] h
+  pub frame_none : (i : ℕ) → slice_get (held q.frames) i ≡ None → (r : Request) → RequestAs [] r → RequestAs (get_or (request_frames q) i []) r
+  frame_none i h r e = rw (frame_as i None h) e
 
-  pub frame_at : (i : ℕ) (d : Request) (n : ℕ) → i < length (request_frames q) → n ≡ length (request_of (get_or q.frames i d))
-      → RequestAs (get_or (request_frames q) i []) (record { inputs = (get_or q.frames i d).inputs; used = n })
-  frame_at i d n h e = rw (← held_at i d h) (request-counted n (get_or q.frames i d) e)
+  pub frame_some : (i : ℕ) (x : Request) → slice_get (held q.frames) i ≡ Some x → (n : ℕ) → n ≡ length (request_of x)
+      → RequestAs (get_or (request_frames q) i []) (record { inputs = record { list = x.inputs.list; count = n } })
+  frame_some i x h n e = rw (frame_as i (Some x) h) (request-counted n x e)

@@ -7,13 +7,16 @@ use native.Mathlib.Decide.{ℕ_discrete}
 use lib.ListN.{length, take, get_or}
 use Rattle.base.specs.Lay.{laid_at}
 use Rattle.base.proofs.Settled.{settled}
+use Rattle.std.specs.Prelude.{Result, Ok, Err}
+use Rattle.answer.specs.declared.Refusal.{Refusal}
+use Rattle.answer.specs.Number.{Answered, number_of, refusal_number}
 use Rattle.answer.proofs.Number.{number_determines}
+use Rattle.answer.proofs.Refused.{not_done}
 use Rattle.codec.specs.Message.{Wire}
 use Rattle.endpoint_rules.specs.Value.{handed_back}
 use Rattle.endpoint.specs.Endpoint.{SameTerms}
-use Rattle.endpoint.specs.Taken.{shorter}
-use Rattle.endpoint.specs.declared.getters.StatsResult.{StatsResult}
-use Rattle.endpoint.specs.declared.getters.StatsResult.TheVariants.{Stats, Refused}
+use Rattle.endpoint.specs.Taken.{shorter, answer_in, count_in}
+use Rattle.quality.specs.declared.NetworkStats.{NetworkStats}
 use Rattle.endpoint.proofs.Laws.Settled.{same_terms}
 use Rattle.spectator_rules.specs.declared.SessionEntry.{SessionEntry}
 use Rattle.spectator_rules.specs.declared.SessionSetup.{SessionSetup}
@@ -26,8 +29,6 @@ use Rattle.spectator_rules.specs.Value.{Value, value_of}
 use Rattle.spectator.specs.declared.SpectatorSession.{SpectatorSession}
 use Rattle.spectator.specs.declared.Ended.{Ended}
 use Rattle.spectator.specs.declared.advancing.Advanced.{Advanced}
-use Rattle.spectator.specs.declared.getters.FramesBehind.{FramesBehind}
-use Rattle.spectator.specs.declared.getters.FramesBehind.TheVariants.{Frames, Overflow}
 use Rattle.spectator.specs.declared.getters.TakenEvents.{TakenEvents}
 use Rattle.spectator.specs.declared.hosting.TakenMessages.{TakenMessages}
 use Rattle.spectator.specs.declared.polling.Polled.{Polled}
@@ -37,12 +38,12 @@ use Rattle.spectator.specs.declared.requests.Request.{Request}
 use Rattle.spectator.specs.declared.requests.Requests.{Requests}
 use Rattle.spectator.specs.Stores.{inputs_of, events_of, request_of, request_frames, request_counts, RequestAs, RequestsAs, blank_session_entry, blank_synced}
 use Rattle.spectator.specs.Session.{seen, Counted, DidAs, DoneAs}
-use Rattle.spectator.specs.Answers.{shown, shown_stats, shown_behind, MadeAs, TakenAs, TakenIntoAs, polled_part, PolledAs, AdvancedAs}
+use Rattle.spectator.specs.Answers.{shown, shown_stats, shown_behind, MadeAs, TakenAs, TakenIntoAs, polled_part, PolledAs, AdvancedAs, frames_answer, GivenAs}
 
 -- ---- two sessions are alike: they are seen the same, their stores have the same counts, and their hosts the same setup and the same count of statuses
 
 abbrev SameCounts : SpectatorSession → SpectatorSession → Type 0
-SameCounts r s = (r.inputs.used ≡ s.inputs.used) × (r.statuses.count ≡ s.statuses.count) × (r.events.used ≡ s.events.used)
+SameCounts r s = (r.inputs.entries.count ≡ s.inputs.entries.count) × (r.statuses.count ≡ s.statuses.count) × (r.events.entries.count ≡ s.events.entries.count)
 
 abbrev Alike : SpectatorSession → SpectatorSession → Type 0
 Alike r s = (seen r ≡ seen s) × SameCounts r s × SameTerms r.host s.host
@@ -89,7 +90,7 @@ module _ (e : SessionEvents) where
 
 -- the frames, how many they are, and the count of players in each
 abbrev SameRequests : Requests → Requests → Type 0
-SameRequests r s = (request_frames r ≡ request_frames s) × (r.used ≡ s.used) × (request_counts r ≡ request_counts s)
+SameRequests r s = (request_frames r ≡ request_frames s) × (r.frames.count ≡ s.frames.count) × (request_counts r ≡ request_counts s)
 
 same_requests : {l : List (List SyncedInput)} {r s : Requests} → RequestsAs l r → RequestsAs l s → SameRequests r s
 same_requests a b = (a.frames ∙ sym b.frames, a.count ∙ sym b.count, a.players ∙ sym b.players)
@@ -98,7 +99,7 @@ module _ (q : Requests) where
   pub requests_count_settled : (m n : ℕ) → m ≡ length (request_frames q) → n ≡ length (request_frames q) → m ≡ n
   requests_count_settled = settled (λ x. x) (length (request_frames q))
 
-  pub frame_settled : (i : ℕ) (r s : Request) → RequestAs (get_or (request_frames q) i []) r → RequestAs (get_or (request_frames q) i []) s → (request_of r ≡ request_of s) × (r.used ≡ s.used)
+  pub frame_settled : (i : ℕ) (r s : Request) → RequestAs (get_or (request_frames q) i []) r → RequestAs (get_or (request_frames q) i []) s → (request_of r ≡ request_of s) × (r.inputs.count ≡ s.inputs.count)
   frame_settled i r s a b = (a.0 ∙ sym b.0, a.1 ∙ sym b.1)
 
 module _ (q : Request) where
@@ -108,17 +109,40 @@ module _ (q : Request) where
   pub input_settled : (player : ℕ) (r s : SyncedInput) → r ≡ get_or (request_of q) player blank_synced → s ≡ get_or (request_of q) player blank_synced → r ≡ s
   input_settled player = settled (λ x. x) (get_or (request_of q) player blank_synced)
 
-same_stats : (r s : StatsResult) → shown_stats r ≡ shown_stats s → r ≡ s
-same_stats (Stats a) (Stats b) h = let v : Value.stats a ≡ Value.stats b = ap (λ (t : ℕ × Value). t.1) h in cc
-same_stats (Stats a) (Refused b) h = let v : Value.stats a ≡ Value.nothing = ap (λ (t : ℕ × Value). t.1) h in cc
-same_stats (Refused a) (Stats b) h = let v : Value.nothing ≡ Value.stats b = ap (λ (t : ℕ × Value). t.1) h in cc
-same_stats (Refused a) (Refused b) h = ap Refused (number_determines a b (ap (λ (t : ℕ × Value). t.0) h))
+same_refusal : (a b : Refusal) → refusal_number a ≡ refusal_number b → a ≡ b
+same_refusal a b h = let e : ◌≡◌ {A = Answered} (Err a) (Err b) = number_determines (Err a) (Err b) h in cc
 
-same_behind : (r s : FramesBehind) → shown_behind r ≡ shown_behind s → r ≡ s
-same_behind (Frames m) (Frames n) h = let v : Value.count m ≡ Value.count n = ap (λ (t : ℕ × Value). t.1) h in cc
-same_behind (Frames m) Overflow h = let v : Value.count m ≡ Value.nothing = ap (λ (t : ℕ × Value). t.1) h in cc
-same_behind Overflow (Frames n) h = let v : Value.nothing ≡ Value.count n = ap (λ (t : ℕ × Value). t.1) h in cc
-same_behind Overflow Overflow h = refl
+same_stats : (r s : Result NetworkStats Refusal) → shown_stats r ≡ shown_stats s → r ≡ s
+same_stats (Ok a) (Ok b) h = let v : Value.stats a ≡ Value.stats b = ap (λ (t : ℕ × Value). t.1) h in cc
+same_stats (Ok a) (Err b) h = let v : Value.stats a ≡ Value.nothing = ap (λ (t : ℕ × Value). t.1) h in cc
+same_stats (Err a) (Ok b) h = let v : Value.nothing ≡ Value.stats b = ap (λ (t : ℕ × Value). t.1) h in cc
+same_stats (Err a) (Err b) h = ap Err (same_refusal a b (ap (λ (t : ℕ × Value). t.0) h))
+
+same_behind : (r s : Result ℕ Refusal) → shown_behind r ≡ shown_behind s → r ≡ s
+same_behind (Ok m) (Ok n) h = let v : Value.count m ≡ Value.count n = ap (λ (t : ℕ × Value). t.1) h in cc
+same_behind (Ok m) (Err b) h = let v : Value.count m ≡ Value.nothing = ap (λ (t : ℕ × Value). t.1) h in cc
+same_behind (Err a) (Ok n) h = let v : Value.nothing ≡ Value.count n = ap (λ (t : ℕ × Value). t.1) h in cc
+same_behind (Err a) (Err b) h = ap Err (same_refusal a b (ap (λ (t : ℕ × Value). t.0) h))
+
+-- an answer with a count
+same_counted : (r s : Result ℕ Refusal) → number_of (answer_in r) ≡ number_of (answer_in s) → count_in r ≡ count_in s → r ≡ s
+same_counted (Ok m) (Ok n) h k = ap Ok k
+same_counted (Ok m) (Err b) h k = absurd (not_done b (sym h))
+same_counted (Err a) (Ok n) h k = absurd (not_done a h)
+same_counted (Err a) (Err b) h k = ap Err (same_refusal a b h)
+
+-- the frames of an answer that has some, or its refusal
+abbrev SameGiven : Result Requests Refusal → Result Requests Refusal → Type 0
+SameGiven (Ok p) (Ok q) = SameRequests p q
+SameGiven (Ok p) (Err b) = ⊥
+SameGiven (Err a) (Ok q) = ⊥
+SameGiven (Err a) (Err b) = a ≡ b
+
+same_given : (l : List (List SyncedInput)) (r s : Result Requests Refusal) → number_of (frames_answer r) ≡ number_of (frames_answer s) → GivenAs l r → GivenAs l s → SameGiven r s
+same_given l (Ok p) (Ok q) h x y = same_requests x y
+same_given l (Ok p) (Err b) h x y = absurd (not_done b (sym h))
+same_given l (Err a) (Ok q) h x y = absurd (not_done a h)
+same_given l (Err a) (Err b) h x y = same_refusal a b h
 
 module _ (e : SpectatorSession) where
   module _ (d : Did) where
@@ -157,39 +181,39 @@ module _ (e : SpectatorSession) where
     ]
 
     pub poll_remote_clients_settled : (r s : Polled) (b c : List ℕ) → Polls r b → Polls s c
-        → (r.answer ≡ s.answer) × Alike r.session s.session × (r.filled ≡ s.filled) × (b ≡ c)
+        → (r.answer ≡ s.answer) × Alike r.session s.session × (b ≡ c)
     poll_remote_clients_settled r s b c x y =
-        (number_determines r.answer s.answer (x.answer ∙ sym y.answer), polled_alike r s b c x y, x.filled ∙ sym y.filled, x.lent ∙ sym y.lent)
+        (same_counted r.answer s.answer (x.answer ∙ sym y.answer) (x.filled ∙ sym y.filled), polled_alike r s b c x y, x.lent ∙ sym y.lent)
 
   pub advance_frame_settled : (r s : Advanced) → AdvancedAs e r → AdvancedAs e s
-      → (r.answer ≡ s.answer) × Alike r.session s.session × SameRequests r.requests s.requests
-  advance_frame_settled r s x y = (number_determines r.answer s.answer (x.answer ∙ sym y.answer), alike_but r.session s.session (x.after ∙ sym y.after) x.own y.own (refl, refl, refl) (own_terms e), same_requests x.requests y.requests)
+      → SameGiven r.answer s.answer × Alike r.session s.session
+  advance_frame_settled r s x y = (same_given _ r.answer s.answer (x.answer ∙ sym y.answer) x.requests y.requests, alike_but r.session s.session (x.after ∙ sym y.after) x.own y.own (refl, refl, refl) (own_terms e))
 
   pub take_messages_settled : (buffer : ℕ) (r s : Ended) → DoneAs e (step (Call.take_messages buffer) (seen e)) r → DoneAs e (step (Call.take_messages buffer) (seen e)) s
       → (r.answer ≡ s.answer) × Alike r.session s.session
   take_messages_settled buffer = done_settled (step (Call.take_messages buffer) (seen e))
 
   pub take_messages_into_settled : (buffer into : List ℕ) (r s : TakenMessages) (b c : List ℕ) → TakenIntoAs e buffer into r b → TakenIntoAs e buffer into s c
-      → (r.answer ≡ s.answer) × Alike r.session s.session × (r.count ≡ s.count) × (b ≡ c)
+      → (r.answer ≡ s.answer) × Alike r.session s.session × (b ≡ c)
   take_messages_into_settled buffer into r s b c x y =
-      let same : r.count ≡ s.count = x.count ∙ sym y.count in
+      let same : count_in r.answer ≡ count_in s.answer = x.count ∙ sym y.count in
       let t = done_settled (step (Call.take_messages (shorter buffer into)) (seen e)) _ _ x.taken y.taken in
-      (t.0, t.1, same, x.lent ∙ ap (λ n. laid_at into 0 (take n buffer)) same ∙ sym y.lent)
+      (same_counted r.answer s.answer (ap number_of t.0) same, t.1, x.lent ∙ ap (λ n. laid_at into 0 (take n buffer)) same ∙ sym y.lent)
 
   pub messages_settled : (buffer a b : List ℕ) → a ≡ take (handed_back (length buffer) (seen e).host) buffer → b ≡ take (handed_back (length buffer) (seen e).host) buffer → a ≡ b
   messages_settled buffer a b = settled (λ x. x) (take (handed_back (length buffer) (seen e).host) buffer) a b
 
   pub take_events_settled : (r s : TakenEvents) → TakenAs e r → TakenAs e s
-      → (events_of r.events ≡ events_of s.events) × (r.events.used ≡ s.events.used) × Alike r.session s.session
+      → (events_of r.events ≡ events_of s.events) × (r.events.entries.count ≡ s.events.entries.count) × Alike r.session s.session
   take_events_settled r s x y =
       let z : Value.events (events_of r.events) ≡ Value.events (events_of s.events) = x.events ∙ sym y.events in
       let same : events_of r.events ≡ events_of s.events = cc in
       (same, x.count ∙ ap length same ∙ sym y.count, alike_but r.session s.session (x.after ∙ sym y.after) x.own y.own (refl, refl, x.left ∙ sym y.left) (own_terms e))
 
-  pub network_stats_settled : (epoch : ℕ) (r s : StatsResult) → shown_stats r ≡ shown (Call.network_stats epoch) (seen e) → shown_stats s ≡ shown (Call.network_stats epoch) (seen e) → r ≡ s
+  pub network_stats_settled : (epoch : ℕ) (r s : Result NetworkStats Refusal) → shown_stats r ≡ shown (Call.network_stats epoch) (seen e) → shown_stats s ≡ shown (Call.network_stats epoch) (seen e) → r ≡ s
   network_stats_settled epoch r s a b = same_stats r s (a ∙ sym b)
 
-  pub frames_behind_host_settled : (r s : FramesBehind) → shown_behind r ≡ shown Call.frames_behind_host (seen e) → shown_behind s ≡ shown Call.frames_behind_host (seen e) → r ≡ s
+  pub frames_behind_host_settled : (r s : Result ℕ Refusal) → shown_behind r ≡ shown Call.frames_behind_host (seen e) → shown_behind s ≡ shown Call.frames_behind_host (seen e) → r ≡ s
   frames_behind_host_settled r s a b = same_behind r s (a ∙ sym b)
 
   pub current_state_settled : (r s : SessionState) → Value.state r ≡ value_of Call.current_state (seen e) → Value.state s ≡ value_of Call.current_state (seen e) → r ≡ s

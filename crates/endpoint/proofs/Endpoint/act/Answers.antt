@@ -1,42 +1,38 @@
 -- `act` tests clocks and count, and does what its phase brings.
-use mathlib.Core.Bool.{false}
 use mathlib.Core.Logic.{inl, inr}
-use mathlib.Core.Path.{◌≡◌, sym, ◌∙◌, subst, subst₂}
-use borrow.Author.Tests.{not-true, not-false}
-use Rattle.timers.specs.Timers.{bad_clocks}
-use Rattle.endpoint.proofs.Laws.Lengths.{acked_long, no_event_fits}
+use mathlib.Core.Path.{sym, ◌∙◌, subst, subst₂}
+use Rattle.endpoint.proofs.Laws.Handshake.{good_clocks}
+use Rattle.endpoint.proofs.Laws.Lengths.{entries_long, acked_long, no_event_fits}
 use Rattle.endpoint.proofs.Laws.Act.Ways.{Resent, Packed, Announced, resent_none, resent_some, packed_none, size_is, packed_some, announced_full, announced_fits, announced_none, announced_some, running_unannounced, running_full, running-done, synchronizing_idle, synchronizing_full, synchronizing_done, disconnected_idle, disconnected_over, act_synchronizing, act_running, act_disconnected, act_idle}
 use Rattle.endpoint.proofs.Endpoint.act.Goals as goal
 use Rattle.endpoint.proofs.Endpoint.act.Goals.{Joined-announced-gt0, Joined-sends, then-sends+else-buffer_full, else-sends, then-due, else-due, then-announced-gt0, else-announced-gt0}
 
-pub returns-then-not-requested : goal.returns-then-not-requested
-returns-then-not-requested c =
+pub returns-in-Err : goal.returns-in-Err
+returns-in-Err c =
     let a = c.args in
-    let good : bad_clocks a.now a.epoch ≡ false = rw (← c.is_bad.ensures, c.if-is_bad.false, ← c.is_bad-else-is_bad.ensures, c.if-is_bad-2.false) in
-    let asked = c.request-requested in
+    let good = good_clocks a.now a.epoch _ _ c.is_bad.ensures c.if-is_bad.false c.is_bad-else-is_bad.ensures c.if-is_bad-2.false in
     act_synchronizing a.self a.out.now a.statuses a.now a.epoch a.nonce good c.if-statuses-self.false c.in-Synchronizing.is _ _
-    (synchronizing_full a.self a.out.now a.now a.nonce (sym c.passed.ensures ∙ c.if-passed.true) asked.result _ asked.ensures (not-true _ c.if-not-requested.true))
+    (synchronizing_full a.self a.out.now a.now a.nonce (sym c.passed.ensures ∙ c.if-passed.true) _ _ _ (rw c.in-Err.is at c.request.ensures))
 
-pub returns-else-not-requested : goal.returns-else-not-requested
-returns-else-not-requested c =
+pub returns-in-Ok : goal.returns-in-Ok
+returns-in-Ok c =
     let a = c.args in
-    let good : bad_clocks a.now a.epoch ≡ false = rw (← c.is_bad.ensures, c.if-is_bad.false, ← c.is_bad-else-is_bad.ensures, c.if-is_bad-2.false) in
-    let asked = c.request-requested in
+    let good = good_clocks a.now a.epoch _ _ c.is_bad.ensures c.if-is_bad.false c.is_bad-else-is_bad.ensures c.if-is_bad-2.false in
     act_synchronizing a.self a.out.now a.statuses a.now a.epoch a.nonce good c.if-statuses-self.false c.in-Synchronizing.is _ _
-    (synchronizing_done a.self a.out.now a.now a.nonce (sym c.passed.ensures ∙ c.if-passed.true) asked.result _ asked.ensures
-    (no_event_fits a.self _ c.well_formed.0) (not-false _ c.if-not-requested.false) c.issue-self.result c.issue-self.ensures)
+    (synchronizing_done a.self a.out.now a.now a.nonce (sym c.passed.ensures ∙ c.if-passed.true) _ _ (rw c.in-Ok.is at c.request.ensures)
+    (no_event_fits a.self (entries_long a.self _ c.well_formed.0)) c.issue-self.result c.issue-self.ensures)
 
 pub returns-else-passed : goal.returns-else-passed
 returns-else-passed c =
     let a = c.args in
-    let good : bad_clocks a.now a.epoch ≡ false = rw (← c.is_bad.ensures, c.if-is_bad.false, ← c.is_bad-else-is_bad.ensures, c.if-is_bad-2.false) in
+    let good = good_clocks a.now a.epoch _ _ c.is_bad.ensures c.if-is_bad.false c.is_bad-else-is_bad.ensures c.if-is_bad-2.false in
     act_synchronizing a.self a.out.now a.statuses a.now a.epoch a.nonce good c.if-statuses-self.false c.in-Synchronizing.is _ _
-    (synchronizing_idle a.self a.out.now a.now a.nonce (no_event_fits a.self _ c.well_formed.0) (sym c.passed.ensures ∙ c.if-passed.false))
+    (synchronizing_idle a.self a.out.now a.now a.nonce (no_event_fits a.self (entries_long a.self _ c.well_formed.0)) (sym c.passed.ensures ∙ c.if-passed.false))
 
 pub returns-then-count-announced-gt-MOST_EVENTS : goal.returns-then-count-announced-gt-MOST_EVENTS
 returns-then-count-announced-gt-MOST_EVENTS c =
     let a = c.args in
-    let good : bad_clocks a.now a.epoch ≡ false = rw (← c.is_bad.ensures, c.if-is_bad.false, ← c.is_bad-else-is_bad.ensures, c.if-is_bad-2.false) in
+    let good = good_clocks a.now a.epoch _ _ c.is_bad.ensures c.if-is_bad.false c.is_bad-else-is_bad.ensures c.if-is_bad-2.false in
     let count = c.count-pending in
     let due = c.due_at-due in
     act_running a.self a.out.now a.statuses a.now a.epoch a.nonce good c.if-statuses-self.false c.in-Running.is _ _
@@ -46,7 +42,7 @@ returns-then-count-announced-gt-MOST_EVENTS c =
 pub returns-then-buffer_full : goal.returns-then-buffer_full
 returns-then-buffer_full c =
     let a = c.args in
-    let good : bad_clocks a.now a.epoch ≡ false = rw (← c.is_bad.ensures, c.if-is_bad.false, ← c.is_bad-else-is_bad.ensures, c.if-is_bad-2.false) in
+    let good = good_clocks a.now a.epoch _ _ c.is_bad.ensures c.if-is_bad.false c.is_bad-else-is_bad.ensures c.if-is_bad-2.false in
     let count = c.count-pending in
     let due = c.due_at-due in
     let full = c.buffer_full in
@@ -65,7 +61,7 @@ packed c =
       | then-sends+else-buffer_full w ↦
           let width = w.sending_width-width.result in
           let resent : Resent a.self a.out.now a.statuses a.now a.epoch d width w.if-due.self w.if-due.out = elim w.if-due.branch [
-            | then-due v ↦ subst₂ (Resent a.self a.out.now a.statuses a.now a.epoch d width) (sym v.self-is) (sym v.out-is) (resent_some a.self a.out.now a.statuses a.now a.epoch d width v.if-due.true v.newest.result v.newest.ensures v.pending_input-queued.result _ v.pending_input-queued.ensures)
+            | then-due v ↦ subst₂ (Resent a.self a.out.now a.statuses a.now a.epoch d width) (sym v.self-is) (sym v.out-is) (resent_some a.self a.out.now a.statuses a.now a.epoch d width v.if-due.true v.newest.result v.newest.ensures v.pending_input.result _ v.pending_input.ensures _ v.unwrap_or.ensures)
             | else-due v ↦ subst₂ (Resent a.self a.out.now a.statuses a.now a.epoch d width) (sym v.self-is) (sym v.out-is) (resent_none a.self a.out.now a.statuses a.now a.epoch d width v.if-due.false)
           ] in
           subst₂ (Packed a.self a.out.now a.statuses a.now a.epoch d) (sym w.self-is) (sym w.out-is) (packed_some a.self a.out.now a.statuses a.now a.epoch d width w.size-size.result w.buffer_full.result w.sending_width-width.ensures (acked_long a.self _ c.well_formed.0) w.size-size.ensures w.buffer_full.ensures w.if-due.self w.if-due.out resent w.write_reports.result _ w.write_reports.ensures w.if-buffer_full.false)
@@ -80,40 +76,40 @@ announced c =
     let n = c.count in
     let m = c.event_count-announced in
     elim c.if-announced-gt0.branch [
-      | then-announced-gt0 w ↦ subst (Announced a.self a.out.now a.statuses a.now a.epoch d c.if-sends.self) (sym w.self-is) (announced_some a.self a.out.now a.statuses a.now a.epoch d n.result m.result n.ensures m.ensures c.if-sends.self (packed c.before).0 c.if-count-announced-gt-MOST_EVENTS.false w.announce-pushed.result w.announce-pushed.ensures)
+      | then-announced-gt0 w ↦ subst (Announced a.self a.out.now a.statuses a.now a.epoch d c.if-sends.self) (sym w.self-is) (announced_some a.self a.out.now a.statuses a.now a.epoch d n.result m.result n.ensures m.ensures c.if-sends.self (packed c.before).0 c.if-count-announced-gt-MOST_EVENTS.false w.announce.result w.announce.ensures)
       | else-announced-gt0 w ↦ subst (Announced a.self a.out.now a.statuses a.now a.epoch d c.if-sends.self) (sym w.self-is) (announced_none a.self a.out.now a.statuses a.now a.epoch d n.result m.result n.ensures m.ensures c.if-sends.self (packed c.before).0 w.if-announced-gt0.false)
     ]
 
-pub returns-in-Running : goal.returns-in-Running
-returns-in-Running c =
+pub returns-after-announced-gt0 : goal.returns-after-announced-gt0
+returns-after-announced-gt0 c =
     let a = c.args in
-    let good : bad_clocks a.now a.epoch ≡ false = rw (← c.is_bad.ensures, c.if-is_bad.false, ← c.is_bad-else-is_bad.ensures, c.if-is_bad-2.false) in
+    let good = good_clocks a.now a.epoch _ _ c.is_bad.ensures c.if-is_bad.false c.is_bad-else-is_bad.ensures c.if-is_bad-2.false in
     let count = c.count-pending in
     let due = c.due_at-due in
     let n = c.count in
     let m = c.event_count-announced in
     act_running a.self a.out.now a.statuses a.now a.epoch a.nonce good c.if-statuses-self.false c.in-Running.is _ _
     (running-done a.self a.out.now a.statuses a.now a.epoch due.result count.result count.ensures due.ensures
-    c.if-sends.self c.if-announced-gt0.self c.if-sends.out c.clocks_after-clocks.result c.flags_after-flags.result
+    c.if-sends.self c.if-announced-gt0.self c.if-sends.out c.clocks_after-self.result c.flags_after-self.result
     (announced_fits a.self a.out.now a.statuses a.now a.epoch due.result n.result m.result n.ensures m.ensures c.if-count-announced-gt-MOST_EVENTS.false)
-    (packed c.before.before.before.before.before) (announced c.before.before.before.before) c.clocks_after-clocks.ensures c.flags_after-flags.ensures)
+    (packed c.before.before.before.before.before) (announced c.before.before.before.before) c.clocks_after-self.ensures c.flags_after-self.ensures)
 
 pub returns-then-self-now : goal.returns-then-self-now
 returns-then-self-now c =
     let a = c.args in
-    let good : bad_clocks a.now a.epoch ≡ false = rw (← c.is_bad.ensures, c.if-is_bad.false, ← c.is_bad-else-is_bad.ensures, c.if-is_bad-2.false) in
+    let good = good_clocks a.now a.epoch _ _ c.is_bad.ensures c.if-is_bad.false c.is_bad-else-is_bad.ensures c.if-is_bad-2.false in
     act_disconnected a.self a.out.now a.statuses a.now a.epoch a.nonce good c.if-statuses-self.false c.in-Disconnected.is _
-    (disconnected_over a.self a.now (no_event_fits a.self _ c.well_formed.0) c.if-self-now.true)
+    (disconnected_over a.self a.now (no_event_fits a.self (entries_long a.self _ c.well_formed.0)) c.if-self-now.true)
 
 pub returns-else-self-now : goal.returns-else-self-now
 returns-else-self-now c =
     let a = c.args in
-    let good : bad_clocks a.now a.epoch ≡ false = rw (← c.is_bad.ensures, c.if-is_bad.false, ← c.is_bad-else-is_bad.ensures, c.if-is_bad-2.false) in
+    let good = good_clocks a.now a.epoch _ _ c.is_bad.ensures c.if-is_bad.false c.is_bad-else-is_bad.ensures c.if-is_bad-2.false in
     act_disconnected a.self a.out.now a.statuses a.now a.epoch a.nonce good c.if-statuses-self.false c.in-Disconnected.is _
-    (disconnected_idle a.self a.now (no_event_fits a.self _ c.well_formed.0) c.if-self-now.false)
+    (disconnected_idle a.self a.now (no_event_fits a.self (entries_long a.self _ c.well_formed.0)) c.if-self-now.false)
 
 pub returns-in-Initializing : goal.returns-in-Initializing
 returns-in-Initializing c =
     let a = c.args in
-    let good : bad_clocks a.now a.epoch ≡ false = rw (← c.is_bad.ensures, c.if-is_bad.false, ← c.is_bad-else-is_bad.ensures, c.if-is_bad-2.false) in
-    act_idle a.self a.out.now a.statuses a.now a.epoch a.nonce good c.if-statuses-self.false (no_event_fits a.self _ c.well_formed.0) (elim c.in-Initializing.is [ inl e ↦ inl (rw e) | inr e ↦ inr (rw e) ])
+    let good = good_clocks a.now a.epoch _ _ c.is_bad.ensures c.if-is_bad.false c.is_bad-else-is_bad.ensures c.if-is_bad-2.false in
+    act_idle a.self a.out.now a.statuses a.now a.epoch a.nonce good c.if-statuses-self.false (no_event_fits a.self (entries_long a.self _ c.well_formed.0)) (elim c.in-Initializing.is [ inl e ↦ inl (rw e) | inr e ↦ inr (rw e) ])

@@ -1,25 +1,18 @@
-use borrow.Author.Tests.{not-true, not-false}
-use mathlib.Core.Bool.{Bool, false, ◌||◌}
-use mathlib.Core.Path.{◌≡◌, sym, ◌∙◌, ap}
+-- `synchronize` passes on the request's refusal, or begins.
+use mathlib.Core.Path.{ap}
 use Rattle.endpoint_rules.specs.Seen.{is_initializing}
-use Rattle.endpoint.proofs.Laws.Lengths.{no_event_fits}
-use Rattle.endpoint.proofs.Laws.Handshake.{synchronize_full, synchronize_done}
+use Rattle.endpoint.proofs.Laws.Lengths.{entries_long, no_event_fits}
+use Rattle.endpoint.proofs.Laws.Handshake.{good_clocks, synchronize_full, synchronize_done}
 use Rattle.endpoint.proofs.Endpoint.synchronize.Goals as goal
 
-none_bad : (x y : Bool) → x ≡ false → y ≡ false → x || y ≡ false
-none_bad x y h k = rw (h, k)
-
-pub returns-then-not-requested : goal.returns-then-not-requested
-returns-then-not-requested c =
+pub returns-in-Ok : goal.returns-in-Ok
+returns-in-Ok c =
     let a = c.args in
-    let asked = c.request-requested in
-    synchronize_full a.self a.out.now a.now a.epoch a.nonce (none_bad _ _ (sym c.is_bad.ensures ∙ c.if-is_bad.false) (sym c.is_bad-else-is_bad.ensures ∙ c.if-is_bad-2.false)) (ap is_initializing c.in-Initializing.is)
-    asked.result asked.new.out asked.ensures (not-true _ c.if-not-requested.true)
+    synchronize_done a.self a.out.now a.now a.epoch a.nonce (good_clocks a.now a.epoch _ _ c.is_bad.ensures c.if-is_bad.false c.is_bad-else-is_bad.ensures c.if-is_bad-2.false) (ap is_initializing c.in-Initializing.is)
+    _ _ (rw c.in-Ok.is at c.request.ensures) (no_event_fits a.self (entries_long a.self _ c.well_formed.0)) c.issue-self.result c.issue-self.ensures c.started-self.result c.started-self.ensures
 
-pub returns : goal.returns
-returns c =
+pub returns-in-Err : goal.returns-in-Err
+returns-in-Err c =
     let a = c.args in
-    let asked = c.request-requested in
-    synchronize_done a.self a.out.now a.now a.epoch a.nonce (none_bad _ _ (sym c.is_bad.ensures ∙ c.if-is_bad.false) (sym c.is_bad-else-is_bad.ensures ∙ c.if-is_bad-2.false)) (ap is_initializing c.in-Initializing.is)
-    asked.result asked.new.out asked.ensures (not-false _ c.if-not-requested.false)
-    (no_event_fits a.self _ c.well_formed.0) c.issue-self.result c.issue-self.ensures c.started-quality.result c.started-quality.ensures
+    synchronize_full a.self a.out.now a.now a.epoch a.nonce (good_clocks a.now a.epoch _ _ c.is_bad.ensures c.if-is_bad.false c.is_bad-else-is_bad.ensures c.if-is_bad-2.false) (ap is_initializing c.in-Initializing.is)
+    _ _ _ (rw c.in-Err.is at c.request.ensures)

@@ -1,3 +1,4 @@
+-- `take_events` hands back those held, with their count.
 use Rattle.endpoint.proofs.Laws.Taking.{takes_events}
 use Rattle.endpoint.proofs.Endpoint.take_events.Goals as goal
 

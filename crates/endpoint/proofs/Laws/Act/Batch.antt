@@ -1,5 +1,5 @@
 -- Messages written one after another into a buffer that has room for all are one queue; and how long it is.
-use borrow.Author.Tests.{ltb-false, lt-ltb, le-ltb}
+use borrow.Author.Tests.{ltb-true, ltb-false, lt-ltb, le-ltb}
 use mathlib.Core.Bool.{Bool, true, false, ◌||◌}
 use mathlib.Core.List.{List, [], ◌∷◌, ◌++◌, flatten, append-nil, append_assoc}
 use mathlib.Core.Logic.{inl, inr}
@@ -16,10 +16,12 @@ use Rattle.codec.specs.Message.{Wire, body_size, table_size}
 use Rattle.codec.specs.Bytes.{queue_of}
 use Rattle.codec.specs.declared.MessageBody.{MessageBody}
 use Rattle.codec.specs.declared.MessageBody.TheVariants.{SyncRequest, SyncReply, Input, InputAck, QualityReport, QualityReply, ChecksumReport, KeepAlive}
-use Rattle.outbox.specs.declared.Queued.{Queued}
 use Rattle.outbox.specs.Outbox.{queue_size, QueuedAs}
-use Rattle.outbox.proofs.Laws.{queued_room, bytes_size}
+use Rattle.outbox.proofs.Laws.{bytes_size}
 use Rattle.endpoint_rules.specs.Room.{buffer_full}
+use Rattle.std.specs.Prelude.{Result, Ok, Err}
+use Rattle.std.specs.Result.{result_unwrap_or}
+use Rattle.answer.specs.declared.Refusal.{Refusal}
 use Rattle.endpoint.specs.Inside.Batch.{BatchWrittenAs, WrittenWhere}
 
 -- ---- sizes
@@ -83,17 +85,19 @@ module _ (b : List ℕ) (at : ℕ) where
   unfolding queue_size flatten
   written_none h = record { end = sym (add-zero at); lent = sym (laid_none b at); long = refl }
 
-  pub written_one : (w : Wire) (q : Queued) (b' : List ℕ) → QueuedAs b at w q b' → WrittenWhere b at (w ∷ []) q.end b'
+  -- where there is room, the answer is where it ends
+  pub written_one : (w : Wire) (r : Result ℕ Refusal) (b' : List ℕ) → QueuedAs b at w r b' → WrittenWhere b at (w ∷ []) (result_unwrap_or r at) b'
   unfolding queue_size flatten
-  written_one w q b' eq h =
+  written_one w (Ok q) b' eq h =
+      record {
+        end = rw (eq.end, add-zero);
+        lent = eq.lent ∙ rw append-nil;
+        long = rw (append-nil, add-zero) (bytes_size w eq.fits);
+      }
+  written_one w (Err r) b' eq h =
       let some = some_bytes w.body (length w.reports) (length w.payload) in
       let room : at + table_size w ≤ length b = rw add-zero at (room_there (length b) at (table_size w + 0) h (omega arith)) in
-      let x = queued_room b at w q b' eq room in
-      record {
-        end = rw (x.0, add-zero);
-        lent = x.1 ∙ rw append-nil;
-        long = rw (append-nil, add-zero) (bytes_size w x.2);
-      }
+      absurd (omega (arith, room, ltb-true _ _ eq.0))
 
   module _ (ws vs : List Wire) (m n : ℕ) (b' b'' : List ℕ) where
     pub written_then : WrittenWhere b at ws m b' → WrittenWhere b' m vs n b'' → WrittenWhere b at (ws ++ vs) n b''

@@ -1,4 +1,5 @@
 -- The ways out of act, by phase.
+use Rattle.std.specs.Prelude.{Result, Ok, Err}
 use borrow.Author.Tests.{lt-ltb, le-ltb, lt-leb, le-leb, eq-eqb, ne_eqb}
 use denote.Enum.Declared.{tag_of}
 use mathlib.Core.Bool.{Bool, true, false, ◌||◌}
@@ -11,8 +12,8 @@ use lib.Dec.{ltb}
 use lib.ListN.{length}
 use Rattle.base.specs.Pick.{pick}
 use Rattle.base.proofs.Tags.{none_of}
-use Rattle.answer.specs.declared.Answer.{Answer}
-use Rattle.answer.specs.declared.Answer.TheVariants.{Done, BadLength, Full, BadClock}
+use Rattle.answer.specs.Number.{Answered}
+use Rattle.answer.specs.declared.Refusal.TheVariants.{BadLength, Full, BadClock}
 use Rattle.status.specs.declared.ConnectionStatus.{ConnectionStatus}
 use Rattle.status.specs.declared.list.Statuses.{Statuses}
 use Rattle.status.specs.Statuses.{held_statuses}
@@ -29,7 +30,8 @@ use Rattle.events.specs.Events.{held_events, has_room, both, PushedAs}
 use Rattle.events.proofs.Laws.{both-length}
 use Rattle.codec.specs.Message.{Wire}
 use Rattle.setup.specs.Setup.{terms_of, terms_with, sending_width}
-use Rattle.outbox.specs.declared.Queued.{Queued}
+use Rattle.std.specs.Result.{result_unwrap_or}
+use Rattle.answer.specs.declared.Refusal.{Refusal}
 use Rattle.outbox.specs.Outbox.{queue_size, pending_input, QueuedAs}
 use Rattle.endpoint_rules.specs.declared.Flags.{Flags}
 use Rattle.endpoint_rules.specs.declared.Phase.{Phase}
@@ -45,7 +47,6 @@ use Rattle.endpoint_rules.specs.Step.{reacted, act_step, step}
 use Rattle.endpoint.specs.declared.Endpoint.{Endpoint}
 use Rattle.endpoint.specs.declared.Ended.{Ended}
 use Rattle.endpoint.specs.declared.act.due.Due.{Due}
-use Rattle.endpoint.specs.declared.handshake.Requested.{Requested}
 use Rattle.endpoint.specs.Endpoint.{seen, SameTerms, DidAs, DoneAs}
 use Rattle.endpoint.specs.Inside.Handshake.{RequestedAs}
 use Rattle.endpoint.specs.Inside.Due.{due_of, clocks_by, flags_by, due_events}
@@ -99,10 +100,10 @@ module _ (e : Endpoint) (buffer : List ℕ) (statuses : Statuses) (now epoch : �
     pub resent_none : d.input ≡ false → Resent e buffer
     resent_none h = (refl, rw h (written_none buffer e.queued))
 
-    pub resent_some : d.input ≡ true → (ack : ℕ) → ack ≡ newest_of (received e.history) → (q : Queued) (buffer' : List ℕ)
+    pub resent_some : d.input ≡ true → (ack : ℕ) → ack ≡ newest_of (received e.history) → (q : Result ℕ Refusal) (buffer' : List ℕ)
         → QueuedAs buffer e.queued (pending_input e.setup.magic ack (held_statuses statuses) (waiting e.pending) width e.acked) q buffer'
-        → Resent (grown e e.events q.end) buffer'
-    resent_some h ack newest q buffer' eq = (refl, rw h (written_one buffer e.queued _ q buffer' (rw newest at eq)))
+        → (stop : ℕ) → stop ≡ result_unwrap_or q e.queued → Resent (grown e e.events stop) buffer'
+    resent_some h ack newest q buffer' eq stop es = (refl, rw (h, es) (written_one buffer e.queued _ q buffer' (rw newest at eq)))
 
     module _ (size : ℕ) (full : Bool) (wide : width ≡ sending_width (terms_of e.setup)) (whole : length e.acked.bytes ≡ 64)
         (sized : SizedWith d (held_statuses statuses) (waiting e.pending) width size) (tested : full ≡ buffer_full (length buffer) e.queued size) where
@@ -156,24 +157,24 @@ module _ (e : Endpoint) (buffer : List ℕ) (statuses : Statuses) (now epoch : �
     abbrev Run : Reaction
     Run = acts Running now epoch 0 (held_statuses statuses) (seen e)
 
-    abbrev Ending : Answer → Endpoint → List ℕ → Type 0
+    abbrev Ending : Answered → Endpoint → List ℕ → Type 0
     Ending a n buffer' = DidAs e (reacted (length buffer) (seen e) Run) buffer (record { answer = a; endpoint = n }) buffer'
 
     ran_is : Run.effect ≡ Ran
     unfolding acts seen terms_with
     ran_is = running_is now (seen e) (held_statuses statuses) epoch 0 ∙ ap (ran now (seen e) (held_statuses statuses) epoch) (sym (rw some at due))
 
-    pub running_unannounced : has_room (held_events e.events) (length DueEvents) ≡ false → Ending Full e buffer
+    pub running_unannounced : has_room (held_events e.events) (length DueEvents) ≡ false → Ending (Err Full) e buffer
     unfolding acts seen terms_with
-    running_unannounced h = refused_did e Full _ (reacted_full (length buffer) (seen e) Run refl refl (rw ran_is (full_events buffer Ran h))) buffer
+    running_unannounced h = refused_did e (Err Full) _ (reacted_full (length buffer) (seen e) Run refl refl (rw ran_is (full_events buffer Ran h))) buffer
 
-    pub running_full : buffer_full (length buffer) e.queued (queue_size Ran.out) ≡ true → Ending Full e buffer
+    pub running_full : buffer_full (length buffer) e.queued (queue_size Ran.out) ≡ true → Ending (Err Full) e buffer
     unfolding acts seen
-    running_full h = refused_did e Full _ (reacted_full (length buffer) (seen e) Run refl refl (rw ran_is (full_bytes buffer Ran h))) buffer
+    running_full h = refused_did e (Err Full) _ (reacted_full (length buffer) (seen e) Run refl refl (rw ran_is (full_bytes buffer Ran h))) buffer
 
     module _ (s t : Endpoint) (buffer' : List ℕ) (c : Clocks) (f : Flags) (room : has_room (held_events e.events) (length DueEvents) ≡ true) (packed : Packed s buffer') (announced : Announced s t) where
       ends : c ≡ clocks_by d now e.clocks → f ≡ flags_by d e.flags
-          → Ending Done (remade e e.pending e.acked e.history e.sync e.nonces c f e.quality e.statuses e.checksums t.events s.queued) buffer'
+          → Ending (Ok tt) (remade e e.pending e.acked e.history e.sync e.nonces c f e.quality e.statuses e.checksums t.events s.queued) buffer'
       unfolding acts seen terms_with
       ends ec ef =
           batch_did e _ (record { setup = refl; count = refl }) Ran _ buffer buffer' s.queued
@@ -181,7 +182,7 @@ module _ (e : Endpoint) (buffer : List ℕ) (statuses : Statuses) (now epoch : �
           refl packed.2 (rw (ec, ef, announced.1))
 
       pub running-done : c ≡ clocks_by d now t.clocks → f ≡ flags_by d t.flags
-          → Ending Done (remade t t.pending t.acked t.history t.sync t.nonces c f t.quality t.statuses t.checksums t.events t.queued) buffer'
+          → Ending (Ok tt) (remade t t.pending t.acked t.history t.sync t.nonces c f t.quality t.statuses t.checksums t.events t.queued) buffer'
       running-done ec ef =
           rw announced.0 (ends (ec ∙ ap (λ (x : Endpoint). clocks_by d now x.clocks) announced.0) (ef ∙ ap (λ (x : Endpoint). flags_by d x.flags) announced.0))
 
@@ -190,7 +191,7 @@ module _ (e : Endpoint) (buffer : List ℕ) (statuses : Statuses) (now epoch : �
 -- and queue nothing
 module _ (e : Endpoint) (room : has_room (held_events e.events) 0 ≡ true) (r : Reaction) (short : r.too_long ≡ false) (within : r.overflows ≡ false) (stored : r.store_full ≡ false) where
   pub quiet_done : (n : Endpoint) → SameTerms e n → r.effect.out ≡ [] → r.effect.events ≡ [] → r.effect.state.events ≡ held_events e.events → seen n ≡ r.effect.state
-      → DoneAs e (reacted 0 (seen e) r) (record { answer = Done; endpoint = n })
+      → DoneAs e (reacted 0 (seen e) r) (record { answer = Ok tt; endpoint = n })
   quiet_done n terms o t ev after =
       done-done e n terms r.effect _ (reacted-done 0 (seen e) r short within stored (room_none [] r.effect o (rw (t, ev) room))) o (after ∙ rw (t, append-nil))
 
@@ -198,36 +199,39 @@ module _ (e : Endpoint) (buffer : List ℕ) (now nonce : ℕ) where
   abbrev Ask : Reaction
   Ask = acts Synchronizing now 0 nonce [] (seen e)
 
-  abbrev Asking : Answer → Endpoint → List ℕ → Type 0
+  abbrev Asking : Answered → Endpoint → List ℕ → Type 0
   Asking a n buffer' = DidAs e (reacted (length buffer) (seen e) Ask) buffer (record { answer = a; endpoint = n }) buffer'
 
-  pub synchronizing_idle : has_room (held_events e.events) 0 ≡ true → passed e.clocks.last_sync_request_time 200 now ≡ false → Asking Done e buffer
+  pub synchronizing_idle : has_room (held_events e.events) 0 ≡ true → passed e.clocks.last_sync_request_time 200 now ≡ false → Asking (Ok tt) e buffer
   unfolding acts acted seen
   synchronizing_idle room h = unqueued e Ask (rw h) buffer _ (quiet_done e room Ask refl refl refl e (record { setup = refl; count = refl }) (rw h) (rw h) (rw h) (rw h))
 
-  module _ (due : passed e.clocks.last_sync_request_time 200 now ≡ true) (r : Requested) (buffer' : List ℕ)
-      (er : RequestedAs e.clocks e.setup.magic now nonce buffer e.queued r buffer') where
+  -- n: the endpoint after the request
+  module _ (due : passed e.clocks.last_sync_request_time 200 now ≡ true) (n : Endpoint) (buffer' : List ℕ) where
     abbrev Asked : Effect
     Asked = request now nonce (begin (seen e))
 
-    pub synchronizing_full : r.ok ≡ false → Asking Full e buffer'
+    pub synchronizing_full : (r : Refusal) → RequestedAs e now nonce buffer (Err r) n buffer' → Asking (Err r) n buffer'
     unfolding reacted tested acts acted request nonce_issued queue_wire seen terms_with
-    synchronizing_full k = rw (er.same k) (refused_did e Full _ (rw (due, request_full buffer e.setup.magic nonce Asked refl r.ok er.ok k)) buffer)
+    synchronizing_full r h =
+        let x = h.1 in
+        rw (h.0, x.1, x.2) (refused_did e (Err Full) _ (rw (due, request_full buffer e.setup.magic nonce Asked refl x.0)) buffer)
 
-    pub synchronizing_done : has_room (held_events e.events) 0 ≡ true → r.ok ≡ true → (v : Nonces) → outstanding v ≡ issued nonce (outstanding e.nonces)
-        → Asking Done (remade e e.pending e.acked e.history e.sync v r.clocks e.flags e.quality e.statuses e.checksums e.events r.end) buffer'
+    pub synchronizing_done : RequestedAs e now nonce buffer (Ok tt) n buffer' → has_room (held_events e.events) 0 ≡ true → (v : Nonces) → outstanding v ≡ issued nonce (outstanding n.nonces)
+        → Asking (Ok tt) (remade n n.pending n.acked n.history n.sync v n.clocks n.flags n.quality n.statuses n.checksums n.events n.queued) buffer'
     unfolding reacted tested acts acted request nonce_issued queue_wire seen terms_with
-    synchronizing_done room k v ev =
+    synchronizing_done h room =
+        rw h.0 (λ v ev.
         queued_did e _ (record { setup = refl; count = refl }) Asked _
-        (rw (due, request_fits buffer e.setup.magic nonce Asked refl r.ok er.ok k room))
-        _ refl buffer buffer' _ (er.queued k) refl refl (rw (ev, er.clocks k, append-nil))
+        (rw (due, request_fits buffer e.setup.magic nonce Asked refl h.1.room room))
+        _ refl buffer buffer' n.queued h.1 refl (rw (ev, append-nil)))
 
 module _ (e : Endpoint) (now : ℕ) (room : has_room (held_events e.events) 0 ≡ true) where
   abbrev Wait : Reaction
   Wait = acts Disconnected now 0 0 [] (seen e)
 
   abbrev Waiting : Endpoint → Type 0
-  Waiting n = DoneAs e (reacted 0 (seen e) Wait) (record { answer = Done; endpoint = n })
+  Waiting n = DoneAs e (reacted 0 (seen e) Wait) (record { answer = Ok tt; endpoint = n })
 
   pub disconnected_idle : now ≤ e.clocks.shutdown_timeout → Waiting e
   unfolding acts acted seen
@@ -257,14 +261,14 @@ module _ (e : Endpoint) (buffer : List ℕ) (statuses : Statuses) (now epoch non
   abbrev Acts : Ended → List ℕ → Type 0
   Acts = DidAs e (step (Call.act statuses.count (held_statuses statuses) now epoch nonce (length buffer)) (seen e)) buffer
 
-  pub act_clocks : bad_clocks now epoch ≡ true → Acts (record { answer = BadClock; endpoint = e }) buffer
+  pub act_clocks : bad_clocks now epoch ≡ true → Acts (record { answer = Err BadClock; endpoint = e }) buffer
   unfolding step act_step tested
-  act_clocks h = refused_did e BadClock _ (rw h) buffer
+  act_clocks h = refused_did e (Err BadClock) _ (rw h) buffer
 
   module _ (good : bad_clocks now epoch ≡ false) where
-    pub act_count : (statuses.count ≡ e.setup.num_players → ⊥) → Acts (record { answer = BadLength; endpoint = e }) buffer
+    pub act_count : (statuses.count ≡ e.setup.num_players → ⊥) → Acts (record { answer = Err BadLength; endpoint = e }) buffer
     unfolding step act_step tested seen terms_with
-    act_count h = refused_did e BadLength _ (rw (good, ne_eqb statuses.count e.setup.num_players h)) buffer
+    act_count h = refused_did e (Err BadLength) _ (rw (good, ne_eqb statuses.count e.setup.num_players h)) buffer
 
     module _ (all : statuses.count ≡ e.setup.num_players) where
       abbrev Then : Phase → Did
@@ -290,7 +294,7 @@ module _ (e : Endpoint) (buffer : List ℕ) (statuses : Statuses) (now epoch non
           over true = refl
           over false = refl
 
-      pub act_idle : has_room (held_events e.events) 0 ≡ true → OneOf (0 ∷ 4 ∷ []) (tag_of the_type e.sync.phase) → Acts (record { answer = Done; endpoint = e }) buffer
+      pub act_idle : has_room (held_events e.events) 0 ≡ true → OneOf (0 ∷ 4 ∷ []) (tag_of the_type e.sync.phase) → Acts (record { answer = Ok tt; endpoint = e }) buffer
       unfolding acts seen
       act_idle room h =
           let r : Reaction = acts e.sync.phase now epoch nonce (held_statuses statuses) (seen e) in

@@ -1,5 +1,5 @@
 -- The ways out of a message that is answered with one that has neither statuses nor payload, and changes the state beside being heard.
-use borrow.Author.Tests.{not-true, not-false}
+use Rattle.std.specs.Prelude.{Ok, Err}
 use mathlib.Core.Bool.{true, false}
 use mathlib.Core.List.{List, [], ◌∷◌, ◌++◌}
 use mathlib.Core.Path.{◌≡◌, refl, sym, ◌∙◌}
@@ -8,11 +8,11 @@ use lib.ListN.{length}
 use Rattle.codec.specs.Message.{Wire, table_size}
 use Rattle.codec.specs.Read.{body_only}
 use Rattle.codec.specs.declared.MessageBody.{MessageBody}
-use Rattle.answer.specs.declared.Answer.{Answer}
-use Rattle.answer.specs.declared.Answer.TheVariants.{Done, Full}
+use Rattle.answer.specs.Number.{Answered}
+use Rattle.answer.specs.declared.Refusal.TheVariants.{Full}
 use Rattle.setup.specs.Setup.{terms_with}
 use Rattle.events.specs.declared.Entry.{Entry}
-use Rattle.outbox.specs.declared.Queued.{Queued}
+use Rattle.answer.specs.declared.Refusal.{Refusal}
 use Rattle.outbox.specs.Outbox.{QueuedAs}
 use Rattle.endpoint_rules.specs.declared.Flags.{Flags}
 use Rattle.endpoint_rules.specs.Seen.{Seen, with_flags, with_events, with_queued, heard_at, sent_at}
@@ -33,8 +33,8 @@ pub record Aside (g : Seen → Seen) : Type 0 where
   pub queued : (s : Seen) → (g s).queued ≡ s.queued
 
 module _ (e : Endpoint) (buffer : List ℕ) (now : ℕ) (body : MessageBody) (g : Seen → Seen) (aside : Aside g) where
-  abbrev Answered : Endpoint → Answer → List ℕ → Effect → Type 0
-  Answered n a b' h = DidAs e (reacted (length buffer) (seen e) (plainly (queue now body (change g h)))) buffer (record { answer = a; endpoint = n }) b'
+  abbrev Ended : Endpoint → Answered → List ℕ → Effect → Type 0
+  Ended n a b' h = DidAs e (reacted (length buffer) (seen e) (plainly (queue now body (change g h)))) buffer (record { answer = a; endpoint = n }) b'
 
   abbrev Before : Flags → Seen
   Before f = with_flags f (heard_at now (seen e))
@@ -49,29 +49,30 @@ module _ (e : Endpoint) (buffer : List ℕ) (now : ℕ) (body : MessageBody) (g 
   unfolding queue_wire seen terms_with
   only f t = rw (aside.setup (Before f))
 
-  pub reply_full : (q : Queued) (b' : List ℕ) → QueuedAs buffer e.queued Reply q b' → 0 < table_size Reply → q.ok ≡ false → Answered e Full b' (heard now (seen e))
+  pub reply_full : (r : Refusal) (b' : List ℕ) → QueuedAs buffer e.queued Reply (Err r) b' → 0 < table_size Reply → Ended e (Err r) b' (heard now (seen e))
   unfolding queue_wire seen
-  reply_full q b' eq some k =
-      rw (rw k at eq.lent) (by_hearing now (seen e) (Answered e Full buffer) (λ f t.
-      refused_did e Full _ (reacted_full (length buffer) (seen e) _ refl refl
-      (full_buffer buffer (Replying f t) Reply some (only f t) (rw (aside.queued (Before f)) (not-false _ (sym eq.ok ∙ k))))) buffer))
+  reply_full r b' eq some =
+      let q = eq in
+      rw (q.1, q.2) (by_hearing now (seen e) (Ended e (Err Full) buffer) (λ f t.
+      refused_did e (Err Full) _ (reacted_full (length buffer) (seen e) _ refl refl
+      (full_buffer buffer (Replying f t) Reply some (only f t) (rw (aside.queued (Before f)) q.0))) buffer))
 
   module _ (x : Ears) where
-    abbrev Replies : Endpoint → Answer → List ℕ → Effect → Type 0
-    Replies n a b' h = HeardAs e h x → Answered n a b' h
+    abbrev Replies : Endpoint → Answered → List ℕ → Effect → Type 0
+    Replies n a b' h = HeardAs e h x → Ended n a b' h
 
-    pub reply_unannounced : x.ok ≡ false → Replies e Full buffer (heard now (seen e))
+    pub reply_unannounced : x.ok ≡ false → Replies e (Err Full) buffer (heard now (seen e))
     unfolding queue_wire seen
-    reply_unannounced k = by_hearing now (seen e) (Replies e Full buffer) (λ f t h.
-        refused_did e Full _ (reacted_full (length buffer) (seen e) _ refl refl (full_events buffer (Replying f t) (rw (aside.events (Before f)) (sym h.ok ∙ k)))) buffer)
+    reply_unannounced k = by_hearing now (seen e) (Replies e (Err Full) buffer) (λ f t h.
+        refused_did e (Err Full) _ (reacted_full (length buffer) (seen e) _ refl refl (full_events buffer (Replying f t) (rw (aside.events (Before f)) (sym h.ok ∙ k)))) buffer)
 
-    pub reply_done : (q : Queued) (b' : List ℕ) → QueuedAs buffer e.queued Reply q b' → 0 < table_size Reply → (n : Endpoint) → SameTerms e n → x.ok ≡ true → q.ok ≡ true
+    pub reply_done : (q : ℕ) (b' : List ℕ) → QueuedAs buffer e.queued Reply (Ok q) b' → 0 < table_size Reply → (n : Endpoint) → SameTerms e n → x.ok ≡ true
         → ((f : Flags) (t : List Entry) → HeardAs e (hearing now (seen e) f t) x
-        → seen n ≡ with_events ((g (Before f)).events ++ t) (with_queued q.end (sent_at now (g (Before f)))))
-        → Replies n Done b' (heard now (seen e))
+        → seen n ≡ with_events ((g (Before f)).events ++ t) (with_queued q (sent_at now (g (Before f)))))
+        → Replies n (Ok tt) b' (heard now (seen e))
     unfolding queue_wire seen
-    reply_done q b' eq some n terms k ok after = by_hearing now (seen e) (Replies n Done b') (λ f t h.
+    reply_done q b' eq some n terms k after = by_hearing now (seen e) (Replies n (Ok tt) b') (λ f t h.
         queued_did e n terms (Replying f t) _
         (reacted-done (length buffer) (seen e) _ refl refl refl
-        (room_one buffer (Replying f t) Reply some (only f t) (rw (aside.events (Before f)) (sym h.ok ∙ k)) (rw (aside.queued (Before f)) (not-true _ (sym eq.ok ∙ ok)))))
-        Reply (only f t) buffer b' q eq ok (aside.queued (Before f)) (after f t h))
+        (room_one buffer (Replying f t) Reply some (only f t) (rw (aside.events (Before f)) (sym h.ok ∙ k)) (rw (aside.queued (Before f)) eq.room)))
+        Reply (only f t) buffer b' q eq (aside.queued (Before f)) (after f t h))

@@ -1,10 +1,11 @@
 -- The ways out of `message`: what a body does to an endpoint that has heard it is what the message does.
+use Rattle.std.specs.Prelude.{Ok, Err}
 use mathlib.Core.Bool.{Bool, true, false, ◌||◌}
 use mathlib.Core.List.{List, []}
 use mathlib.Core.Path.{◌≡◌, refl, sym, ◌∙◌, subst}
 use Prim.Native.Nat.{ℕ}
 use lib.ListN.{length}
-use Rattle.answer.specs.declared.Answer.TheVariants.{Done, BadClock}
+use Rattle.answer.specs.declared.Refusal.TheVariants.{BadClock}
 use Rattle.codec.specs.Message.{report_list, meant}
 use Rattle.codec.specs.declared.Wide.{Wide}
 use Rattle.codec.specs.declared.Message.{Message}
@@ -38,9 +39,9 @@ module _ (e : Endpoint) (from : ℕ) (m : Message) (p : List ℕ) (now epoch non
   abbrev Hears : Effect
   Hears = heard now (seen e)
 
-  pub message_late : bad_clock now || bad_clock epoch ≡ true → DidAs e Does buffer (record { answer = BadClock; endpoint = e }) buffer
+  pub message_late : bad_clock now || bad_clock epoch ≡ true → DidAs e Does buffer (record { answer = Err BadClock; endpoint = e }) buffer
   unfolding step
-  message_late h = refused_did e BadClock Does (message_clocks from m.reports.count (meant m p) now epoch nonce (length buffer) (seen e) h) buffer
+  message_late h = refused_did e (Err BadClock) Does (message_clocks from m.reports.count (meant m p) now epoch nonce (length buffer) (seen e) h) buffer
 
   module _ (good : bad_clock now || bad_clock epoch ≡ false) where
     filters : ignored from (meant m p).magic (seen e) ≡ ignored_by e.sync.phase e.setup.peer_addr e.sync.remote_magic from m.magic
@@ -48,9 +49,9 @@ module _ (e : Endpoint) (from : ℕ) (m : Message) (p : List ℕ) (now epoch non
     filters = rw (meant_magic m p)
 
     pub message-ignored : ignored_by e.sync.phase e.setup.peer_addr e.sync.remote_magic from m.magic ≡ true
-        → DidAs e Does buffer (record { answer = Done; endpoint = e }) buffer
+        → DidAs e Does buffer (record { answer = Ok tt; endpoint = e }) buffer
     unfolding step
-    message-ignored h = refused_did e Done Does (ignored-step from m.reports.count (meant m p) now epoch nonce (length buffer) (seen e) good (filters ∙ h)) buffer
+    message-ignored h = refused_did e (Ok tt) Does (ignored-step from m.reports.count (meant m p) now epoch nonce (length buffer) (seen e) good (filters ∙ h)) buffer
 
     module _ (heeded : ignored_by e.sync.phase e.setup.peer_addr e.sync.remote_magic from m.magic ≡ false) (x : Ended) where
       reacts : (b : MessageBody) (b' : List ℕ) → m.body ≡ b → Reacts (on_body b m.reports.count (meant m p) now epoch nonce Hears) x b' → DidAs e Does buffer x b'

@@ -1,10 +1,11 @@
 -- The ways out of a ChecksumReport.
+use Rattle.std.specs.Prelude.{Ok, Err}
 use mathlib.Core.Bool.{true, false}
 use mathlib.Core.List.{List, []}
 use mathlib.Core.Path.{◌≡◌, refl, sym, ◌∙◌}
 use Prim.Native.Nat.{ℕ}
-use Rattle.answer.specs.declared.Answer.{Answer}
-use Rattle.answer.specs.declared.Answer.TheVariants.{Done, Full, Overflow}
+use Rattle.answer.specs.Number.{Answered}
+use Rattle.answer.specs.declared.Refusal.TheVariants.{Full, Overflow}
 use Rattle.codec.specs.declared.Wide.{Wide}
 use Rattle.setup.specs.Setup.{terms_with, interval_of}
 use Rattle.checksums.specs.declared.Reported.{Reported}
@@ -29,36 +30,36 @@ reacted-overflows n s r short h = rw (short, h)
 
 -- i: the interval; r: the store with the report
 module _ (e : Endpoint) (checksum : Wide) (frame now i : ℕ) (ei : i ≡ interval_of e.setup.choices.desync_detection) (r : Reported) (er : ReportedAs e.checksums (checksum_of frame checksum) i e.setup.choices.firm_checksums r) where
-  abbrev Summed : Endpoint → Answer → Effect → Type 0
+  abbrev Summed : Endpoint → Answered → Effect → Type 0
   Summed n a h = DoneAs e (reacted 0 (seen e) (on_checksum_report frame checksum h)) (record { answer = a; endpoint = n })
 
   abbrev Summing : Flags → List Entry → Effect
   Summing f t = (on_checksum_report frame checksum (hearing now (seen e) f t)).effect
 
-  pub checksum_overflows : r.overflow ≡ true → Summed e Overflow (heard now (seen e))
+  pub checksum_overflows : r.overflow ≡ true → Summed e (Err Overflow) (heard now (seen e))
   unfolding on_checksum_report seen terms_with
-  checksum_overflows o = by_hearing now (seen e) (Summed e Overflow) (λ f t. refused-done e Overflow _ (reacted-overflows 0 (seen e) _ refl (rw (← ei) (sym er.overflow ∙ o))))
+  checksum_overflows o = by_hearing now (seen e) (Summed e (Err Overflow)) (λ f t. refused-done e (Err Overflow) _ (reacted-overflows 0 (seen e) _ refl (rw (← ei) (sym er.overflow ∙ o))))
 
   module _ (within : r.overflow ≡ false) where
-    pub checksum_choked : r.full ≡ true → Summed e Full (heard now (seen e))
+    pub checksum_choked : r.full ≡ true → Summed e (Err Full) (heard now (seen e))
     unfolding on_checksum_report seen terms_with
     checksum_choked c =
-        by_hearing now (seen e) (Summed e Full) (λ f t. refused-done e Full _ (reacted_choked 0 (seen e) _ refl (rw (← ei) (sym er.overflow ∙ within)) (rw (← ei) (sym er.full ∙ c))))
+        by_hearing now (seen e) (Summed e (Err Full)) (λ f t. refused-done e (Err Full) _ (reacted_choked 0 (seen e) _ refl (rw (← ei) (sym er.overflow ∙ within)) (rw (← ei) (sym er.full ∙ c))))
 
     module _ (x : Ears) (ex : HeardAs e (heard now (seen e)) x) where
-      pub checksum_unannounced : x.ok ≡ false → Summed e Full (heard now (seen e))
+      pub checksum_unannounced : x.ok ≡ false → Summed e (Err Full) (heard now (seen e))
       unfolding on_checksum_report seen terms_with
       checksum_unannounced k =
-          by_hearing now (seen e) (λ h. HeardAs e h x → Summed e Full h) (λ f t h.
-          refused-done e Full _ (reacted_full 0 (seen e) _ refl (rw (← ei) (sym er.overflow ∙ within)) (full_events [] (Summing f t) (sym h.ok ∙ k)))) ex
+          by_hearing now (seen e) (λ h. HeardAs e h x → Summed e (Err Full) h) (λ f t h.
+          refused-done e (Err Full) _ (reacted_full 0 (seen e) _ refl (rw (← ei) (sym er.overflow ∙ within)) (full_events [] (Summing f t) (sym h.ok ∙ k)))) ex
 
       abbrev Stored : Endpoint
       Stored = remade e e.pending e.acked e.history e.sync e.nonces x.clocks x.flags e.quality e.statuses r.checksums x.events e.queued
 
-      pub checksum_done : r.full ≡ false → x.ok ≡ true → Summed Stored Done (heard now (seen e))
+      pub checksum_done : r.full ≡ false → x.ok ≡ true → Summed Stored (Ok tt) (heard now (seen e))
       unfolding on_checksum_report seen terms_with
       checksum_done c k =
-          by_hearing now (seen e) (λ h. HeardAs e h x → Summed Stored Done h) (λ f t h.
+          by_hearing now (seen e) (λ h. HeardAs e h x → Summed Stored (Ok tt) h) (λ f t h.
           done-done e Stored (record { setup = refl; count = refl }) (Summing f t) _
           (reacted-done 0 (seen e) _ refl (rw (← ei) (sym er.overflow ∙ within)) (rw (← ei) (sym er.full ∙ c)) (room_none [] (Summing f t) refl (sym h.ok ∙ k)))
           refl (rw (h.clocks, h.flags, h.events, k, er.view, ei))) ex

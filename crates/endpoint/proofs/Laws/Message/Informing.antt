@@ -7,14 +7,14 @@ use native.Mathlib.Numerals.{add-one}
 use lib.ListN.{length, take, get_or, length-map, get_or-map}
 use lib.Seq.{take-length}
 use Rattle.base.specs.Pick.{pick}
-use Rattle.base.proofs.Arrays.{view_at}
+use Rattle.fixed_vec.specs.FixedVec.{held}
 use Rattle.base.proofs.Orders.{get_or_within}
 use Rattle.status.specs.declared.ConnectionStatus.{ConnectionStatus}
 use Rattle.status.specs.Status.{default_status, reported}
 use Rattle.status.specs.Statuses.{merged_at, merged_all, held_statuses}
 use Rattle.status.proofs.MergeAll.{all_turn}
 use Rattle.codec.specs.declared.StatusReport.{StatusReport}
-use Rattle.codec.specs.declared.StatusReports.{StatusReports}
+use Rattle.codec.specs.Message.{Reports}
 use Rattle.codec.specs.Message.{report_list}
 use Rattle.timers.specs.declared.Clocks.{Clocks}
 use Rattle.timers.specs.Timers.{heard_at}
@@ -41,13 +41,18 @@ use Rattle.endpoint.proofs.Laws.Message.Hearing.{heard_by_lem}
 abbrev status_of : StatusReport → ConnectionStatus
 status_of x = reported x.disconnected x.last_frame
 
-pub reports_turn : (xs : List ConnectionStatus) (l : StatusReports) (i : ℕ) (d : StatusReport) → i < length (report_list l)
-    → merged_all xs (take (i + 1) (statuses_of (report_list l))) ≡ merged_at i (status_of (get_or l.list i d)) (merged_all xs (take i (statuses_of (report_list l))))
+-- those held are those that are reported
+pub reports_held : (l : Reports) → held l ≡ report_list l
+unfolding held
+reports_held l = refl
+
+pub reports_turn : (xs : List ConnectionStatus) (l : List StatusReport) (i : ℕ) (d : StatusReport) → i < length l
+    → merged_all xs (take (i + 1) (statuses_of l)) ≡ merged_at i (status_of (get_or l i d)) (merged_all xs (take i (statuses_of l)))
 reports_turn xs l i d h =
-    let ys : List ConnectionStatus = statuses_of (report_list l) in
+    let ys : List ConnectionStatus = statuses_of l in
     let within : i < length ys = rw length-map h in
-    let there : get_or ys i default_status ≡ status_of (get_or l.list i d) =
-    get_or_within ys i default_status (status_of d) within ∙ get_or-map status_of (report_list l) i d ∙ rw (view_at l.count l.list i d h) in
+    let there : get_or ys i default_status ≡ status_of (get_or l i d) =
+    get_or_within ys i default_status (status_of d) within ∙ get_or-map status_of l i d in
     rw add-one (all_turn xs ys i within ∙ rw there)
 
 pub reports_end : (xs : List ConnectionStatus) (l : List StatusReport) (i : ℕ) → i ≡ length l → merged_all xs (take i (statuses_of l)) ≡ merged_all xs (statuses_of l)

@@ -1,4 +1,5 @@
 -- The ways out of a message that is an Input, from what the steps over its packet give.
+use Rattle.std.specs.Prelude.{Result, Ok, Err}
 use borrow.Author.Tests.{ltb-false}
 use mathlib.Core.Bool.{Bool, true, false, ◌&&◌, ◌||◌}
 use mathlib.Core.List.{List, [], ◌++◌, append-nil}
@@ -9,8 +10,8 @@ use lib.Dec.{ltb}
 use lib.ListN.{length, take, drop}
 use Rattle.base.specs.Pick.{pick}
 use Rattle.base.proofs.Bools.{both as both_true, neither}
-use Rattle.answer.specs.declared.Answer.{Answer}
-use Rattle.answer.specs.declared.Answer.TheVariants.{Done, Full, TooLong, Overflow}
+use Rattle.answer.specs.Number.{Answered}
+use Rattle.answer.specs.declared.Refusal.TheVariants.{Full, TooLong, Overflow}
 use Rattle.packing.specs.Packing.{frame_count, frames_of}
 use Rattle.history.specs.declared.History.{History}
 use Rattle.history.specs.History.{received, newest_of, packet_of, taken_in, taken_above}
@@ -28,7 +29,8 @@ use Rattle.pending.specs.declared.Pending.{Pending}
 use Rattle.events.specs.declared.Entry.{Entry}
 use Rattle.events.specs.declared.Pushed.{Pushed}
 use Rattle.events.specs.Events.{held_events, has_room, both, ahead, announced_all, packet_fits, PushedAs}
-use Rattle.outbox.specs.declared.Queued.{Queued}
+use Rattle.std.specs.Result.{result_unwrap_or}
+use Rattle.answer.specs.declared.Refusal.{Refusal}
 use Rattle.outbox.specs.Outbox.{QueuedAs}
 use Rattle.endpoint_rules.specs.Call.{Call}
 use Rattle.endpoint_rules.specs.Did.{change}
@@ -39,7 +41,6 @@ use Rattle.endpoint_rules.specs.Receiving.{input_message, received_if, informed,
 use Rattle.endpoint_rules.specs.Step.{ignored_by, heard, reacted, step}
 use Rattle.endpoint.specs.declared.Endpoint.{Endpoint}
 use Rattle.endpoint.specs.declared.Ended.{Ended}
-use Rattle.endpoint.specs.declared.message.admission.Door.{Door}
 use Rattle.endpoint.specs.declared.message.informing.Informed.{Informed}
 use Rattle.endpoint.specs.declared.message.packet.Opened.{Opened}
 use Rattle.endpoint.specs.declared.message.packet.News.{News as Fresh}
@@ -51,6 +52,7 @@ use Rattle.endpoint.specs.Inside.Sending.{sent}
 use Rattle.endpoint.proofs.Laws.Message.InputAck.{Drops}
 use Rattle.endpoint.proofs.Laws.Handshake.{false_true}
 use Rattle.endpoint.proofs.Laws.Message.Admission.{let_in, kept_out}
+use Rattle.endpoint.proofs.Laws.Queued.{queued_room}
 use Rattle.endpoint.proofs.Laws.Ends.{remade}
 use Rattle.endpoint.proofs.Laws.Announced.{with_events_of, AnnouncedAs, announced_all_lem, announced_nothing}
 use Rattle.endpoint.proofs.Laws.Message.Informing.{Brought, informs, informs_sender}
@@ -90,18 +92,18 @@ module _ (e : Endpoint) (from : ℕ) (m : Message) (p : List ℕ) (now epoch non
   brought = informs e now ack d Reports x ix
 
   -- refused before anything of it is announced
-  abbrev Refused : Answer → Type 0
+  abbrev Refused : Answered → Type 0
   Refused a = Ends (record { endpoint = e; answer = a }) buffer
 
   -- whether its InputAck has unable room
   abbrev Unanswered : Bool
   Unanswered = buffer_full (length buffer) e.queued (pick o.readable 10 0)
 
-  too_long : o.too_long ≡ true → Refused TooLong
+  too_long : o.too_long ≡ true → Refused (Err TooLong)
   too_long h = comes _ _ (input_long e buffer now m.reports.count ack start d Reports p o.discarded opened.discarded kept o.too_long opened.long h)
 
   module _ (short : o.too_long ≡ false) where
-    overflowing : (o.readable && o.overflows) ≡ true → Refused Overflow
+    overflowing : (o.readable && o.overflows) ≡ true → Refused (Err Overflow)
     overflowing h =
         let y = both_true o.readable o.overflows h in
         comes _ _ (input-overflows e buffer now m.reports.count ack start d Reports p o.discarded opened.discarded kept o.too_long opened.long short Width refl (found_of o) opened.found o.readable opened.readable y.0
@@ -136,99 +138,101 @@ module _ (e : Endpoint) (from : ℕ) (m : Message) (p : List ℕ) (now epoch non
             comes z b' (input_readable e buffer now m.reports.count ack start d Reports p o.discarded opened.discarded kept o.too_long opened.long short Width refl (found_of o) opened.found o.readable opened.readable able
             (frame_count Width (length p)) refl o.overflows opened.overflows within z b' h)
 
-      unanswered : (b : Bool) → o.readable ≡ b → buffer_full (length buffer) e.queued (pick b 10 0) ≡ true → Refused Full
+      unanswered : (b : Bool) → o.readable ≡ b → buffer_full (length buffer) e.queued (pick b 10 0) ≡ true → Refused (Err Full)
       unfolding buffer_full
       unanswered true able h = comes_readable able _ _ (readable_full e buffer now ack start d Reports p o.input (reads able) x brought h)
       unanswered false unable h = absurd (false_true h)
 
-  module _ (door : Door) (weighed : WeighedAs o.too_long (o.readable && o.overflows) Unanswered door) where
-    pub packet_refused : door.shut ≡ true → Refused door.answer
-    packet_refused h =
-        kept_out Refused o.too_long (o.readable && o.overflows) Unanswered too_long overflowing (λ short fits full. unanswered short fits o.readable refl (full)) door weighed h
+  -- refused by what is found of it
+  pub packet_refused : (z : Refusal) → WeighedAs o.too_long (o.readable && o.overflows) Unanswered (Err z) → Ends (record { endpoint = e; answer = Err z }) buffer
+  packet_refused z h =
+      kept_out Refused o.too_long (o.readable && o.overflows) Unanswered too_long overflowing (λ short fits full. unanswered short fits o.readable refl full) z h
 
-    -- let in
-    module _ (unshut : door.shut ≡ false) where
-      short : o.too_long ≡ false
-      short = (let_in o.too_long (o.readable && o.overflows) Unanswered door weighed unshut).0
+  -- let in
+  module _ (weighed : WeighedAs o.too_long (o.readable && o.overflows) Unanswered (Ok tt)) where
+    short : o.too_long ≡ false
+    short = (let_in o.too_long (o.readable && o.overflows) Unanswered weighed).0
 
-      fits : (o.readable && o.overflows) ≡ false
-      fits = (let_in o.too_long (o.readable && o.overflows) Unanswered door weighed unshut).1
+    fits : (o.readable && o.overflows) ≡ false
+    fits = (let_in o.too_long (o.readable && o.overflows) Unanswered weighed).1
 
-      spare : Unanswered ≡ false
-      spare = (let_in o.too_long (o.readable && o.overflows) Unanswered door weighed unshut).2
+    spare : Unanswered ≡ false
+    spare = (let_in o.too_long (o.readable && o.overflows) Unanswered weighed).2
 
-      abbrev Ahead : List Entry
-      Ahead = ahead x.resumes x.disconnects
+    abbrev Ahead : List Entry
+    Ahead = ahead x.resumes x.disconnects
 
-      -- s: e after what is announced; it ends with these
-      abbrev after : Endpoint → Pending → InputBytes → History → Clocks → ℕ → Ended
-      after s pending acked h c queued =
-          record { endpoint = remade s pending acked h s.sync s.nonces c x.flags s.quality x.statuses s.checksums s.events queued; answer = Done }
+    -- s: e after what is announced; it ends with these
+    abbrev after : Endpoint → Pending → InputBytes → History → Clocks → ℕ → Ended
+    after s pending acked h c queued =
+        record { endpoint = remade s pending acked h s.sync s.nonces c x.flags s.quality x.statuses s.checksums s.events queued; answer = Ok tt }
 
-      abbrev Noted : Clocks
-      Noted = pick o.readable (sent_at now (input_at now x.clocks)) (pick o.held (input_at now x.clocks) x.clocks)
+    abbrev Noted : Clocks
+    Noted = pick o.readable (sent_at now (input_at now x.clocks)) (pick o.held (input_at now x.clocks) x.clocks)
 
-      -- w: the width
-      module _ (w : ℕ) (ew : w ≡ Width) where
-        pub packet_numbered : o.readable ≡ true → (0 < start) × (start + frame_count w (length p) ≤ 2 ^ 32)
-        packet_numbered able = rw ew (numbered short fits able)
+    -- w: the width
+    module _ (w : ℕ) (ew : w ≡ Width) where
+      pub packet_numbered : o.readable ≡ true → (0 < start) × (start + frame_count w (length p) ≤ 2 ^ 32)
+      packet_numbered able = rw ew (numbered short fits able)
 
-        abbrev News : List Entry
-        News = news e.setup (newest_of (received e.history)) start o.input.bytes p
+      abbrev News : List Entry
+      News = news e.setup (newest_of (received e.history)) start o.input.bytes p
 
-        abbrev pub More : List Entry
-        More = Ahead ++ pick o.readable News []
+      abbrev pub More : List Entry
+      More = Ahead ++ pick o.readable News []
 
-        -- r: the frames above the newest
-        module _ (wide : length o.input.bytes ≡ 64) (r : Fresh) (nr : NewsIf o.readable o.newest start w (length p) r) where
-          module _ (q : Pushed)
-              (pushed : PushedAs e.events (packet_fits (held_events e.events ++ Ahead) r.first r.count (handle_list e.setup.handles))
-              (Ahead ++ announced_all r.first e.setup.input_size (handle_list e.setup.handles) (frames_of w o.input.bytes r.count (drop r.at p))) q) where
-            announced : (b : Bool) → o.readable ≡ b → PushedAs e.events (has_room (held_events e.events) (length (Ahead ++ pick b News []))) (Ahead ++ pick b News []) q
-            announced true able =
-                rw (← opened.newest)
-                (announced-news e.setup o.newest start o.input.bytes p e.events Ahead w ew wide (packet_numbered able).1 r (nr.some able) q pushed)
-            announced false unable =
-                nothing_pushed e.events Ahead e.setup.input_size w (handle_list e.setup.handles) o.input.bytes p q (rw (nr.none unable) at pushed)
+      -- r: the frames above the newest
+      module _ (wide : length o.input.bytes ≡ 64) (r : Fresh) (nr : NewsIf o.readable o.newest start w (length p) r) where
+        module _ (q : Pushed)
+            (pushed : PushedAs e.events (packet_fits (held_events e.events ++ Ahead) r.first r.count (handle_list e.setup.handles))
+            (Ahead ++ announced_all r.first e.setup.input_size (handle_list e.setup.handles) (frames_of w o.input.bytes r.count (drop r.at p))) q) where
+          announced : (b : Bool) → o.readable ≡ b → PushedAs e.events (has_room (held_events e.events) (length (Ahead ++ pick b News []))) (Ahead ++ pick b News []) q
+          announced true able =
+              rw (← opened.newest)
+              (announced-news e.setup o.newest start o.input.bytes p e.events Ahead w ew wide (packet_numbered able).1 r (nr.some able) q pushed)
+          announced false unable =
+              nothing_pushed e.events Ahead e.setup.input_size w (handle_list e.setup.handles) o.input.bytes p q (rw (nr.none unable) at pushed)
 
-            unannounced : (b : Bool) → o.readable ≡ b → q.ok ≡ false → Refused Full
-            unannounced true able k =
-                comes_readable short fits able _ _ (readable_unannounced e buffer now ack start d Reports p o.input (reads short fits able) x brought (sym (announced true able).ok ∙ k))
-            unannounced false unable k =
-                comes_unreadable short fits unable _ (unreadable_full e now ack d Reports o.held x (rw append-nil at (sym (announced false unable).ok ∙ k)) brought)
+          unannounced : (b : Bool) → o.readable ≡ b → q.ok ≡ false → Refused (Err Full)
+          unannounced true able k =
+              comes_readable short fits able _ _ (readable_unannounced e buffer now ack start d Reports p o.input (reads short fits able) x brought (sym (announced true able).ok ∙ k))
+          unannounced false unable k =
+              comes_unreadable short fits unable _ (unreadable_full e now ack d Reports o.held x (rw append-nil at (sym (announced false unable).ok ∙ k)) brought)
 
-            pub packet_unannounced : q.ok ≡ false → Refused Full
-            packet_unannounced = unannounced o.readable refl
+          pub packet_unannounced : q.ok ≡ false → Refused (Err Full)
+          packet_unannounced = unannounced o.readable refl
 
-            pub packet_announced : q.ok ≡ true → (s : Endpoint) → s ≡ with_events_of e q.events → AnnouncedAs e More s
-            packet_announced k s es = announced_all_lem e More s q (announced o.readable refl) k es
+          pub packet_announced : q.ok ≡ true → (s : Endpoint) → s ≡ with_events_of e q.events → AnnouncedAs e More s
+          packet_announced k s es = announced_all_lem e More s q (announced o.readable refl) k es
 
-          none_new : (b : Bool) → o.readable ≡ b → r.count ≡ 0 → pick b News [] ≡ []
-          none_new true able none = rw (← opened.newest) (no_news e.setup o.newest start o.input.bytes p w ew wide (packet_numbered able).1 r (nr.some able) none)
-          none_new false unable none = refl
+        none_new : (b : Bool) → o.readable ≡ b → r.count ≡ 0 → pick b News [] ≡ []
+        none_new true able none = rw (← opened.newest) (no_news e.setup o.newest start o.input.bytes p w ew wide (packet_numbered able).1 r (nr.some able) none)
+        none_new false unable none = refl
 
-          pub packet_quiet : (x.resumes || x.disconnects) || ltb 0 r.count ≡ false → has_room (held_events e.events) 0 ≡ true → (s : Endpoint) → s ≡ e → AnnouncedAs e More s
-          packet_quiet k room s es =
-              let y = neither (x.resumes || x.disconnects) (ltb 0 r.count) k in
-              announced_nothing e More s (rw (none_ahead x.resumes x.disconnects y.0, none_new o.readable refl (omega (arith, ltb-false 0 r.count y.1)))) room es
+        pub packet_quiet : (x.resumes || x.disconnects) || ltb 0 r.count ≡ false → has_room (held_events e.events) 0 ≡ true → (s : Endpoint) → s ≡ e → AnnouncedAs e More s
+        packet_quiet k room s es =
+            let y = neither (x.resumes || x.disconnects) (ltb 0 r.count) k in
+            announced_nothing e More s (rw (none_ahead x.resumes x.disconnects y.0, none_new o.readable refl (omega (arith, ltb-false 0 r.count y.1)))) room es
 
-        -- s: e after what is announced, t: after what is dropped too, c: its clocks
-        module _ (s : Endpoint) (es : AnnouncedAs e More s) (t : Endpoint) (dt : Drops ack s t) (c : Clocks) (ec : c ≡ Noted) where
-          left : sent dt.pending dt.acked ≡ dropped_to ack (sent e.pending e.acked)
-          left = rw es.rest at dt.left
+      -- s: e after what is announced, t: after what is dropped too, c: its clocks
+      module _ (s : Endpoint) (es : AnnouncedAs e More s) (t : Endpoint) (dt : Drops ack s t) (c : Clocks) (ec : c ≡ Noted) where
+        left : sent dt.pending dt.acked ≡ dropped_to ack (sent e.pending e.acked)
+        left = rw es.rest at dt.left
 
-          pub packet_unread : o.readable ≡ false → Ends (after t t.pending t.acked t.history c t.queued) buffer
-          packet_unread unable =
-              rw dt.rest (rw es.rest
-              (comes_unreadable short fits unable _ (unreadable_done e now ack d Reports o.held x es.events (rw (unable, append-nil) at es.room) (rw (unable, append-nil) at es.view) c dt.pending dt.acked (rw unable at ec) ix.statuses.1 (informs_sender e now ack d Reports _ left) brought)))
+        pub packet_unread : o.readable ≡ false → Ends (after t t.pending t.acked t.history c t.queued) buffer
+        packet_unread unable =
+            rw dt.rest (rw es.rest
+            (comes_unreadable short fits unable _ (unreadable_done e now ack d Reports o.held x es.events (rw (unable, append-nil) at es.room) (rw (unable, append-nil) at es.view) c dt.pending dt.acked (rw unable at ec) ix.statuses.1 (informs_sender e now ack d Reports _ left) brought)))
 
-          pub packet_read : o.readable ≡ true → (h : History)
-              → received h ≡ take 33 (taken_above o.newest t.setup.max_prediction (received t.history) (packet_of start w o.input.bytes p))
-              → (newest : ℕ) → newest ≡ newest_of (received h) → (z : Queued) (b' : List ℕ) → QueuedAs buffer t.queued (body_only t.setup.magic (InputAck newest)) z b'
-              → Ends (after t t.pending t.acked h c z.end) b'
-          unfolding buffer_full
-          packet_read able =
-              rw dt.rest (rw es.rest (λ h eh newest en z b' queued.
-              let taken : received h ≡ take 33 (taken_in e.setup.max_prediction (received e.history) (packet_of start Width o.input.bytes p)) =
-              rw ew at (taken_known o.newest e.setup.max_prediction (received e.history) (received h) (packet_of start w o.input.bytes p) opened.newest eh) in
-              comes_readable short fits able _ _ (readable_done e buffer now ack start d Reports p o.input (reads short fits able) x brought (rw able at spare) es.events (rw able at es.room) (rw able at es.view) h taken newest en z b' queued c dt.pending dt.acked (rw able at ec) ix.statuses.1 (informs_sender e now ack d Reports _ left))))
+        pub packet_read : o.readable ≡ true → (h : History)
+            → received h ≡ take 33 (taken_above o.newest t.setup.max_prediction (received t.history) (packet_of start w o.input.bytes p))
+            → (newest : ℕ) → newest ≡ newest_of (received h) → (z : Result ℕ Refusal) (b' : List ℕ) → QueuedAs buffer t.queued (body_only t.setup.magic (InputAck newest)) z b'
+            → (stop : ℕ) → stop ≡ result_unwrap_or z t.queued
+            → Ends (after t t.pending t.acked h c stop) b'
+        unfolding buffer_full
+        packet_read able =
+            rw dt.rest (rw es.rest (λ h eh newest en z b' queued stop es'.
+            let taken : received h ≡ take 33 (taken_in e.setup.max_prediction (received e.history) (packet_of start Width o.input.bytes p)) =
+            rw ew at (taken_known o.newest e.setup.max_prediction (received e.history) (received h) (packet_of start w o.input.bytes p) opened.newest eh) in
+            let answered = queued_room buffer e.queued (body_only e.setup.magic (InputAck newest)) b' z e.queued queued (rw able at spare) in
+            rw es' (comes_readable short fits able _ _ (readable_done e buffer now ack start d Reports p o.input (reads short fits able) x brought (rw able at spare) es.events (rw able at es.room) (rw able at es.view) h taken newest en (result_unwrap_or z e.queued) b' (rw answered at queued) c dt.pending dt.acked (rw able at ec) ix.statuses.1 (informs_sender e now ack d Reports _ left)))))

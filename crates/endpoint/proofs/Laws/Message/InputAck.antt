@@ -1,9 +1,10 @@
 -- What an ack drops, and the ways out of an InputAck.
+use Rattle.std.specs.Prelude.{Ok, Err}
 use mathlib.Core.Bool.{true, false}
 use mathlib.Core.Path.{◌≡◌, refl}
 use Prim.Native.Nat.{ℕ}
-use Rattle.answer.specs.declared.Answer.{Answer}
-use Rattle.answer.specs.declared.Answer.TheVariants.{Done, Full}
+use Rattle.answer.specs.Number.{Answered}
+use Rattle.answer.specs.declared.Refusal.TheVariants.{Full}
 use Rattle.endpoint_rules.specs.Sending.{dropped_to, acknowledged}
 use Rattle.endpoint_rules.specs.Receiving.{on_input_ack}
 use Rattle.endpoint_rules.specs.Step.{heard, reacted}
@@ -45,14 +46,14 @@ module _ (ack : ℕ) (s t : Endpoint) where
   drops_none h et = record { pending = s.pending; acked = s.acked; rest = et; left = kept-sent s.pending s.acked ack h }
 
 module _ (e : Endpoint) (ack now : ℕ) (x : Ears) (ex : HeardAs e (heard now (seen e)) x) where
-  abbrev Acked : Endpoint → Answer → Type 0
+  abbrev Acked : Endpoint → Answered → Type 0
   Acked n a = DoneAs e (reacted 0 (seen e) (on_input_ack ack (heard now (seen e)))) (record { answer = a; endpoint = n })
 
-  pub ack_full : x.ok ≡ false → Acked e Full
+  pub ack_full : x.ok ≡ false → Acked e (Err Full)
   unfolding on_input_ack acknowledged
   ack_full k = changes_full e now x (acknowledged ack) (λ s. refl) k ex
 
   pub ack_done : (pending : Pending) (acked : InputBytes) → x.ok ≡ true → sent pending acked ≡ dropped_to ack (sent e.pending e.acked)
-      → Acked (remade e pending acked e.history e.sync e.nonces x.clocks x.flags e.quality e.statuses e.checksums x.events e.queued) Done
+      → Acked (remade e pending acked e.history e.sync e.nonces x.clocks x.flags e.quality e.statuses e.checksums x.events e.queued) (Ok tt)
   unfolding on_input_ack acknowledged seen
   ack_done pending acked k es = changes_done e now x (acknowledged ack) (λ s. refl) _ (record { setup = refl; count = refl }) k (λ f t h. rw (es, h.clocks, h.flags, h.events, k)) ex

@@ -1,14 +1,15 @@
 -- The ways out of an Input that is not discarded: with inputs that cannot be read, and with inputs that can.
+use Rattle.std.specs.Prelude.{Ok, Err}
 use mathlib.Core.Bool.{Bool, true, false}
 use mathlib.Core.List.{List, [], ◌∷◌, ◌++◌, append-nil}
-use mathlib.Core.Path.{◌≡◌, refl, sym, ◌∙◌, ap}
+use mathlib.Core.Path.{◌≡◌, refl, sym, ap}
 use Prim.Native.Nat.{ℕ}
 use native.Mathlib.Omega.{arith}
 use lib.ListN.{length, take}
 use Rattle.base.specs.Pick.{pick}
 use Rattle.base.specs.Lay.{no_room}
-use Rattle.answer.specs.declared.Answer.{Answer}
-use Rattle.answer.specs.declared.Answer.TheVariants.{Done, Full}
+use Rattle.answer.specs.Number.{Answered}
+use Rattle.answer.specs.declared.Refusal.TheVariants.{Full}
 use Rattle.packing.specs.declared.input_bytes.InputBytes.{InputBytes}
 use Rattle.pending.specs.declared.Pending.{Pending}
 use Rattle.history.specs.declared.History.{History}
@@ -24,7 +25,6 @@ use Rattle.setup.specs.Setup.{terms_of, terms_with, receiving_width}
 use Rattle.events.specs.declared.Entry.{Entry}
 use Rattle.events.specs.declared.Events.{Events}
 use Rattle.events.specs.Events.{held_events, has_room, ahead, announced_each}
-use Rattle.outbox.specs.declared.Queued.{Queued}
 use Rattle.outbox.specs.Outbox.{QueuedAs}
 use Rattle.endpoint_rules.specs.declared.Flags.{Flags}
 use Rattle.endpoint_rules.specs.Seen as Seen
@@ -65,20 +65,20 @@ module _ (e : Endpoint) (now ack : ℕ) (d : Bool) (reports : List StatusReport)
     abbrev Ahead : List Entry
     Ahead = ahead x.resumes x.disconnects
 
-    abbrev Unreadable : Endpoint → Answer → Effect → Type 0
+    abbrev Unreadable : Endpoint → Answered → Effect → Type 0
     Unreadable n a h = Brought h x → DoneAs e (reacted 0 (seen e) (plainly (Inputless h))) (record { answer = a; endpoint = n })
 
-    pub unreadable_full : has_room (held_events e.events) (length Ahead) ≡ false → Unreadable e Full Informs
+    pub unreadable_full : has_room (held_events e.events) (length Ahead) ≡ false → Unreadable e (Err Full) Informs
     unfolding seen
-    unreadable_full k = by_informing now ack d reports (seen e) (Unreadable e Full) (λ sd c f st t i.
+    unreadable_full k = by_informing now ack d reports (seen e) (Unreadable e (Err Full)) (λ sd c f st t i.
         rw (inputless now b (seen e) sd c f st t)
-        (refused-done e Full _ (reacted_full 0 (seen e) _ refl refl (full_events [] (informing (seen e) sd (pick b (input_at now c) c) f st t) (rw i.events k)))))
+        (refused-done e (Err Full) _ (reacted_full 0 (seen e) _ refl refl (full_events [] (informing (seen e) sd (pick b (input_at now c) c) f st t) (rw i.events k)))))
 
     pub unreadable_done : (events : Events) → has_room (held_events e.events) (length Ahead) ≡ true → held_events events ≡ held_events e.events ++ Ahead → (c' : Clocks) (pending : Pending) (acked : InputBytes)
         → c' ≡ pick b (input_at now x.clocks) x.clocks → x.statuses.count ≡ e.statuses.count → sent pending acked ≡ Informs.state.carried.sender
-        → Unreadable (remade e pending acked e.history e.sync e.nonces c' x.flags e.quality x.statuses e.checksums events e.queued) Done Informs
+        → Unreadable (remade e pending acked e.history e.sync e.nonces c' x.flags e.quality x.statuses e.checksums events e.queued) (Ok tt) Informs
     unfolding seen
-    unreadable_done events room view c' pending acked ec count = by_informing now ack d reports (seen e) (λ h. sent pending acked ≡ h.state.carried.sender → Unreadable (remade e pending acked e.history e.sync e.nonces c' x.flags e.quality x.statuses e.checksums events e.queued) Done h) (λ sd c f st t es i.
+    unreadable_done events room view c' pending acked ec count = by_informing now ack d reports (seen e) (λ h. sent pending acked ≡ h.state.carried.sender → Unreadable (remade e pending acked e.history e.sync e.nonces c' x.flags e.quality x.statuses e.checksums events e.queued) (Ok tt) h) (λ sd c f st t es i.
         let y : Effect = informing (seen e) sd (pick b (input_at now c) c) f st t in
         let announced : held_events events ≡ held_events e.events ++ t = rw i.events view in
         rw (inputless now b (seen e) sd c f st t)
@@ -108,41 +108,41 @@ module _ (e : Endpoint) (buffer : List ℕ) (now ack start : ℕ) (d : Bool) (re
       by_hearing now (seen e) (λ h. inputs_received now (receive h.state.setup start payload h.state.carried.receiver) (informed d reports (change (acknowledged ack) h)) ≡ Taking (informed d reports (change (acknowledged ack) h)))
       (λ f t. rw (readable.found, readable.whole))
 
-  abbrev Took : Endpoint → Answer → List ℕ → Effect → Type 0
+  abbrev Took : Endpoint → Answered → List ℕ → Effect → Type 0
   Took n a b' h = DidAs e (reacted (length buffer) (seen e) (plainly h)) buffer (record { answer = a; endpoint = n }) b'
 
-  abbrev Readably : Endpoint → Answer → List ℕ → Effect → Type 0
+  abbrev Readably : Endpoint → Answered → List ℕ → Effect → Type 0
   Readably n a b' h = Brought h x → Took n a b' (Taking h)
 
-  readably : (n : Endpoint) (a : Answer) (b' : List ℕ)
+  readably : (n : Endpoint) (a : Answered) (b' : List ℕ)
       → ((sd : Seen.Sender) (c : Clocks) (f : Flags) (st : List ConnectionStatus) (t : List Entry) → Readably n a b' (informing (seen e) sd c f st t))
       → Took n a b' (input_taken now (input_message d start ack reports payload) (heard now (seen e)))
   readably n a b' h = rw taking (by_informing now ack d reports (seen e) (Readably n a b') h ex)
 
-  abbrev Ending : Endpoint → Answer → List ℕ → Type 0
+  abbrev Ending : Endpoint → Answered → List ℕ → Type 0
   Ending n a b' = Took n a b' (input_taken now (input_message d start ack reports payload) (heard now (seen e)))
 
   abbrev More : List Entry
   More = ahead x.resumes x.disconnects ++ News
 
-  pub readable_unannounced : has_room (held_events e.events) (length More) ≡ false → Ending e Full buffer
+  pub readable_unannounced : has_room (held_events e.events) (length More) ≡ false → Ending e (Err Full) buffer
   unfolding inputs_received taken queue_wire seen terms_with
   readable_unannounced k =
-      readably e Full buffer (λ sd c f st t i.
-      refused_did e Full _ (reacted_full (length buffer) (seen e) _ refl refl
+      readably e (Err Full) buffer (λ sd c f st t i.
+      refused_did e (Err Full) _ (reacted_full (length buffer) (seen e) _ refl refl
       (full_events buffer (Taking (informing (seen e) sd c f st t)) (rw i.events k))) buffer)
 
   -- an InputAck takes 10 bytes, whatever it acknowledges
-  pub readable_full : no_room buffer e.queued 10 ≡ true → Ending e Full buffer
+  pub readable_full : no_room buffer e.queued 10 ≡ true → Ending e (Err Full) buffer
   unfolding inputs_received taken queue_wire seen terms_with
   readable_full k =
-      readably e Full buffer (λ sd c f st t i.
-      refused_did e Full _ (reacted_full (length buffer) (seen e) _ refl refl
+      readably e (Err Full) buffer (λ sd c f st t i.
+      refused_did e (Err Full) _ (reacted_full (length buffer) (seen e) _ refl refl
       (full_buffer buffer (Taking (informing (seen e) sd c f st t)) (body_only e.setup.magic (InputAck (newest_of Stored))) (omega arith) refl k)) buffer)
 
   module _ (spare : no_room buffer e.queued 10 ≡ false) (events : Events) (room : has_room (held_events e.events) (length More) ≡ true) (view : held_events events ≡ held_events e.events ++ More)
-      (h' : History) (eh : received h' ≡ Stored) (newest : ℕ) (en : newest ≡ newest_of (received h')) (q : Queued) (b' : List ℕ)
-      (eq : QueuedAs buffer e.queued (body_only e.setup.magic (InputAck newest)) q b') where
+      (h' : History) (eh : received h' ≡ Stored) (newest : ℕ) (en : newest ≡ newest_of (received h')) (q : ℕ) (b' : List ℕ)
+      (eq : QueuedAs buffer e.queued (body_only e.setup.magic (InputAck newest)) (Ok q) b') where
     abbrev Ack : ℕ → List Wire
     Ack n = body_only e.setup.magic (InputAck n) ∷ []
 
@@ -151,14 +151,14 @@ module _ (e : Endpoint) (buffer : List ℕ) (now ack start : ℕ) (d : Bool) (re
 
     pub readable_done : (c' : Clocks) (pending : Pending) (last : InputBytes) → c' ≡ sent_at now (input_at now x.clocks) → x.statuses.count ≡ e.statuses.count
         → sent pending last ≡ (informed d reports (change (acknowledged ack) (heard now (seen e)))).state.carried.sender
-        → Ending (remade e pending last h' e.sync e.nonces c' x.flags e.quality x.statuses e.checksums events q.end) Done b'
+        → Ending (remade e pending last h' e.sync e.nonces c' x.flags e.quality x.statuses e.checksums events q) (Ok tt) b'
     unfolding inputs_received taken queue_wire seen terms_with
     readable_done c' pending last ec count es =
-        rw taking (by_informing now ack d reports (seen e) (λ h. sent pending last ≡ h.state.carried.sender → Readably (remade e pending last h' e.sync e.nonces c' x.flags e.quality x.statuses e.checksums events q.end) Done b' h) (λ sd c f st t es i.
+        rw taking (by_informing now ack d reports (seen e) (λ h. sent pending last ≡ h.state.carried.sender → Readably (remade e pending last h' e.sync e.nonces c' x.flags e.quality x.statuses e.checksums events q) (Ok tt) b' h) (λ sd c f st t es i.
         let y : Effect = Taking (informing (seen e) sd c f st t) in
         let announced : held_events events ≡ held_events e.events ++ (t ++ News) = rw i.events view in
         queued_did e _ (record { setup = refl; count = count }) y _
         (reacted-done (length buffer) (seen e) _ refl refl refl
         (room_one buffer y (body_only e.setup.magic (InputAck newest)) (omega arith) acked (rw i.events room) spare))
-        (body_only e.setup.magic (InputAck newest)) acked buffer b' q eq (eq.ok ∙ rw spare) refl
+        (body_only e.setup.magic (InputAck newest)) acked buffer b' q eq refl
         (rw (ec, es, i.clocks, i.flags, i.statuses, eh, announced))) es ex)

@@ -1,4 +1,5 @@
 -- The ways of an Input: discarded, refused for its length or its numbers, and taken with inputs that can be read or cannot.
+use Rattle.std.specs.Prelude.{Err}
 use borrow.Author.Tests.{ltb-false}
 use mathlib.Core.Bool.{Bool, true, false, not, ◌&&◌, ◌||◌}
 use mathlib.Core.List.{List, []}
@@ -9,7 +10,7 @@ use lib.Dec.{ltb, eqb}
 use lib.ListN.{length}
 use Rattle.base.proofs.Bools.{both, neither}
 use Rattle.frame.specs.Bias.{bias32}
-use Rattle.answer.specs.declared.Answer.TheVariants.{TooLong, Overflow}
+use Rattle.answer.specs.declared.Refusal.TheVariants.{TooLong, Overflow}
 use Rattle.packing.specs.Packing.{frame_count, decodable, decodable_length}
 use Rattle.packing.specs.declared.input_bytes.InputBytes.{InputBytes}
 use Rattle.history.specs.History.{received, Found, found_in, reference_frame}
@@ -74,9 +75,9 @@ module _ (e : Endpoint) (buffer : List ℕ) (now count ack start : ℕ) (d : Boo
 
       -- l: the test for 12
       module _ (l : Bool) (el : l ≡ ltb (129 * Width) (length payload)) where
-        pub input_long : l ≡ true → Arrives (record { answer = TooLong; endpoint = e }) buffer
+        pub input_long : l ≡ true → Arrives (record { answer = Err TooLong; endpoint = e }) buffer
         unfolding reacted tested
-        input_long h = rw reacting (refused_did e TooLong _ (rw (sym el ∙ h)) buffer)
+        input_long h = rw reacting (refused_did e (Err TooLong) _ (rw (sym el ∙ h)) buffer)
 
         -- w: the width, r: the reference, y: whether the inputs can be read
         module _ (short : l ≡ false) (w : ℕ) (ew : w ≡ Width) (r : Found) (er : r ≡ found_in (reference_frame start (received e.history)) (received e.history)) (y : Bool)
@@ -107,9 +108,9 @@ module _ (e : Endpoint) (buffer : List ℕ) (now count ack start : ℕ) (d : Boo
             unfolding packet_overflows seen decodable
             overflowing = rw (← er, ← ew, reads.0, reads.1, ← en, eo)
 
-            pub input-overflows : o ≡ true → Arrives (record { answer = Overflow; endpoint = e }) buffer
+            pub input-overflows : o ≡ true → Arrives (record { answer = Err Overflow; endpoint = e }) buffer
             unfolding reacted tested
-            input-overflows h = rw reacting (refused_did e Overflow _ (rw (sym el ∙ short, overflowing ∙ h)) buffer)
+            input-overflows h = rw reacting (refused_did e (Err Overflow) _ (rw (sym el ∙ short, overflowing ∙ h)) buffer)
 
             module _ (fits : o ≡ false) where
               pub readable : Readable (seen e) start payload r.input

@@ -1,4 +1,5 @@
 -- The ways out of a SyncReply: one that does not count, one of the first that count, the last.
+use Rattle.std.specs.Prelude.{Ok, Err}
 use borrow.Author.Tests.{lt-ltb, le-ltb}
 use mathlib.Core.Bool.{Bool, true, false, ◌&&◌}
 use mathlib.Core.List.{List, [], ◌∷◌}
@@ -6,8 +7,8 @@ use mathlib.Core.Path.{◌≡◌, refl, ap}
 use Prim.Native.Nat.{ℕ, ◌-◌, ◌<◌, ◌≤◌}
 use lib.Dec.{ltb}
 use lib.ListN.{length}
-use Rattle.answer.specs.declared.Answer.{Answer}
-use Rattle.answer.specs.declared.Answer.TheVariants.{Done, Full}
+use Rattle.answer.specs.Number.{Answered}
+use Rattle.answer.specs.declared.Refusal.TheVariants.{Full}
 use Rattle.setup.specs.Setup.{terms_with}
 use Rattle.timers.specs.declared.Clocks.{Clocks}
 use Rattle.timers.specs.Timers.{heard_at}
@@ -24,7 +25,6 @@ use Rattle.endpoint_rules.specs.Step.{heard, reacted}
 use Rattle.endpoint_rules.proofs.Laws.{heard_quiet, by_hearing}
 use Rattle.endpoint.specs.declared.Endpoint.{Endpoint}
 use Rattle.endpoint.specs.declared.Ended.{Ended}
-use Rattle.endpoint.specs.declared.handshake.Requested.{Requested}
 use Rattle.endpoint.specs.Endpoint.{seen, DidAs, DoneAs}
 use Rattle.endpoint.specs.Inside.Handshake.{RequestedAs}
 use Rattle.endpoint.proofs.Laws.Ends.{remade, refused_did, refused-done, queued_did, done-done}
@@ -32,6 +32,7 @@ use Rattle.endpoint.proofs.Laws.Room.{full_events, room_none, reacted_full, reac
 use Rattle.endpoint.proofs.Laws.Message.Hearing.{not_resumes}
 use Rattle.endpoint.proofs.Laws.Message.Unqueued.{unqueued}
 use Rattle.endpoint.proofs.Laws.Handshake.{request_full, request_fits}
+use Rattle.answer.specs.declared.Refusal.{Refusal}
 
 module _ (e : Endpoint) (now nonce magic reply : ℕ) where
   -- by whether more are to come
@@ -40,43 +41,47 @@ module _ (e : Endpoint) (now nonce magic reply : ℕ) where
 
   -- no room to announce it
   module _ (crowded : has_room (held_events e.events) 1 ≡ false) where
-    pub early_unannounced : (buffer : List ℕ) → DidAs e (reacted (length buffer) (seen e) (Counting true)) buffer (record { answer = Full; endpoint = e }) buffer
+    pub early_unannounced : (buffer : List ℕ) → DidAs e (reacted (length buffer) (seen e) (Counting true)) buffer (record { answer = Err Full; endpoint = e }) buffer
     unfolding replied request counted nonce_issued queue_wire seen
-    early_unannounced buffer = refused_did e Full _ (reacted_full (length buffer) (seen e) (Counting true) refl refl (full_events buffer (Counting true).effect crowded)) buffer
+    early_unannounced buffer = refused_did e (Err Full) _ (reacted_full (length buffer) (seen e) (Counting true) refl refl (full_events buffer (Counting true).effect crowded)) buffer
 
-    pub last_unannounced : DoneAs e (reacted 0 (seen e) (Counting false)) (record { answer = Full; endpoint = e })
+    pub last_unannounced : DoneAs e (reacted 0 (seen e) (Counting false)) (record { answer = Err Full; endpoint = e })
     unfolding replied counted running seen
-    last_unannounced = refused-done e Full _ (reacted_full 0 (seen e) (Counting false) refl refl (full_events [] (Counting false).effect crowded))
+    last_unannounced = refused-done e (Err Full) _ (reacted_full 0 (seen e) (Counting false) refl refl (full_events [] (Counting false).effect crowded))
 
   -- v: the nonces after it
-  module _ (v : Nonces) (left : ℕ) (el : left ≡ e.sync.remaining - 1) where
+  module _ (left : ℕ) (el : left ≡ e.sync.remaining - 1) where
     module _ (buffer : List ℕ) where
-      abbrev Early : Endpoint → Answer → List ℕ → Type 0
+      abbrev Early : Endpoint → Answered → List ℕ → Type 0
       Early n a buffer' = DidAs e (reacted (length buffer) (seen e) (Counting true)) buffer (record { answer = a; endpoint = n }) buffer'
 
-      module _ (r : Requested) (buffer' : List ℕ) (er : RequestedAs (heard_at now e.clocks) e.setup.magic now nonce buffer e.queued r buffer') where
-        pub early_choked : r.ok ≡ false → Early e Full buffer'
+      -- n: the endpoint after the request
+      module _ (n : Endpoint) (buffer' : List ℕ) where
+        pub early_choked : (r : Refusal) → RequestedAs e now nonce buffer (Err r) n buffer' → Early n (Err r) buffer'
         unfolding reacted tested replied request counted nonce_issued queue_wire seen terms_with
-        early_choked k = rw (er.same k) (refused_did e Full _ (rw (request_full buffer e.setup.magic nonce (Counting true).effect refl r.ok er.ok k)) buffer)
+        early_choked r h =
+            let x = h.1 in
+            rw (h.0, x.1, x.2) (refused_did e (Err Full) _ (rw (request_full buffer e.setup.magic nonce (Counting true).effect refl x.0)) buffer)
 
-        pub early_done : outstanding v ≡ issued nonce (spent reply (outstanding e.nonces)) → (p : Pushed) → has_room (held_events e.events) 1 ≡ true
-            → PushedAs e.events (has_room (held_events e.events) 1) (without_input (Event.Synchronizing 5 (5 - left)) ∷ []) p → r.ok ≡ true
-            → Early (remade e e.pending e.acked e.history (record { phase = e.sync.phase; remaining = left; remote_magic = e.sync.remote_magic }) v r.clocks e.flags e.quality e.statuses e.checksums p.events r.end) Done buffer'
+        pub early_done : RequestedAs e now nonce buffer (Ok tt) n buffer' → (v : Nonces) → outstanding v ≡ issued nonce (spent reply (outstanding e.nonces)) → (p : Pushed) → has_room (held_events e.events) 1 ≡ true
+            → PushedAs e.events (has_room (held_events e.events) 1) (without_input (Event.Synchronizing 5 (5 - left)) ∷ []) p → (c : Clocks) → c ≡ heard_at now n.clocks
+            → Early (remade n n.pending n.acked n.history (record { phase = n.sync.phase; remaining = left; remote_magic = n.sync.remote_magic }) v c n.flags n.quality n.statuses n.checksums p.events n.queued) (Ok tt) buffer'
         unfolding reacted tested replied request counted nonce_issued queue_wire seen terms_with
-        early_done ev p room ep k =
+        early_done h v ev p room ep =
+            rw h.0 (λ c ec.
             queued_did e _ (record { setup = refl; count = refl }) (Counting true).effect _
-            (rw (request_fits buffer e.setup.magic nonce (Counting true).effect refl r.ok er.ok k room))
-            _ refl buffer buffer' _ (er.queued k) refl refl
-            (rw (ev, er.clocks k, rw room at ep.view, el))
+            (rw (request_fits buffer e.setup.magic nonce (Counting true).effect refl h.1.room room))
+            _ refl buffer buffer' n.queued h.1 refl
+            (rw (ev, ec, rw room at ep.view, el)))
 
     abbrev Last : Endpoint → Type 0
-    Last n = DoneAs e (reacted 0 (seen e) (Counting false)) (record { answer = Done; endpoint = n })
+    Last n = DoneAs e (reacted 0 (seen e) (Counting false)) (record { answer = Ok tt; endpoint = n })
 
-    pub last_done : outstanding v ≡ spent reply (outstanding e.nonces) → (d : Clocks) (p : Pushed) → has_room (held_events e.events) 1 ≡ true → d ≡ heard_at now e.clocks
+    pub last_done : (v : Nonces) → outstanding v ≡ spent reply (outstanding e.nonces) → (d : Clocks) (p : Pushed) → has_room (held_events e.events) 1 ≡ true → d ≡ heard_at now e.clocks
         → PushedAs e.events (has_room (held_events e.events) 1) (without_input Event.Synchronized ∷ []) p
         → Last (remade e e.pending e.acked e.history (record { phase = Running; remaining = left; remote_magic = magic }) v d e.flags e.quality e.statuses e.checksums p.events e.queued)
     unfolding replied counted running seen
-    last_done ev d p room ed ep =
+    last_done v ev d p room ed ep =
         done-done e _ (record { setup = refl; count = refl }) (Counting false).effect _ (reacted-done 0 (seen e) (Counting false) refl refl refl (room_none [] (Counting false).effect refl room)) refl
         (rw (ev, el, ed, rw room at ep.view))
 

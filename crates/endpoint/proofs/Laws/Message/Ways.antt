@@ -1,15 +1,16 @@
 -- The ways out of `message` that are no Input's, and the end of a message that falls through: by what the calls in them gave.
+use Rattle.std.specs.Prelude.{Result, Ok, Err}
+use Rattle.answer.specs.declared.Refusal.{Refusal}
 use borrow.Author.Tests.{ltb-true, ltb-false, lt-ltb, le-ltb}
-use mathlib.Core.Bool.{Bool, true, false, not, ◌&&◌, ◌||◌}
+use mathlib.Core.Bool.{Bool, true, false, ◌&&◌, ◌||◌}
 use mathlib.Core.List.{List, [], ◌∷◌}
-use mathlib.Core.Path.{◌≡◌, refl, sym, ◌∙◌, ap}
+use mathlib.Core.Path.{◌≡◌, refl, sym, ◌∙◌}
 use native.Mathlib.Omega.{arith}
 use Prim.Native.Nat.{ℕ, ◌-◌, ◌<◌, ◌≤◌}
 use lib.Dec.{ltb, leb}
 use lib.ListN.{length}
-use Rattle.answer.specs.declared.Answer.{Answer}
-use Rattle.answer.specs.declared.Answer.TheVariants.{Done, Full, Overflow}
-use Rattle.base.specs.Pick.{pick}
+use Rattle.answer.specs.Number.{Answered}
+use Rattle.answer.specs.declared.Refusal.TheVariants.{Full, Overflow}
 use Rattle.base.proofs.Bools.{neither}
 use Rattle.codec.specs.Message.{report_list, kind_of}
 use Rattle.codec.specs.declared.Wide.{Wide}
@@ -36,14 +37,11 @@ use Rattle.endpoint_rules.specs.Checksum.{checksum_of}
 use Rattle.endpoint_rules.specs.Step.{ignored_by, heard, reacted}
 use Rattle.endpoint.specs.declared.Endpoint.{Endpoint}
 use Rattle.endpoint.specs.declared.Ended.{Ended}
-use Rattle.endpoint.specs.declared.message.admission.Door.{Door}
-use Rattle.endpoint.specs.declared.handshake.Counted.{Counted}
-use Rattle.endpoint.specs.declared.handshake.Requested.{Requested}
 use Rattle.endpoint.specs.declared.message.packet.Opened.{Opened}
 use Rattle.endpoint.specs.declared.message.reaction.Reacted.{Reacted}
 use Rattle.endpoint.specs.Endpoint.{seen, DidAs, DoneAs}
 use Rattle.endpoint.specs.Inside.Admission.{WeighedAs}
-use Rattle.endpoint.specs.Inside.Handshake.{progress_of, CountedAs}
+use Rattle.endpoint.specs.Inside.Handshake.{progress_of, RequestedAs}
 use Rattle.endpoint.specs.Inside.Hearing.{resumed_flags}
 use Rattle.endpoint.specs.Inside.Packet.{OpenedAs}
 use Rattle.endpoint.specs.Inside.Reaction.{ReactedAs}
@@ -57,7 +55,7 @@ use Rattle.endpoint.proofs.Laws.Message.InputAck.{ack_full, ack_done, dropped_se
 use Rattle.endpoint.proofs.Laws.Message.InputWays.{input-discarded}
 use Rattle.endpoint.proofs.Laws.Message.ChecksumReport.{checksum_overflows, checksum_choked, checksum_unannounced, checksum_done}
 use Rattle.endpoint.proofs.Laws.Message.SyncReply.{Counting, early_unannounced, early_choked, early_done, last_unannounced, last_done, uncounted, reply_early, reply_last}
-use Rattle.endpoint.proofs.Laws.Message.Reaction.{rated_by, react_refused, react_roomy, react_done}
+use Rattle.endpoint.proofs.Laws.Message.Reaction.{react_refused, react_roomy, react_done}
 use Rattle.endpoint.proofs.Laws.Message.Bodies.{Does, sync_replied, input_came, acknowledged, checksum_reported}
 
 module _ (e : Endpoint) (from : ℕ) (m : Message) (p : List ℕ) (now epoch nonce : ℕ) (buffer : List ℕ) (good : bad_clock now || bad_clock epoch ≡ false)
@@ -65,7 +63,7 @@ module _ (e : Endpoint) (from : ℕ) (m : Message) (p : List ℕ) (now epoch non
   abbrev Arrives : Ended → List ℕ → Type 0
   Arrives x b' = DidAs e (Does e from m p now epoch nonce buffer) buffer x b'
 
-  abbrev Ends : Endpoint → Answer → List ℕ → Type 0
+  abbrev Ends : Endpoint → Answered → List ℕ → Type 0
   Ends n a b' = Arrives (record { answer = a; endpoint = n }) b'
 
   -- nothing but that it is heard
@@ -92,7 +90,7 @@ module _ (e : Endpoint) (from : ℕ) (m : Message) (p : List ℕ) (now epoch non
       last one x d =
           sync_replied e from m p now epoch nonce buffer good heeded x reply buffer eb (reply_last e now nonce m.magic reply buffer phase outstood one x d)
 
-      unannounced : (more : Bool) → ltb 1 e.sync.remaining ≡ more → has_room (held_events e.events) 1 ≡ false → Ends e Full buffer
+      unannounced : (more : Bool) → ltb 1 e.sync.remaining ≡ more → has_room (held_events e.events) 1 ≡ false → Ends e (Err Full) buffer
       unannounced true h k = early (ltb-true 1 e.sync.remaining h) _ buffer (early_unannounced e now nonce m.magic reply k buffer)
       unannounced false h k = last (ltb-false 1 e.sync.remaining h) _ (last_unannounced e now nonce m.magic reply k)
 
@@ -104,49 +102,37 @@ module _ (e : Endpoint) (from : ℕ) (m : Message) (p : List ℕ) (now epoch non
       unfolding renewed
       none_issued none = ey.view ∙ rw (outstood, le-ltb 0 l none)
 
-      -- n: how many events there are, f: whether no other can be announced; g: what it leaves
-      module _ (n : ℕ) (en : n ≡ length (held_events e.events)) (f : Bool) (ef : f ≡ leb 640 n) (g : Counted) (b' : List ℕ)
-          (eg : CountedAs (not f) e.sync l m.magic e.clocks e.setup.magic now nonce buffer e.queued g b') where
-        abbrev Gone : Requested
-        Gone = record { clocks = g.clocks; end = g.end; ok = g.ok }
+      -- n: how many events there are
+      module _ (n : ℕ) (en : n ≡ length (held_events e.events)) where
+        pub reply_crowded : leb 640 n ≡ true → Ends e (Err Full) buffer
+        reply_crowded h = unannounced (ltb 1 e.sync.remaining) refl (one_crowds e.events n en h)
 
-        choked : (more crowded : Bool) → ltb 0 l ≡ more → f ≡ crowded → g.ok ≡ false → Ends e Full b'
-        choked more true h crowded k =
-            rw (eg.crowded (ap not crowded)).1 (unannounced (ltb 1 e.sync.remaining) refl (one_crowds e.events n en (sym ef ∙ crowded)))
-        choked true false h roomy k =
-            let more = ltb-true 0 l h in
-            early (omega (arith, more, el)) _ b' (early_choked e now nonce m.magic reply y.nonces l el buffer Gone b' (eg.more (ap not roomy) more) k)
-        choked false false h roomy k = absurd (false_true (sym k ∙ (eg.over (ap not roomy) (ltb-false 0 l h)).2))
+        -- s: the endpoint after the request of one with more to come
+        module _ (more : 0 < l) (s : Endpoint) (b' : List ℕ) where
+          pub reply_choked : (r : Refusal) → RequestedAs e now nonce buffer (Err r) s b' → Ends s (Err r) b'
+          reply_choked r h = early (omega (arith, more, el)) _ b' (early_choked e now nonce m.magic reply l el buffer s b' r h)
 
-        pub reply_choked : g.ok ≡ false → Ends e Full b'
-        reply_choked = choked (ltb 0 l) f refl refl
+        -- x: what is announced of it, q: the events with it
+        module _ (crowds : leb 640 n ≡ false) (x : Entry) (ex : x ≡ without_input (progress_of l)) (q : Pushed) (eq : PushedAs e.events (has_room (held_events e.events) 1) (x ∷ []) q) where
+          -- an endpoint that has counted it, up to what is announced and heard of it
+          abbrev pub Counted : Endpoint → List ℕ → Type 0
+          Counted s b' = (c : Clocks) → c ≡ heard_at now s.clocks
+              → Ends (remade s s.pending s.acked s.history s.sync y.nonces c s.flags s.quality s.statuses s.checksums q.events s.queued) (Ok tt) b'
 
-        -- q: the events with what is announced of it
-        module _ (x : Entry) (ex : x ≡ without_input (progress_of l)) (q : Pushed) (eq : PushedAs e.events (has_room (held_events e.events) 1) (x ∷ []) q) where
-          room : f ≡ false → has_room (held_events e.events) 1 ≡ true
-          room roomy = one_fits e.events n en (sym ef ∙ roomy)
+          room : has_room (held_events e.events) 1 ≡ true
+          room = one_fits e.events n en crowds
 
-          counted : (more : Bool) → ltb 0 l ≡ more → f ≡ false → g.ok ≡ true
-              → Ends (remade e e.pending e.acked e.history (pick more (record { phase = e.sync.phase; remaining = l; remote_magic = e.sync.remote_magic }) (record { phase = Running; remaining = l; remote_magic = m.magic })) y.nonces g.clocks e.flags e.quality e.statuses e.checksums q.events g.end) Done b'
-          counted true h roomy k =
-              let more = ltb-true 0 l h in
+          pub counted_more : 0 < l → (s : Endpoint) (b' : List ℕ) → RequestedAs e now nonce buffer (Ok tt) s b'
+              → Counted (remade s s.pending s.acked s.history (record { phase = s.sync.phase; remaining = l; remote_magic = s.sync.remote_magic }) s.nonces s.clocks s.flags s.quality s.statuses s.checksums s.events s.queued) b'
+          counted_more more s b' h c ec =
               early (omega (arith, more, el)) _ b'
-              (early_done e now nonce m.magic reply y.nonces l el buffer Gone b' (eg.more (ap not roomy) more) (next-issued more) q (room roomy) (rw (ex, h) at eq) k)
-          counted false h roomy k =
-              let none = ltb-false 0 l h in
-              let over = eg.over (ap not roomy) none in
-              rw (over.1, over.3)
-              (last (omega (arith, none, el)) _
-              (last_done e now nonce m.magic reply y.nonces l el (none_issued none) g.clocks q (room roomy) over.0 (rw (ex, h) at eq)))
+              (early_done e now nonce m.magic reply l el buffer s b' h y.nonces (next-issued more) q room (rw (ex, lt-ltb 0 l more) at eq) c ec)
 
-          pub reply_counted : g.ok ≡ true
-              → Ends (remade e e.pending e.acked e.history g.sync y.nonces g.clocks e.flags e.quality e.statuses e.checksums q.events g.end) Done b'
-          reply_counted k = go f refl
-            where
-              go : (crowded : Bool) → f ≡ crowded
-                  → Ends (remade e e.pending e.acked e.history g.sync y.nonces g.clocks e.flags e.quality e.statuses e.checksums q.events g.end) Done b'
-              go true crowded = absurd (false_true (sym (eg.crowded (ap not crowded)).0 ∙ k))
-              go false roomy = rw (eg.sync (ap not roomy)) (counted (ltb 0 l) refl roomy k)
+          pub counted_last : l ≤ 0
+              → Counted (remade e e.pending e.acked e.history (record { phase = Running; remaining = l; remote_magic = m.magic }) e.nonces e.clocks e.flags e.quality e.statuses e.checksums e.events e.queued) buffer
+          counted_last none c ec =
+              last (omega (arith, none, el)) _
+              (last_done e now nonce m.magic reply l el y.nonces (none_issued none) c q room ec (rw (ex, le-ltb 0 l none) at eq))
 
   -- an Input that is discarded
   pub input_passes : (d : Bool) (start ack : ℕ) → m.body ≡ Input d start ack → (o : Opened) → OpenedAs e.history e.setup d start m.reports.count (length p) o
@@ -160,10 +146,10 @@ module _ (e : Endpoint) (from : ℕ) (m : Message) (p : List ℕ) (now epoch non
     abbrev Unheard : Ears
     Unheard = heard_with e now r er n en f ef false e.events
 
-    pub only_crowded : OnlyHeard → f ≡ true → Ends e Full buffer
+    pub only_crowded : OnlyHeard → f ≡ true → Ends e (Err Full) buffer
     only_crowded by h = by _ (only_full e now Unheard refl (ears_full e now r er n en f ef h))
 
-    pub ack_crowded : (ack : ℕ) → m.body ≡ InputAck ack → f ≡ true → Ends e Full buffer
+    pub ack_crowded : (ack : ℕ) → m.body ≡ InputAck ack → f ≡ true → Ends e (Err Full) buffer
     ack_crowded ack eb h = acknowledged e from m p now epoch nonce buffer good heeded _ ack eb (ack_full e ack now Unheard (ears_full e now r er n en f ef h) refl)
 
     -- as a message leaves it that falls through with s, where t is announced
@@ -178,7 +164,7 @@ module _ (e : Endpoint) (from : ℕ) (m : Message) (p : List ℕ) (now epoch non
     pub record Left (s : Endpoint) (b' : List ℕ) : Type 0 where
       pub room : f ≡ false
       pub events : s.events ≡ e.events
-      pub ends : (t : Events) → Hearing t → Ends (Ending s t) Done b'
+      pub ends : (t : Events) → Hearing t → Ends (Ending s t) (Ok tt) b'
 
     pub only_left : OnlyHeard → f ≡ false → Left e buffer
     only_left by h = record { room = h; events = refl; ends = λ t k. by _ (only_heard e now (heard_with e now r er n en f ef true t) refl k) }
@@ -197,62 +183,61 @@ module _ (e : Endpoint) (from : ℕ) (m : Message) (p : List ℕ) (now epoch non
     -- a ChecksumReport; i: the interval, y: the store with it
     module _ (checksum : Wide) (frame : ℕ) (eb : m.body ≡ ChecksumReport checksum frame) (i : ℕ) (ei : i ≡ interval_of e.setup.choices.desync_detection) (y : Reported)
         (ey : ReportedAs e.checksums (checksum_of frame checksum) i e.setup.choices.firm_checksums y) where
-      abbrev Refused : Answer → Type 0
+      abbrev Refused : Answered → Type 0
       Refused a = Ends e a buffer
 
-      overflowing : y.overflow ≡ true → Refused Overflow
+      overflowing : y.overflow ≡ true → Refused (Err Overflow)
       overflowing h = checksum_reported e from m p now epoch nonce buffer good heeded _ checksum frame eb (checksum_overflows e checksum frame now i ei y ey h)
 
       -- in either case
-      choking : y.overflow ≡ false → (unannounced : Bool) → f ≡ unannounced → (unannounced || y.full) ≡ true → Refused Full
+      choking : y.overflow ≡ false → (unannounced : Bool) → f ≡ unannounced → (unannounced || y.full) ≡ true → Refused (Err Full)
       choking within true h k =
           checksum_reported e from m p now epoch nonce buffer good heeded _ checksum frame eb
           (checksum_unannounced e checksum frame now i ei y ey within Unheard (ears_full e now r er n en f ef h) refl)
       choking within false h k = checksum_reported e from m p now epoch nonce buffer good heeded _ checksum frame eb (checksum_choked e checksum frame now i ei y ey within k)
 
-      module _ (door : Door) (weighed : WeighedAs false y.overflow (f || y.full) door) where
-        pub report-refused : door.shut ≡ true → Refused door.answer
-        report-refused h =
-            kept_out Refused false y.overflow (f || y.full) (λ z. absurd (false_true z)) (λ z. overflowing) (λ z within. choking within f refl) door weighed h
+      pub report-refused : (z : Refusal) → WeighedAs false y.overflow (f || y.full) (Err z) → Refused (Err z)
+      report-refused z h =
+          kept_out Refused false y.overflow (f || y.full) (λ u. absurd (false_true u)) (λ u. overflowing) (λ u within. choking within f refl) z h
 
-        pub report_left : door.shut ≡ false
-            → Left (remade e e.pending e.acked e.history e.sync e.nonces e.clocks e.flags e.quality e.statuses y.checksums e.events e.queued) buffer
-        report_left h =
-            let z = let_in false y.overflow (f || y.full) door weighed h in
-            let roomy = neither f y.full z.2 in
-            record {
-              room = roomy.0;
-              events = refl;
-              ends = λ t k.
-                  checksum_reported e from m p now epoch nonce buffer good heeded _ checksum frame eb
-                  (checksum_done e checksum frame now i ei y ey z.1 (heard_with e now r er n en f ef true t) k roomy.1 refl);
-            }
+      pub report_left : WeighedAs false y.overflow (f || y.full) (Ok tt)
+          → Left (remade e e.pending e.acked e.history e.sync e.nonces e.clocks e.flags e.quality e.statuses y.checksums e.events e.queued) buffer
+      report_left h =
+          let z = let_in false y.overflow (f || y.full) h in
+          let roomy = neither f y.full z.2 in
+          record {
+            room = roomy.0;
+            events = refl;
+            ends = λ t k.
+                checksum_reported e from m p now epoch nonce buffer good heeded _ checksum frame eb
+                (checksum_done e checksum frame now i ei y ey z.1 (heard_with e now r er n en f ef true t) k roomy.1 refl);
+          }
 
     -- one of the other kinds; k: its kind's number
-    module _ (y : Reacted) (b' : List ℕ) (ey : ReactedAs m.body f e.quality e.clocks now epoch e.setup.magic buffer e.queued y b') (k : ℕ)
+    module _ (y : Result Reacted Refusal) (b' : List ℕ) (ey : ReactedAs m.body f e.quality e.clocks now epoch e.setup.magic buffer e.queued y b') (k : ℕ)
         (ek : k ≡ kind_of m.body) (others : (k ≡ 1 → ⊥) × (k ≡ 2 → ⊥) × (k ≡ 3 → ⊥) × (k ≡ 6 → ⊥)) where
       none : (kind_of m.body ≡ 1 → ⊥) × (kind_of m.body ≡ 2 → ⊥) × (kind_of m.body ≡ 3 → ⊥) × (kind_of m.body ≡ 6 → ⊥)
       none = (λ z. others.0 (ek ∙ z), λ z. others.1 (ek ∙ z), λ z. others.2 (ek ∙ z), λ z. others.3 (ek ∙ z))
 
-      pub react_refuses : y.ok ≡ false → Ends e Full b'
-      react_refuses h = react_refused e from m p now epoch nonce buffer good heeded r er n en f ef y b' ey h none
+      pub react_refuses : (z : Refusal) → y ≡ Err z → Ends e (Err z) b'
+      react_refuses z h = react_refused e from m p now epoch nonce buffer good heeded r er n en f ef y b' ey z h none
 
-      pub react_left : y.ok ≡ true
-          → Left (remade e e.pending e.acked e.history e.sync e.nonces y.clocks e.flags (rated_by y e.quality) e.statuses e.checksums e.events y.end) b'
-      react_left h =
-          let room : f ≡ false = react_roomy e from m p now epoch nonce buffer good heeded r er n en f ef y b' ey h none in
+      pub react_left : (x : Reacted) → y ≡ Ok x
+          → Left (remade e e.pending e.acked e.history e.sync e.nonces x.clocks e.flags x.quality e.statuses e.checksums e.events x.end) b'
+      react_left x h =
+          let room : f ≡ false = react_roomy e from m p now epoch nonce buffer good heeded r er n en f ef y b' ey x h none in
           record {
             room = room;
             events = refl;
-            ends = λ t x. react_done e from m p now epoch nonce buffer good heeded r er n en f ef y b' ey t x room h none;
+            ends = λ t k. react_done e from m p now epoch nonce buffer good heeded r er n en f ef y b' ey x h t k room none;
           }
 
     -- the end, by whether an interruption ends
     module _ (s : Endpoint) (b' : List ℕ) (l : Left s b') (c : Clocks) (ec : c ≡ heard_at now s.clocks) where
       pub ends_quiet : r ≡ false → length e.events.entries ≡ 640
-          → Ends (remade s s.pending s.acked s.history s.sync s.nonces c s.flags s.quality s.statuses s.checksums s.events s.queued) Done b'
+          → Ends (remade s s.pending s.acked s.history s.sync s.nonces c s.flags s.quality s.statuses s.checksums s.events s.queued) (Ok tt) b'
       ends_quiet h k = rw ec (rw h at (l.ends s.events (rw l.events (ears_quiet e now r er n en f ef h k))))
 
       pub ends_announced : r ≡ true → (x : Entry) → x ≡ without_input Event.NetworkResumed → (q : Pushed) → PushedAs s.events (has_room (held_events s.events) 1) (x ∷ []) q
-          → Ends (remade s s.pending s.acked s.history s.sync s.nonces c (resumed_flags true s.flags) s.quality s.statuses s.checksums q.events s.queued) Done b'
+          → Ends (remade s s.pending s.acked s.history s.sync s.nonces c (resumed_flags true s.flags) s.quality s.statuses s.checksums q.events s.queued) (Ok tt) b'
       ends_announced h x ex q eq = rw ec (rw h at (l.ends q.events (ears_announced e now r er n en f ef l.room h x ex q (rw l.events at eq))))

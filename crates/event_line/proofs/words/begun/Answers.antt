@@ -9,5 +9,5 @@ pub returns : goal.returns
 unfolding ascii
 returns c =
     let n = empty_holds _ c.new.ensures in
-    let a = put_adds _ _ _ 1 (lit≤ tt) (omega (arith, n.used)) c.put.ensures in
-    both _ _ _ _ _ _ (both _ _ _ _ _ _ n a) (put_adds _ _ _ 2 (lit≤ tt) (omega (arith, n.used, a.used)) c.put-2.ensures)
+    let a = put_adds _ _ _ 1 (lit≤ tt) (omega (arith, n.count)) c.put.ensures in
+    both _ _ _ _ _ _ (both _ _ _ _ _ _ n a) (put_adds _ _ _ 2 (lit≤ tt) (omega (arith, n.count, a.count)) c.put-2.ensures)

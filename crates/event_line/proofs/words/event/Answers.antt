@@ -1,6 +1,5 @@
 -- Each variant's words.
 use Rattle.std.proofs.Common.{rules}
-use native.Mathlib.Nat.{add-zero}
 use lib.Dec.{lit≤}
 use Rattle.text.specs.Ascii.{ascii}
 use Rattle.event_line.specs.Lines.{event_text}
@@ -11,8 +10,8 @@ pub returns-in-Synchronizing : goal.returns-in-Synchronizing
 unfolding event_text ascii
 returns-in-Synchronizing c =
     rw c.in-Synchronizing.is
-    (synchronizing_added c.args.draft c.requires _ _ (search rules) (search rules) _ _ _ _ c.put.ensures (rw add-zero at c.put_decimal-next.ensures)
-    c.put-in-Synchronizing.ensures (rw add-zero at c.put_decimal.ensures))
+    (synchronizing_added c.args.draft c.requires _ _ (search rules) (search rules) _ _ _ _ c.put.ensures (rw c.from.ensures at c.put_decimal.ensures)
+    c.put-in-Synchronizing.ensures (rw c.from-in-Synchronizing.ensures at c.put_decimal-in-Synchronizing.ensures))
 
 pub returns-in-Synchronized : goal.returns-in-Synchronized
 unfolding event_text ascii
@@ -27,7 +26,7 @@ unfolding event_text ascii
 returns-in-NetworkInterrupted c =
     rw c.in-NetworkInterrupted.is
     (interrupted-added c.args.draft c.requires _ (search rules) _ _ c.put-in-NetworkInterrupted.ensures
-    (rw add-zero at c.put_decimal-in-NetworkInterrupted.ensures))
+    (rw c.from-in-NetworkInterrupted.ensures at c.put_decimal-in-NetworkInterrupted.ensures))
 
 pub returns-in-NetworkResumed : goal.returns-in-NetworkResumed
 unfolding event_text ascii

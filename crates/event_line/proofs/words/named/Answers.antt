@@ -11,4 +11,4 @@ unfolding under ascii
 returns c =
     let b = c.begun.ensures in
     let e = c.event.ensures in
-    both _ _ _ _ _ _ (both _ _ _ _ _ _ b e) (put_adds _ _ _ 1 (lit≤ tt) (omega (arith, b.used, e.used)) c.put.ensures)
+    both _ _ _ _ _ _ (both _ _ _ _ _ _ b e) (put_adds _ _ _ 1 (lit≤ tt) (omega (arith, b.count, e.count)) c.put.ensures)

@@ -10,4 +10,4 @@ pub returns : goal.returns
 unfolding under ascii
 returns c =
     let b = c.begun.ensures in
-    wider _ _ _ _ (both _ _ _ _ _ _ b (put_adds _ _ _ 9 (lit≤ tt) (omega (arith, b.used)) c.put.ensures)) (omega arith)
+    wider _ _ _ _ (both _ _ _ _ _ _ b (put_adds _ _ _ 9 (lit≤ tt) (omega (arith, b.count)) c.put.ensures)) (omega arith)

@@ -1,46 +1,36 @@
--- The variant's name, put into an empty draft.
-use Rattle.std.proofs.Common.{[], arith}
+-- The name of each variant.
 use Rattle.text.specs.Ascii.{ascii}
-use Rattle.text.proofs.PieceLaws.{empty_holds, wider, both}
 use Rattle.message_line.specs.Line.{kind_name}
 use Rattle.message_line.proofs.body.kind.Goals as goal
 
-pub returns-in-SyncRequest : goal.returns-in-SyncRequest
+pub returns-in-SyncRequest-clause-name : goal.returns-in-SyncRequest-clause-name
 unfolding kind_name ascii
-returns-in-SyncRequest c =
-    rw c.in-SyncRequest.is (wider _ _ _ _ (both [] _ _ _ _ _ (empty_holds _ c.new.ensures) c.put.ensures) (omega arith))
+returns-in-SyncRequest-clause-name c = rw c.in-SyncRequest.is
 
-pub returns-in-SyncReply : goal.returns-in-SyncReply
+pub returns-in-SyncReply-clause-name : goal.returns-in-SyncReply-clause-name
 unfolding kind_name ascii
-returns-in-SyncReply c =
-    rw c.in-SyncReply.is (wider _ _ _ _ (both [] _ _ _ _ _ (empty_holds _ c.new-in-SyncReply.ensures) c.put-in-SyncReply.ensures) (omega arith))
+returns-in-SyncReply-clause-name c = rw c.in-SyncReply.is
 
-pub returns-in-Input : goal.returns-in-Input
+pub returns-in-Input-clause-name : goal.returns-in-Input-clause-name
 unfolding kind_name ascii
-returns-in-Input c =
-    rw c.in-Input.is (wider _ _ _ _ (both [] _ _ _ _ _ (empty_holds _ c.new-in-Input.ensures) c.put-in-Input.ensures) (omega arith))
+returns-in-Input-clause-name c = rw c.in-Input.is
 
-pub returns-in-InputAck : goal.returns-in-InputAck
+pub returns-in-InputAck-clause-name : goal.returns-in-InputAck-clause-name
 unfolding kind_name ascii
-returns-in-InputAck c =
-    rw c.in-InputAck.is (wider _ _ _ _ (both [] _ _ _ _ _ (empty_holds _ c.new-in-InputAck.ensures) c.put-in-InputAck.ensures) (omega arith))
+returns-in-InputAck-clause-name c = rw c.in-InputAck.is
 
-pub returns-in-QualityReport : goal.returns-in-QualityReport
+pub returns-in-QualityReport-clause-name : goal.returns-in-QualityReport-clause-name
 unfolding kind_name ascii
-returns-in-QualityReport c =
-    rw c.in-QualityReport.is (wider _ _ _ _ (both [] _ _ _ _ _ (empty_holds _ c.new-in-QualityReport.ensures) c.put-in-QualityReport.ensures) (omega arith))
+returns-in-QualityReport-clause-name c = rw c.in-QualityReport.is
 
-pub returns-in-QualityReply : goal.returns-in-QualityReply
+pub returns-in-QualityReply-clause-name : goal.returns-in-QualityReply-clause-name
 unfolding kind_name ascii
-returns-in-QualityReply c =
-    rw c.in-QualityReply.is (wider _ _ _ _ (both [] _ _ _ _ _ (empty_holds _ c.new-in-QualityReply.ensures) c.put-in-QualityReply.ensures) (omega arith))
+returns-in-QualityReply-clause-name c = rw c.in-QualityReply.is
 
-pub returns-in-ChecksumReport : goal.returns-in-ChecksumReport
+pub returns-in-ChecksumReport-clause-name : goal.returns-in-ChecksumReport-clause-name
 unfolding kind_name ascii
-returns-in-ChecksumReport c =
-    rw c.in-ChecksumReport.is (wider _ _ _ _ (both [] _ _ _ _ _ (empty_holds _ c.new-in-ChecksumReport.ensures) c.put-in-ChecksumReport.ensures) (omega arith))
+returns-in-ChecksumReport-clause-name c = rw c.in-ChecksumReport.is
 
-pub returns-in-KeepAlive : goal.returns-in-KeepAlive
+pub returns-in-KeepAlive-clause-name : goal.returns-in-KeepAlive-clause-name
 unfolding kind_name ascii
-returns-in-KeepAlive c =
-    rw c.in-KeepAlive.is (wider _ _ _ _ (both [] _ _ _ _ _ (empty_holds _ c.new-in-KeepAlive.ensures) c.put-in-KeepAlive.ensures) (omega arith))
+returns-in-KeepAlive-clause-name c = rw c.in-KeepAlive.is

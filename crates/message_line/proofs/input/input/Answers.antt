@@ -1,6 +1,5 @@
 -- An Input's fields one after another.
-use Rattle.std.proofs.Common.{◌≡◌, length, length-take, arith, rules}
-use Rattle.codec.specs.Message.{report_list}
+use Rattle.std.proofs.Common.{refl, arith}
 use Rattle.text.specs.Ascii.{ascii}
 use Rattle.text.proofs.PieceLaws.{wider, same_piece, both_adds}
 use Rattle.message_line.specs.Line.{field}
@@ -11,10 +10,8 @@ pub returns : goal.returns
 unfolding field ascii
 returns c =
     let a = c.args in
-    let long : length a.reports.list ≡ 4 = search rules in
-    let few : a.reports.count ≡ length (report_list a.reports) = simp length-take (omega arith) in
     wider _ _ _ _
-    (same_piece _ _ _ _ _ (input_fields (report_list a.reports) a.reports.count a.disconnect_requested a.start_frame a.ack_frame a.length few)
+    (same_piece _ _ _ _ _ (input_fields a.reports.now _ a.disconnect_requested a.start_frame a.ack_frame a.bytes refl)
     (both_adds a.draft _ _ _ _ _ _
     (both_adds a.draft _ _ _ _ _ _
     (both_adds a.draft _ _ _ _ _ _

@@ -6,5 +6,5 @@ pub returns : goal.returns
 returns c =
     let a = c.args in
     let e = c.new-made in
-    makes a.setup a.now e.result (rw c.host_setup.ensures at e.ensures) c.refusal-answer.result c.refusal-answer.ensures
-    c.new-inputs.result c.new-inputs.ensures c.new-statuses.result c.new-statuses.ensures c.new-events.result c.new-events.ensures
+    makes a.setup a.now e.result (rw c.host_setup.ensures at e.ensures) c.refusal.result c.refusal.ensures
+    c.new.result c.new.ensures c.new-2.result c.new-2.ensures c.new-3.result c.new-3.ensures

@@ -1,22 +1,23 @@
 -- Taking the messages is refused, or all events are handled.
-use Rattle.answer.proofs.Done.{other_than_done}
+use Rattle.std.proofs.Common.{ap}
+use Rattle.std.proofs.lemmas.Result.{err_from_is_err_and}
+use Rattle.answer.specs.Number.{number_of}
 use Rattle.spectator.proofs.Laws.Polling.{take_in_refused, take_in_done}
 use Rattle.spectator.proofs.SpectatorSession.take_in.Goals as goal
 
-pub returns-in_default : goal.returns-in_default
-returns-in_default c =
+pub returns-in_err-taken : goal.returns-in_err-taken
+returns-in_err-taken c =
     let a = c.args in
     let e = c.take_events-new in
     let t = c.take_messages-taken in
-    take_in_refused a.self a.old a.acted a.out.now e.result e.ensures t.result t.ensures c.refused.result c.refused.ensures
-    (other_than_done t.result.answer c.in_default.not-Done)
+    let p = err_from_is_err_and c.from_residual.result c.from_residual.ensures.1 in
+    rw (p.1, p.2) (take_in_refused a.self.now a.old.now a.acted a.out.now e.result e.ensures t.result t.ensures c.in_err-taken.field-0.0 c.in_err-taken.was)
 
 pub returns : goal.returns
 returns c =
     let a = c.args in
     let e = c.take_events-new in
     let t = c.take_messages-taken in
-    let mid = c.handle_all-session in
-    let last = c.handle_all-session-2 in
-    take_in_done a.self a.old a.acted a.out.now e.result e.ensures t.result t.ensures _ c.messages-filled.ensures c.in-Done.is mid.result last.result
-    mid.ensures.0 last.ensures.0 mid.ensures.2 last.ensures.2 last.ensures.1
+    let r = c.settle.ensures in
+    take_in_done a.self.now a.old.now a.acted a.out.now e.result e.ensures t.result t.ensures _ c.messages-filled.ensures (ap number_of c.in_ok-taken.was)
+    c.settle.new.self c.handle_all.new.self c.handle_all-2.new.self r.0 r.1 r.2 c.handle_all.ensures c.handle_all-2.ensures

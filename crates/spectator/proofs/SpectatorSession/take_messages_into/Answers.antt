@@ -1,5 +1,6 @@
 -- What the host hands back, the session hands back.
 use Rattle.std.proofs.Common.{refl}
+use Rattle.endpoint.specs.Taken.{answer_in}
 use Rattle.endpoint_rules.specs.Step.{step as host_step}
 use Rattle.spectator_rules.specs.Step.{step}
 use Rattle.spectator.specs.Session.{seen}
@@ -11,7 +12,7 @@ unfolding step host_step seen
 returns c =
     let t = c.take_messages_into-taken in
     record {
-      taken = host_done c.args.self _ (record { endpoint = t.result.endpoint; answer = t.result.answer }) _ (refl, refl) t.ensures.taken;
+      taken = host_done c.args.self _ (record { endpoint = t.result.endpoint; answer = answer_in t.result.answer }) _ (refl, refl) t.ensures.taken;
       count = t.ensures.count;
       lent = t.ensures.lent;
     }

@@ -9,14 +9,10 @@ pub loop-k-preserved : goal.loop-k-preserved
 loop-k-preserved c =
     let a = c.args in
     let l = c.loop-k in
-    let r = c.request_at-request in
-    let i = inputs_of a.self in
-    let s = held_statuses a.statuses in (
-      omega arith,
-      l.invariant.1,
-      l.invariant.2,
-      l.invariant.3,
-      rw length-set l.invariant.4,
-      request_turn a.slots a.players a.frame l.k i s l.requests.frames r.result (omega arith) l.invariant.5 r.ensures.0,
-      count_turn a.slots a.players a.frame l.k i s l.requests.frames r.result (omega arith) l.invariant.6 r.ensures.1,
+    let r = c.request_at in
+    let i = inputs_of a.self.now in
+    let s = held_statuses a.statuses.now in (
+      rw length-set l.invariant.0,
+      request_turn a.slots a.players a.frame l.k i s l.requests.frames.list r.result (omega arith) l.invariant.1 r.ensures.0,
+      count_turn a.slots a.players a.frame l.k i s l.requests.frames.list r.result (omega arith) l.invariant.2 r.ensures.1,
     )

@@ -1,5 +1,5 @@
 -- The invariant: the first k frames are there, each with its count.
-use Rattle.std.proofs.Common.{◌≡◌, ◌+◌, ◌-◌, ◌^◌, ◌≤◌, length, take}
+use Rattle.std.proofs.Common.{◌≡◌, length, take}
 use mathlib.Core.List.{map}
 use Rattle.status.specs.Statuses.{held_statuses}
 use Rattle.spectator.specs.declared.requests.Request.{Request}
@@ -9,9 +9,6 @@ use Rattle.spectator.proofs.inputs.Inputs.requests_from.Given as goal
 
 abbrev pub invariant-loop-k : goal.invariant-loop-k
 invariant-loop-k l =
-    (l.k ≤ l.n) × (l.n ≤ 63) × (l.frame + l.n ≤ 2 ^ 32) × (l.players ≤ 4) × (length l.requests.frames ≡ 63)
-    × (map request_of (take l.k l.requests.frames) ≡ requests_by l.slots l.k l.frame l.players (inputs_of l.self) (held_statuses l.statuses))
-    × (map (λ (q : Request). q.used) (take l.k l.requests.frames) ≡ map length (requests_by l.slots l.k l.frame l.players (inputs_of l.self) (held_statuses l.statuses)))
-
-abbrev pub decreases-loop-k : goal.decreases-loop-k
-decreases-loop-k l = l.n - l.k
+    (length l.requests.frames.list ≡ 63)
+    × (map request_of (take l.k l.requests.frames.list) ≡ requests_by l.slots l.k l.frame l.players (inputs_of l.self) (held_statuses l.statuses))
+    × (map (λ (q : Request). q.inputs.count) (take l.k l.requests.frames.list) ≡ map length (requests_by l.slots l.k l.frame l.players (inputs_of l.self) (held_statuses l.statuses)))

@@ -1,7 +1,9 @@
--- The array below the count is the view's.
-use Rattle.std.proofs.Common.{arith}
-use Rattle.spectator.proofs.Laws.Requests.{frame_at}
+-- A frame that is there, with its count.
+use Rattle.std.proofs.Common.{sym, ◌∙◌}
+use Rattle.spectator.specs.Stores.{request_of}
+use Rattle.spectator.proofs.Laws.Requests.{frame_some}
 use Rattle.spectator.proofs.requests.Requests.frame.Goals as goal
 
-pub returns-then-i-n : goal.returns-then-i-n
-returns-then-i-n c = frame_at c.args.self c.args.i _ c.count-used.result (omega (arith, c.count-n.ensures)) c.count-used.ensures
+pub returns : goal.returns
+unfolding request_of
+returns c = frame_some c.args.self.now c.args.i c.in-Some.field-0 (sym c.get.ensures ∙ c.in-Some.is) c.len.result c.len.ensures

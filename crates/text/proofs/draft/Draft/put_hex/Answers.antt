@@ -2,13 +2,13 @@
 use Rattle.std.proofs.Common.{rules}
 use Rattle.text.specs.Hex.{hex_of}
 use Rattle.text.proofs.HexLaws.{hex_length}
-use Rattle.text.proofs.DraftLaws.{put-done, put_none}
+use Rattle.text.proofs.DraftLaws.{put_done, put_none}
 use Rattle.text.proofs.draft.Draft.put_hex.Goals as goal
 
 pub returns-then-hex : goal.returns-then-hex
 returns-then-hex c =
-    put-done c.args.self (search rules) (hex_of c.args.piece.now) _ c.count-used.ensures _ _ c.hex.ensures _ (rw hex_length) c.if-hex.true
+    put_done c.args.self.text (search rules) (hex_of c.args.piece.now) c.len-n.result (search rules) _ _ c.hex.ensures _ (rw hex_length) c.if-hex.true
 
-pub returns : goal.returns
-returns c =
-    put_none c.args.self (search rules) (hex_of c.args.piece.now) _ c.count-used.ensures _ _ c.hex.ensures c.if-hex.false
+pub returns-else-hex : goal.returns-else-hex
+returns-else-hex c =
+    put_none c.args.self.text (search rules) (hex_of c.args.piece.now) c.len-n.result (search rules) _ _ c.hex.ensures c.if-hex.false

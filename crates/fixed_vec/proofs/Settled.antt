@@ -1,0 +1,27 @@
+-- Two answers that a contract allows are equal, by name for each public function: lists up to what their array holds past the count.
+use Rattle.std.proofs.Common.{◌≡◌, List, [], ℕ, Bool, length, slice_get, Option, Result, sym, ◌∙◌}
+use Rattle.base.proofs.Settled.{settled}
+use Rattle.fixed_vec.specs.declared.FixedVec.{FixedVec}
+use Rattle.fixed_vec.specs.FixedVec.{held, PushedAs, ExtendedAs}
+
+module _ {T : Type 0} {N : ℕ} where
+  pub new_settled : (r s : FixedVec T N) → held r ≡ [] → held s ≡ [] → held r ≡ held s
+  new_settled = settled held []
+
+  module _ (v : FixedVec T N) where
+    pub len_settled : (r s : ℕ) → r ≡ length (held v) → s ≡ length (held v) → r ≡ s
+    len_settled = settled (λ r. r) (length (held v))
+
+    pub as_slice_settled : (r s : List T) → r ≡ held v → s ≡ held v → r ≡ s
+    as_slice_settled = settled (λ r. r) (held v)
+
+    pub get_settled : (at : ℕ) (r s : Option T) → r ≡ slice_get (held v) at → s ≡ slice_get (held v) at → r ≡ s
+    get_settled at = settled (λ r. r) (slice_get (held v) at)
+
+    -- the answer and the list
+    pub extend_from_slice_settled : (more : List T) (r s : Bool) (new new' : FixedVec T N) → ExtendedAs N v more r new → ExtendedAs N v more s new' → (r ≡ s) × (held new ≡ held new')
+    extend_from_slice_settled more r s new new' p q = (p.0 ∙ sym q.0, p.1 ∙ sym q.1)
+
+    -- the answer and the list
+    pub push_settled : (x : T) (r s : Result Unit T) (new new' : FixedVec T N) → PushedAs N v x r new → PushedAs N v x s new' → (r ≡ s) × (held new ≡ held new')
+    push_settled x r s new new' p q = (p.0 ∙ sym q.0, p.1 ∙ sym q.1)

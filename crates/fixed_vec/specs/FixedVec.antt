@@ -1,0 +1,21 @@
+-- What a list of fixed capacity holds, and what its calls do to that.
+use Rattle.std.specs.Prelude.{◌≡◌, [], ◌∷◌, ◌++◌, ◌+◌, List, Bool, ℕ, length, take, leb, ltb, Result, Ok, Err}
+use Rattle.base.specs.Pick.{pick}
+use Rattle.fixed_vec.specs.declared.FixedVec.{FixedVec}
+
+module _ {T : Type 0} {N : ℕ} where
+  -- those held, first to last; a count beyond the array is the array's length
+  unfoldable pub held : FixedVec T N → List T
+  held v = take v.count v.list
+
+  -- some more at the end, where there is room for all of them; the count becomes that of those held
+  abbrev pub ExtendedAs : ℕ → FixedVec T N → List T → Bool → FixedVec T N → Type 0
+  ExtendedAs n v more ok new = (ok ≡ leb (length (held v) + length more) n)
+      × (held new ≡ pick (leb (length (held v) + length more) n) (held v ++ more) (held v))
+      × (new.count ≡ length (held new))
+
+  -- one more at the end, where there is room; else the very list, and the element is given back
+  abbrev pub PushedAs : ℕ → FixedVec T N → T → Result Unit T → FixedVec T N → Type 0
+  PushedAs n v x r new = (r ≡ pick (ltb (length (held v)) n) (Ok tt) (Err x))
+      × (held new ≡ pick (ltb (length (held v)) n) (held v ++ x ∷ []) (held v))
+      × (r ≡ Err x → new ≡ v)

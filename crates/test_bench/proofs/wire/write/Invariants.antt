@@ -1,9 +1,0 @@
--- `write` ends after its repetitions; its buffer keeps its length.
-use Rattle.std.proofs.Common.{length, ◌-◌, ◌≡◌}
-use Rattle.test_bench.proofs.wire.write.Given as goal
-
-abbrev pub invariant-loop-i : goal.invariant-loop-i
-invariant-loop-i l = 128 ≡ length l.out
-
-abbrev pub decreases-loop-i : goal.decreases-loop-i
-decreases-loop-i l = l.count - l.i

@@ -1,6 +1,0 @@
--- `put_events` goes through the events once.
-use Rattle.std.proofs.Common.{◌-◌}
-use Rattle.test_replay.proofs.snapshot.put_events.Given as goal
-
-abbrev pub decreases-loop-i : goal.decreases-loop-i
-decreases-loop-i l = l.n - l.i
