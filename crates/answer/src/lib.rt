@@ -29,6 +29,7 @@ pub enum Refusal {
 pub type Answer = Result<(), Refusal>;
 
 // 0 for done, else the refusal's number.
+// A function and no `From`: docs/API.md names it.
 pub fn number_of(answer: Answer) -> u32
     ensures { result ≡ number_of answer }
 {
@@ -39,7 +40,7 @@ pub fn number_of(answer: Answer) -> u32
 }
 
 impl Refusal {
-    // The number of N-1 to N-17.
+    // The number of N-1 to N-17. A method and no `From`: docs/API.md names it.
     pub fn number(self) -> u32
         ensures { result ≡ refusal_number self }
     {

@@ -8,4 +8,5 @@ pub mod Largest
 pub mod Examples
 pub mod Lines
 pub mod Report
+pub mod Chains
 pub mod Settled

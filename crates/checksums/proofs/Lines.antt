@@ -7,11 +7,11 @@ use native.Mathlib.Omega.{arith}
 use lib.Dec.{leb}
 use lib.ListN.{length}
 use Rattle.base.specs.Pick.{pick}
-use Rattle.base.specs.Keyed.{has, put}
+use Rattle.base.specs.Keyed.{put}
 use Rattle.checksums.specs.declared.Checksum.{Checksum}
 use Rattle.checksums.specs.Checksums.{checksum_frame, kept_from, cleaned, keep_line, overflows, others_full, full_after, with_report}
-use Rattle.checksums.specs.Firm.{smallest, firm_line}
-use Rattle.checksums.specs.Report.{overflows_by, full_by, reported_by}
+use Rattle.checksums.specs.Firm.{smallest}
+use Rattle.checksums.specs.Report.{overflows_by, full_by, reported_by, line_by}
 use Rattle.checksums.proofs.Firm.{by_firm, keeps_all, firm_below, firm_kept, firm_room}
 
 -- the clean-up of the crate's rule is by the line alone, whatever the count
@@ -25,18 +25,6 @@ cleaned_line frame interval l =
 line_le : (count frame interval : ℕ) → keep_line count frame interval ≤ frame
 unfolding keep_line
 line_le count frame interval = elim (leb 32 count) as (λ b. pick b (frame - 31 * interval) 0 ≤ frame) [ true ↦ omega arith | false ↦ omega arith ]
-
-abbrev pub line_by : (firm : Bool) → (frame interval : ℕ) → List Checksum → ℕ
-line_by firm frame interval l = pick firm (firm_line (length l) (has checksum_frame frame l) (smallest l)) (keep_line (length l) frame interval)
-
--- what the code has computed is this line
-module _ (firm : Bool) (frame interval : ℕ) (l : List Checksum) (n : ℕ) (all : n ≡ length l) where
-  pub firm_line_is : (held : Bool) (m : ℕ) → firm ≡ true → held ≡ has checksum_frame frame l → firm_line (length l) held m ≡ firm_line (length l) held (smallest l)
-      → firm_line n held m ≡ line_by firm frame interval l
-  firm_line_is held m f h e = rw (all, f, e, h)
-
-  pub keep_line_is : firm ≡ false → keep_line n frame interval ≡ line_by firm frame interval l
-  keep_line_is f = rw (all, f)
 
 -- 6: nothing else
 pub early : (firm : Bool) (c : Checksum) (interval : ℕ) (l : List Checksum) → overflows_by firm c.frame interval l ≡ true

@@ -4,11 +4,11 @@ use mathlib.Core.List.{[]}
 use mathlib.Core.Path.{◌≡◌, sym, ◌∙◌}
 use Prim.Native.Nat.{ℕ}
 use lib.ListN.{length, get_or}
+use Rattle.std.proofs.Common.{Option}
+use Rattle.answer.specs.Number.{Answered}
 use Rattle.base.proofs.Settled.{settled}
 use Rattle.checksums.specs.declared.Checksum.{Checksum}
 use Rattle.checksums.specs.declared.Checksums.{Checksums}
-use Rattle.checksums.specs.declared.Found.{Found}
-use Rattle.checksums.specs.declared.Reported.{Reported}
 use Rattle.checksums.specs.Checksums.{stored, blank_checksum, FoundAs}
 use Rattle.checksums.specs.Report.{ReportedAs}
 
@@ -22,9 +22,9 @@ module _ (c : Checksums) where
   pub entry_settled : (i : ℕ) (r s : Checksum) → r ≡ get_or (stored c) i blank_checksum → s ≡ get_or (stored c) i blank_checksum → r ≡ s
   entry_settled i = settled (λ r. r) (get_or (stored c) i blank_checksum)
 
-  pub find_settled : (frame : ℕ) (r s : Found) → FoundAs c frame r → FoundAs c frame s → (r.found ≡ s.found) × (r.checksum ≡ s.checksum)
-  find_settled frame r s a b = (a.found ∙ sym b.found, a.checksum ∙ sym b.checksum)
+  pub find_settled : (frame : ℕ) (r s : Option Checksum) → FoundAs c frame r → FoundAs c frame s → r ≡ s
+  find_settled frame r s a b = a ∙ sym b
 
-  pub report_settled : (x : Checksum) (interval : ℕ) (firm : Bool) (r s : Reported) → ReportedAs c x interval firm r → ReportedAs c x interval firm s
-      → (r.overflow ≡ s.overflow) × (r.full ≡ s.full) × (stored r.checksums ≡ stored s.checksums)
-  report_settled x interval firm r s a b = (a.overflow ∙ sym b.overflow, a.full ∙ sym b.full, a.view ∙ sym b.view)
+  pub report_settled : (x : Checksum) (interval : ℕ) (firm : Bool) (r s : Answered) (new other : Checksums) → ReportedAs c x interval firm r new → ReportedAs c x interval firm s other
+      → (r ≡ s) × (stored new ≡ stored other)
+  report_settled x interval firm r s new other a b = (a.answer ∙ sym b.answer, a.view ∙ sym b.view)

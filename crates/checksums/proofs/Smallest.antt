@@ -1,22 +1,23 @@
 -- Laws of the smallest frame stored: it is stored, none is smaller, and a loop over the view finds it. Without it fewer are stored.
-use borrow.Author.Tests.{eqb-true, eq-eqb, lt-leb, lt-ltb}
-use mathlib.Core.Bool.{Bool, true, false, true≢false, false≢true, ◌||◌, or-true, or-false}
-use mathlib.Core.List.{List, [], ◌∷◌}
+use borrow.Author.Tests.{eqb-true, eq-eqb, lt-leb}
+use mathlib.Core.Bool.{Bool, true, false, true≢false, false≢true}
+use mathlib.Core.List.{List, [], ◌∷◌, map}
 use mathlib.Core.Logic.{⊎_elim}
 use mathlib.Core.Path.{◌≡◌, refl, sym, ◌∙◌, ap, subst}
-use Prim.Native.Nat.{ℕ, suc, ◌+◌, ◌≤◌, ◌<◌, min}
+use Prim.Native.Nat.{ℕ, zero, suc, ◌≤◌, ◌<◌, min}
 use native.Mathlib.Omega.{arith}
 use lib.Dec.{eqb, leb}
-use lib.ListN.{length, take, drop, get_or, drop_of_length-le}
+use lib.ListN.{length, get_or, length-map}
+use Rattle.std.specs.List.{Contains, All}
+use Rattle.std.proofs.Common.{Option, Some, None, IfSome, IsNone, unwrap_or}
 use Rattle.base.specs.Pick.{pick}
 use Rattle.base.specs.Keyed.{kept, has}
 use Rattle.base.proofs.Digits.{below_or_not}
-use Rattle.base.proofs.Arrays.{view_at}
-use Rattle.base.proofs.Kept.{kept_whole, view_cons}
+use Rattle.base.proofs.Kept.{kept_whole}
 use Rattle.base.proofs.Removal.{kept_by_key}
 use Rattle.checksums.specs.declared.Checksum.{Checksum}
 use Rattle.checksums.specs.Checksums.{checksum_frame, kept_from}
-use Rattle.checksums.specs.Firm.{smallest, firm_line}
+use Rattle.checksums.specs.Firm.{smallest}
 
 -- none is smaller
 pub smallest-le : (k : ℕ) (l : List Checksum) → has checksum_frame k l ≡ true → smallest l ≤ k
@@ -63,50 +64,32 @@ above_fewer l h =
     absurd (true≢false (sym (smallest-has l h) ∙ ap (has checksum_frame (smallest l)) (sym (kept_whole p l b)) ∙ gone)))
     (below_or_not (length (kept p l)) (length l))
 
--- ---- a loop that takes the smaller of what it has and the next
-abbrev pub smallest_from : ℕ → List Checksum → ℕ
-smallest_from m [] = m
-smallest_from m (x ∷ l) = smallest_from (min m x.frame) l
+-- ---- for the code, which asks a chain for the least of the frames
 
-from_is : (m : ℕ) (x : Checksum) (l : List Checksum) → smallest_from m (x ∷ l) ≡ min m (smallest (x ∷ l))
+-- what is not above any of the frames is not above the smallest
+below_all : (l : List Checksum) (m : ℕ) → 1 ≤ length l → ((k d : ℕ) → k < length (map checksum_frame l) → m ≤ get_or (map checksum_frame l) k d) → m ≤ smallest l
 unfolding smallest
-from_is m x [] = refl
-from_is m x (y ∷ l) = from_is (min m x.frame) y l ∙ omega arith
+below_all [] m h f = absurd (omega arith)
+below_all (x ∷ []) m h f = f 0 0 (omega arith)
+below_all (x ∷ y ∷ l) m h f = omega (arith, f 0 0 (omega arith), below_all (y ∷ l) m (omega arith) (λ k d b. f (suc k) d (omega arith)))
 
--- its turn, and the same of whether a frame was met; then its end
-module _ (u : ℕ) (L : List Checksum) (frame j : ℕ) (d : Checksum) where
-  module _ (h : j < length (take u L)) where
-    pub smaller_turn : (m : ℕ) → smallest_from (min m (get_or L j d).frame) (drop (j + 1) (take u L)) ≡ smallest_from m (drop j (take u L))
-    smaller_turn m = rw (view_cons u L j d h)
+-- and the smallest is not above any
+above_smallest : (l : List Checksum) (k d : ℕ) → k < length (map checksum_frame l) → smallest l ≤ get_or (map checksum_frame l) k d
+unfolding smallest
+above_smallest [] k d h = absurd (omega arith)
+above_smallest (x ∷ []) zero d h = omega arith
+above_smallest (x ∷ []) (suc k) d h = absurd (omega arith)
+above_smallest (x ∷ y ∷ l) zero d h = omega arith
+above_smallest (x ∷ y ∷ l) (suc k) d h = let e = above_smallest (y ∷ l) k d (omega arith) in omega arith
 
-    pub met_turn : (met : Bool) → ((met || eqb frame (get_or L j d).frame) || has checksum_frame frame (drop (j + 1) (take u L))) ≡ (met || has checksum_frame frame (drop j (take u L)))
-    unfolding has
-    met_turn met =
-        rw (view_cons u L j d h)
-        (elim met as (λ b. ((b || eqb frame (get_or L j d).frame) || has checksum_frame frame (drop (j + 1) (take u L))) ≡ (b || pick (eqb frame (get_or L j d).frame) true (has checksum_frame frame (drop (j + 1) (take u L))))) [
-          | true ↦ refl
-          | false ↦ elim (eqb frame (get_or L j d).frame) as (λ b. (b || has checksum_frame frame (drop (j + 1) (take u L))) ≡ pick b true (has checksum_frame frame (drop (j + 1) (take u L)))) [ true ↦ refl | false ↦ refl ]
-        ])
+smallest_is : (l : List Checksum) (m : ℕ) → Contains (map checksum_frame l) m → All (λ k. m ≤ k) (map checksum_frame l) → m ≡ smallest l
+smallest_is l m c all =
+    let some : 1 ≤ length l = omega (arith, c.1, length-map l checksum_frame) in
+    omega (arith, below_all l m some all, above_smallest l c.0 m c.1, c.2)
 
-  module _ (h : length (take u L) ≤ j) where
-    pub smaller_end : (m : ℕ) → smallest_from m (drop j (take u L)) ≡ m
-    smaller_end m = rw (drop_of_length-le (take u L) h)
-
-    pub met_end : (met : Bool) → (met || has checksum_frame frame (drop j (take u L))) ≡ met
-    unfolding has
-    met_end met = rw (drop_of_length-le (take u L) h) (or-false met)
-
--- begun with the first of an array, it ends with the smallest of a view that is not empty
-smallest_found : (l : List Checksum) (d : Checksum) → 1 ≤ length l → smallest_from (get_or l 0 d).frame l ≡ smallest l
-unfolding has
-smallest_found [] d h = absurd (omega arith)
-smallest_found (x ∷ l) d h = from_is x.frame x l ∙ omega (arith, smallest-le x.frame (x ∷ l) (rw (eq-eqb x.frame x.frame refl)))
-
--- what the loop has found gives the line, also where nothing is stored
-pub found_line : (u : ℕ) (L : List Checksum) (d : Checksum) (held : Bool) (m : ℕ) → m ≡ smallest_from (get_or L 0 d).frame (take u L)
-    → firm_line (length (take u L)) held m ≡ firm_line (length (take u L)) held (smallest (take u L))
-unfolding firm_line
-found_line u L d held m e = ⊎_elim
-    (λ h. rw (lt-ltb (length (take u L)) 32 (omega arith), or-true held))
-    (λ h. rw (e ∙ ap (λ (x : Checksum). smallest_from x.frame (take u L)) (sym (view_at u L 0 d (omega arith))) ∙ smallest_found (take u L) d h))
-    (below_or_not (length (take u L)) 1)
+pub smallest_or : (l : List Checksum) (o : Option ℕ) (r : ℕ) → r ≡ unwrap_or o 0 → (IsNone o → map checksum_frame l ≡ []) → IfSome o (Contains (map checksum_frame l))
+    → IfSome o (λ m. All (λ k. m ≤ k) (map checksum_frame l)) → r ≡ smallest l
+unfolding smallest
+smallest_or [] None r e none some least = e
+smallest_or (x ∷ l) None r e none some least = absurd (omega (arith, ap length (none refl)))
+smallest_or l (Some m) r e none some least = e ∙ smallest_is l m some least

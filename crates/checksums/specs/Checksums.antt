@@ -1,15 +1,15 @@
 -- The checksums reported, and what one more report does to them by the crate's rule (E-35 to E-38; the crate's `on_checksum_report`).
-use Rattle.std.specs.Prelude.{Bool, true, false, List, [], ◌∷◌, ◌≡◌, refl, ℕ, ◌-◌, ◌*◌, leb, ltb, length, take}
+use Rattle.std.specs.Prelude.{Bool, true, false, List, [], ◌∷◌, ◌≡◌, refl, ℕ, ◌-◌, ◌*◌, leb, ltb, length, Option, Some, None}
 use Rattle.base.specs.Pick.{pick}
 use Rattle.ceilings.specs.Ceilings.{most_checksums, clean_checksums}
 use Rattle.base.specs.Keyed.{kept, has, first_with, put}
 use Rattle.checksums.specs.declared.Checksum.{Checksum}
 use Rattle.checksums.specs.declared.Checksums.{Checksums}
-use Rattle.checksums.specs.declared.Found.{Found}
+use Rattle.fixed_vec.specs.FixedVec.{held}
 
 -- the checksums stored: a frame keeps its place while it is stored, a new one comes last; a count beyond the array is the array's length
 unfoldable pub stored : Checksums → List Checksum
-stored s = take s.used s.entries
+stored s = held s.entries
 
 abbrev pub checksum_frame : Checksum → ℕ
 checksum_frame c = c.frame
@@ -41,9 +41,9 @@ overflows frame interval l = too_early (length l) frame interval
 unfoldable pub others_full : ℕ → List Checksum → Bool
 others_full frame l = pick (has checksum_frame frame l) false (leb most_checksums (length l))
 
-pub record FoundAs (s : Checksums) (frame : ℕ) (r : Found) : Type 0 where
-  pub found : r.found ≡ has checksum_frame frame (stored s)
-  pub checksum : r.checksum ≡ first_with checksum_frame frame blank_checksum (stored s)
+-- the first of a frame, where one is stored
+abbrev pub FoundAs : Checksums → (frame : ℕ) → Option Checksum → Type 0
+FoundAs s frame r = r ≡ pick (has checksum_frame frame (stored s)) (Some (first_with checksum_frame frame blank_checksum (stored s))) None
 
 -- 6 before 5; done, the checksum is put into what the clean-up leaves
 unfoldable pub full_after : (frame interval : ℕ) → List Checksum → Bool

@@ -2,58 +2,57 @@
 // frames. A checksum's 128 bits are two halves.
 #![tactic(auto)]
 
-ghost use Rattle.std.specs.Prelude.{◌≡◌, [], ◌-◌, ◌*◌, length, get_or};
-ghost use Rattle.base.specs.Keyed.{place};
-ghost use Rattle.checksums.specs.Checksums.{stored, checksum_frame, keep_line, too_early, blank_checksum, FoundAs};
-ghost use Rattle.checksums.specs.Firm.{firm_line};
-ghost use Rattle.checksums.specs.Report.{ReportedAs};
+ghost use Rattle.std.specs.Prelude.{◌≡◌, [], ◌≤◌, ◌==◌, false, leb, length, find, position, get_or};
+ghost use Rattle.ceilings.specs.Ceilings.{most_checksums};
+ghost use Rattle.base.specs.Keyed.{put};
+ghost use Rattle.checksums.specs.Checksums.{stored, checksum_frame, kept_from, keep_line, too_early, others_full, blank_checksum, FoundAs};
+ghost use Rattle.checksums.specs.Firm.{smallest, firm_line};
+ghost use Rattle.checksums.specs.Report.{line_by, ReportedAs};
 
+use answer::{Answer, Refusal};
 use ceilings::{CLEAN_CHECKSUMS, MOST_CHECKSUMS, MOST_FIRM_CHECKSUMS};
+use fixed_vec::{FixedVec, Test};
 
-#[derive(Clone, Copy)]
+#[derive(Clone, Copy, Debug, PartialEq, Eq)]
 pub struct Checksum {
     pub frame: u32,
     pub low: u64,
     pub high: u64,
 }
 
+// What stands for no checksum.
+const BLANK: Checksum = Checksum {
+    frame: 0,
+    low: 0,
+    high: 0,
+};
+
 #[derive(Clone, Copy)]
 pub struct Checksums {
-    pub entries: [Checksum; MOST_CHECKSUMS],
-    pub used: usize,
+    pub entries: FixedVec<Checksum, MOST_CHECKSUMS>,
 }
 
+// The test of a line: a checksum of its frame or a later one passes.
 #[derive(Clone, Copy)]
-pub struct Found {
-    pub found: bool,
-    pub checksum: Checksum,
+struct FromLine {
+    line: u64,
 }
 
-// Done where neither flag is set. The store stands first in what a call gives back: a flag in front of it would make padding, and then the compiler
-// copies the store once more.
-#[derive(Clone, Copy)]
-pub struct Reported {
-    pub checksums: Checksums,
-    pub overflow: bool,
-    pub full: bool,
+impl Test<Checksum> for FromLine {
+    ghost passes = { λ t x. leb t.line x.frame };
+
+    fn passes(&self, x: &Checksum) -> bool {
+        self.line <= u64::from(x.frame)
+    }
 }
 
-// The oldest frame to keep, 31 intervals before the arriving one, or the least frame. In u64 no interval overflows.
-fn oldest(frame: u32, interval: u32) -> u64
-    ensures { result ≡ frame - 31 * interval }
-{
-    numbers::minus(frame as u64, 31 * (interval as u64))
-}
-
-// The oldest frame to keep would lie below all frames: tested only where the clean-up needs it.
+// The oldest frame to keep, 31 intervals before the arriving one, would lie below all frames: tested only where the clean-up needs it. In u64 no interval
+// overflows.
 #[tactic(auto, unfolding(crate::specs::Checksums::too_early))]
 fn too_early(count: usize, frame: u32, interval: u32) -> bool
     ensures { result ≡ too_early count frame interval }
 {
-    if count < CLEAN_CHECKSUMS {
-        return false;
-    }
-    (frame as u64) < 31 * (interval as u64)
+    CLEAN_CHECKSUMS <= count && u64::from(frame) < 31 * u64::from(interval)
 }
 
 // The clean-up keeps from this frame on: with fewer than 32 stored, from the least, so all.
@@ -62,7 +61,7 @@ fn keep_line(count: usize, frame: u32, interval: u32) -> u64
     ensures { result ≡ keep_line count frame interval }
 {
     if CLEAN_CHECKSUMS <= count {
-        oldest(frame, interval)
+        u64::from(frame).saturating_sub(31 * u64::from(interval))
     } else {
         0
     }
@@ -77,7 +76,21 @@ fn firm_line(count: usize, held: bool, smallest: u32) -> u64
     if held | (count < MOST_FIRM_CHECKSUMS) {
         return 0;
     }
-    (smallest as u64) + 1
+    u64::from(smallest) + 1
+}
+
+// The first of a frame. A function of its own, as is the next: a chain is proved over a slice that is an argument.
+fn first(stored: &[Checksum], frame: u32) -> Option<Checksum>
+    ensures { result ≡ find (λ c. frame == c.frame) stored.now }
+{
+    stored.iter().copied().find(|x| frame == x.frame)
+}
+
+// The first place of a frame.
+fn first_place(stored: &[Checksum], frame: u32) -> Option<usize>
+    ensures { result ≡ position (λ c. frame == c.frame) stored.now }
+{
+    stored.iter().position(|x| frame == x.frame)
 }
 
 impl Checksums {
@@ -86,132 +99,115 @@ impl Checksums {
         ensures { stored result ≡ [] }
     {
         Checksums {
-            entries: [Checksum {
-                frame: 0,
-                low: 0,
-                high: 0,
-            }; MOST_CHECKSUMS],
-            used: 0,
+            entries: FixedVec::new(BLANK),
         }
     }
 
-    #[tactic(auto, using(base::proofs::Arrays::unmap), unfolding(crate::specs::Checksums::stored))]
-    pub fn count(self) -> usize
-        ensures { result ≡ length (stored self) }
+    #[tactic(auto, unfolding(crate::specs::Checksums::stored))]
+    pub fn count(&self) -> usize
+        ensures value { result ≡ length (stored self.now) }
+        ensures fits { result ≤ most_checksums }
     {
-        numbers::least(self.used, MOST_CHECKSUMS)
+        self.entries.len()
     }
 
     // The i-th, or zeros.
-    #[tactic(auto, using(base::proofs::Arrays::unmap, base::proofs::Arrays::view_at, base::proofs::Arrays::view_le), unfolding(crate::specs::Checksums::stored))]
-    pub fn entry(self, i: usize) -> Checksum
-        ensures { result ≡ get_or (stored self) i blank_checksum }
+    pub fn entry(&self, i: usize) -> Checksum
+        ensures { result ≡ get_or (stored self.now) i blank_checksum }
     {
-        let n = self.count();
-        if i < n {
-            return self.entries[i];
-        }
-        Checksum {
-            frame: 0,
-            low: 0,
-            high: 0,
+        self.entries.get(i).unwrap_or(BLANK)
+    }
+
+    // The checksum of a frame.
+    #[tactic(auto, using(crate::proofs::Chains::find_is), unfolding(crate::specs::Checksums::stored))]
+    pub fn find(&self, frame: u32) -> Option<Checksum>
+        ensures { FoundAs self.now frame result }
+    {
+        first(self.entries.as_slice(), frame)
+    }
+
+    // The smallest frame stored; of none 0.
+    fn smallest(&self) -> u32
+        ensures { result ≡ smallest (stored self.now) }
+    {
+        self.entries
+            .as_slice()
+            .iter()
+            .map(|x| x.frame)
+            .min()
+            .unwrap_or(0)
+    }
+
+    // The line of a report: those stored stay from this frame on, and the report's is not stored below it.
+    fn line(&self, frame: u32, interval: u32, firm: bool) -> u64
+        ensures { result ≡ line_by firm frame interval (stored self.now) }
+    {
+        if firm {
+            firm_line(self.count(), self.find(frame).is_some(), self.smallest())
+        } else {
+            keep_line(self.count(), frame, interval)
         }
     }
 
-    // The first place of a frame, or the count.
-    #[tactic(auto, using(base::proofs::Removal::place_end, base::proofs::Removal::place_here, base::proofs::Removal::place_later, base::proofs::Arrays::unmap, base::proofs::Arrays::view_le), unfolding(crate::specs::Checksums::stored))]
-    fn place(self, frame: u32) -> usize
-        ensures { result ≡ place checksum_frame frame (stored self) }
+    // How many are from a line on.
+    fn count_from(&self, line: u64) -> usize
+        ensures { result ≡ length (kept_from line (stored self.now)) }
     {
-        let n = self.count();
-        let mut i = 0;
-        while i < n {
-            let x = self.entries[i];
-            if frame == x.frame {
-                return i;
-            }
-            i += 1;
-        }
-        i
+        self.entries
+            .as_slice()
+            .iter()
+            .filter(|x| line <= u64::from(x.frame))
+            .count()
     }
 
-    pub fn find(self, frame: u32) -> Found
-        ensures { FoundAs self frame result }
+    // Whether 64 others stay, of a line that is not above the frame.
+    #[tactic(auto, using(crate::proofs::Chains::full_is))]
+    fn is_full(&self, frame: u32, line: u64) -> bool
+        requires { line ≤ frame }
+        ensures { result ≡ others_full frame (kept_from line (stored self.now)) }
     {
-        let n = self.count();
-        let i = self.place(frame);
-        let checksum = self.entry(i);
-        Found {
-            found: i < n,
-            checksum,
+        self.find(frame).is_none() && MOST_CHECKSUMS <= self.count_from(line)
+    }
+
+    // Those from a line on stay, in their order.
+    #[tactic(auto, unfolding(crate::specs::Checksums::stored))]
+    fn keep_from(&mut self, line: u64)
+        ensures { stored self.new ≡ kept_from line (stored self.old) }
+    {
+        self.entries.retain(&FromLine { line })
+    }
+
+    // A checksum at its frame's place, or at the end, where there is room.
+    fn put(&mut self, checksum: Checksum)
+        requires { others_full checksum.frame (stored self.old) ≡ false }
+        ensures { stored self.new ≡ put checksum_frame checksum (stored self.old) }
+    {
+        match first_place(self.entries.as_slice(), checksum.frame) {
+            Some(at) => self.entries.set(at, checksum),
+            None => self.entries.push(checksum).unwrap(),
         }
     }
 
     // A report, as the crate takes it: the clean-up where 32 or more are stored, then the checksum put at its frame's place or at the end. In firm mode the
-    // smallest of 32 or more is dropped for a larger frame that is not stored yet, and a frame smaller than all of them is not stored. Refused, it gives
-    // the store back. All is done in `self`: a function that took the store to search it or to clean it up would be given a copy.
-    pub fn report(mut self, frame: u32, low: u64, high: u64, interval: u32, firm: bool) -> Reported
-        ensures { ReportedAs self (record { frame = frame; low = low; high = high }) interval firm result }
+    // smallest of 32 or more is dropped for a larger frame that is not stored yet, and a frame smaller than all of them is not stored. Refused, it leaves
+    // the store as it was.
+    pub fn report(&mut self, checksum: Checksum, interval: u32, firm: bool) -> Answer
+        ensures { ReportedAs self.old checksum interval firm result self.new }
     {
-        let n = self.count();
-        if !firm & too_early(n, frame, interval) {
-            return Reported {
-                checksums: self,
-                overflow: true,
-                full: false,
-            };
+        let frame = checksum.frame;
+        if !firm & too_early(self.count(), frame, interval) {
+            return Err(Refusal::Overflow);
         }
-        // Only firm mode asks for the smallest frame, and whether this one is stored. Of an empty store `smallest` is no stored frame's; with fewer than 32
-        // it is not asked for.
-        let searched = numbers::count_if(firm, n);
-        let first = self.entries[0];
-        let mut smallest = first.frame;
-        let mut held = false;
-        let mut j = 0;
-        while j < searched {
-            let x = self.entries[j];
-            smallest = numbers::least_u32(smallest, x.frame);
-            held = held | (frame == x.frame);
-            j += 1;
+        // The line is above the frame in firm mode alone: where the frame is not stored, and is smaller than all that are. Then nothing changes.
+        let line = self.line(frame, interval, firm);
+        if u64::from(frame) < line {
+            return Ok(());
         }
-        let line = if firm {
-            firm_line(n, held, smallest)
-        } else {
-            keep_line(n, frame, interval)
-        };
-        // The line is above the frame in firm mode alone: where the frame is not stored, and is smaller than all that are. Then nothing changes. (A `return`
-        // there would make a program that merges the call into its own function copy the endpoint once more.)
-        if line <= (frame as u64) {
-            // Each that stays is written behind those that stayed before it. `at` is the first place of the frame among them, or their count.
-            let mut kept = 0;
-            let mut at = 0;
-            let mut i = 0;
-            while i < n {
-                let x = self.entries[i];
-                if line <= (x.frame as u64) {
-                    self.entries[kept] = x;
-                    if at == kept && frame != x.frame {
-                        at += 1;
-                    }
-                    kept += 1;
-                }
-                i += 1;
-            }
-            // Without room all 64 stayed: each was written where it stood, so the store is as it was.
-            if MOST_CHECKSUMS <= at {
-                return Reported {
-                    checksums: self,
-                    overflow: false,
-                    full: true,
-                };
-            }
-            self.entries[at] = Checksum { frame, low, high };
-            self.used = if at < kept { kept } else { at + 1 };
+        if self.is_full(frame, line) {
+            return Err(Refusal::Full);
         }
-        Reported {
-            checksums: self,
-            overflow: false,
-            full: false,
-        }
+        self.keep_from(line);
+        self.put(checksum);
+        Ok(())
     }
 }

@@ -16,7 +16,6 @@ pub mod Back
 pub mod Laws
 pub mod Left
 pub mod Queue
-pub mod Cut
 pub mod Settled
 pub mod Examples
 pub mod Bouts

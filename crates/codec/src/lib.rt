@@ -14,7 +14,7 @@ use fixed_vec::FixedVec;
 pub use reader::{message_end, no_reports, payload_of, read};
 pub use writer::{size_of, write, write_head};
 
-// Fixed sizes by kind. An Input adds STATUS_SIZE per status and 1 per payload byte.
+// Fixed sizes by kind, one table (F-4). An Input adds STATUS_SIZE per status and 1 per payload byte.
 pub const FIXED_SIZES: [usize; 8] = [10, 10, 31, 10, 24, 22, 26, 6];
 
 pub const STATUS_SIZE: usize = 5;
@@ -95,6 +95,7 @@ pub struct Message {
 }
 
 // The number of a body's kind, which stands before it on the wire.
+// A function and no `From`: docs/LEAVES.md names it.
 #[tactic(auto, unfolding(crate::specs::Message::kind_of))]
 pub fn kind_of(body: MessageBody) -> u32
     ensures { result ≡ kind_of body }

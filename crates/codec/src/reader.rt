@@ -71,6 +71,7 @@ fn whole(d: &[u8]) -> Result<Front, Refusal>
     Ok(front)
 }
 
+// By the number of the kind: F-6.
 #[tactic(auto, using(crate::proofs::Takes::bad_kind, crate::proofs::Takes::head_short))]
 fn front_of(d: &[u8]) -> Result<Front, Refusal>
     ensures { FrontAs d.now (message d.now) result }
@@ -107,7 +108,7 @@ fn fixed(d: &[u8], kind: u32) -> Result<Front, Refusal>
     })
 }
 
-// The body of a kind that has no lists, whose bytes are there.
+// The body of a kind that has no lists, whose bytes are there. By the number of the kind: F-6.
 #[tactic(auto, using(crate::proofs::Takes::last_kind), unfolding(crate::specs::Front::body_at))]
 fn body_at(d: &[u8], kind: u32) -> MessageBody
     requires { (fixed_size kind ≤ length d.now) × (kind < 8) × (kind ≡ 2 → ⊥) }

@@ -1,4 +1,5 @@
 // One end of the line: an endpoint, the buffer that it is lent, and what its owner keeps for it. A method makes one call of the endpoint, or shows what one answers.
+// (Some methods read as the host's of demo_watch: a public function of a library states a contract, and what prints has none.)
 use crate::lines;
 use demo_ends::Datagrams;
 use endpoint::{Ended, Endpoint, Event, Statuses};
@@ -131,8 +132,8 @@ impl End {
     pub(crate) fn take_events(&mut self, rt: &impl Print) -> io::Result<()> {
         let taken = self.endpoint.take_events();
         self.endpoint = taken.endpoint;
-        for i in 0..taken.events.count() {
-            if let Event::Input { frame, player } = taken.events.entry(i).event {
+        for entry in taken.events.entries.as_slice() {
+            if let Event::Input { frame, player } = entry.event {
                 self.statuses = self.statuses.merge_report(player as usize, false, frame);
             }
         }

@@ -8,6 +8,7 @@ mod table;
 
 use std::process::ExitCode;
 
+// It reads as in the other demos: a public function of a library states a contract, and what prints has none.
 fn main(rt: HostRuntime) -> ExitCode {
     if exchange::run(&rt).is_ok() {
         return ExitCode::SUCCESS;

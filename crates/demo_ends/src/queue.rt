@@ -13,7 +13,7 @@ impl<'a> Iterator for Datagrams<'a> {
 
     ghost remaining = { item_count (λ s. cut s.0.now) };
 
-    #[tactic(auto, using(codec::proofs::Cut::cut_first, codec::proofs::Cut::cut_empty, codec::proofs::Queue::message_end_inside))]
+    #[tactic(auto, using(codec::proofs::Queue::cut_first, codec::proofs::Queue::cut_empty, codec::proofs::Queue::message_end_inside))]
     fn next(&mut self) -> Option<&'a [u8]> {
         if self.0.is_empty() {
             return None;

@@ -11,6 +11,7 @@ const A: u16 = 65;
 
 const B: u16 = 66;
 
+// It reads as in the other demos: a public function of a library states a contract, and what prints has none.
 fn main(rt: HostRuntime) -> ExitCode {
     if play(&rt).is_ok() {
         return ExitCode::SUCCESS;

@@ -36,9 +36,9 @@ pub(crate) fn host_events(rt: &impl Print, events: Events) -> io::Result<()> {
 }
 
 pub(crate) fn box_events(rt: &impl Print, events: SessionEvents) -> io::Result<()> {
-    for i in 0..events.count() {
+    for entry in events.entries.as_slice() {
         begin(rt)?;
-        match events.entry(i).event {
+        match entry.event {
             SessionEvent::Synchronizing { total, count } => {
                 println!(rt; "Synchronizing {count} of {total}")
             }
@@ -60,19 +60,18 @@ fn begin(rt: &impl Print) -> io::Result<()> {
 // The frames that an advance gives are those after the current one. No frame comes after the last.
 pub(crate) fn frames(rt: &impl Print, current: u32, requests: Requests) -> io::Result<()> {
     let mut frame = current;
-    for i in 0..requests.count() {
+    for request in requests.frames.as_slice() {
         frame = frame.saturating_add(1);
-        inputs(rt, frame, requests.frame(i))?;
+        inputs(rt, frame, request)?;
     }
     Ok(())
 }
 
 // An input is one byte.
-fn inputs(rt: &impl Print, frame: u32, request: Request) -> io::Result<()> {
+fn inputs(rt: &impl Print, frame: u32, request: &Request) -> io::Result<()> {
     begin(rt)?;
     print!(rt; "frame {}:", frame::to_signed(frame))?;
-    for player in 0..request.count() {
-        let synced = request.input(player);
+    for synced in request.inputs.as_slice() {
         print!(rt; " {:02x}", synced.input[0])?;
         if let InputStatus::Disconnected = synced.status {
             print!(rt; " Disconnected")?;

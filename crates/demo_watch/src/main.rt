@@ -10,6 +10,7 @@ mod viewer;
 
 use std::process::ExitCode;
 
+// It reads as in the other demos: a public function of a library states a contract, and what prints has none.
 fn main(rt: HostRuntime) -> ExitCode {
     if show::run(&rt).is_ok() {
         return ExitCode::SUCCESS;

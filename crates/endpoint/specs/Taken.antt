@@ -15,7 +15,7 @@ use Rattle.endpoint.specs.Endpoint.{seen, SameTerms, DoneAs}
 -- the events that were held, with a count that is their number, and the endpoint without them
 pub record TakenAs (e : Endpoint) (r : TakenEvents) : Type 0 where
   pub events : Value.events (held_events r.events) ≡ value_of Call.take_events (seen e)
-  pub count : r.events.used ≡ length (held_events r.events)
+  pub count : r.events.entries.count ≡ length (held_events r.events)
   pub after : seen r.endpoint ≡ (step Call.take_events (seen e)).after
   pub terms : SameTerms e r.endpoint
 

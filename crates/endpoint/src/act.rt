@@ -18,7 +18,7 @@ const SYNC_RETRY_INTERVAL: u64 = 200;
 
 impl Endpoint {
     // What the clocks bring is done, or where it does not all fit, nothing.
-    #[tactic(auto, using(crate::proofs::Laws::Act::Ways::act_clocks, crate::proofs::Laws::Act::Ways::act_count, base::proofs::Arrays::view_le), unfolding(events::specs::Events::held_events))]
+    #[tactic(auto, using(crate::proofs::Laws::Act::Ways::act_clocks, crate::proofs::Laws::Act::Ways::act_count, base::proofs::Arrays::view_le), unfolding(events::specs::Events::held_events, fixed_vec::specs::FixedVec::held))]
     pub fn act(
         mut self,
         statuses: Statuses,
@@ -46,7 +46,7 @@ impl Endpoint {
             Phase::Synchronizing => {
                 if timers::passed(self.clocks.last_sync_request_time, SYNC_RETRY_INTERVAL, now) {
                     match self.request(now, nonce, out) {
-                        Ok(()) => self.nonces = self.nonces.issue(nonce),
+                        Ok(()) => self.nonces.issue(nonce),
                         Err(refusal) => {
                             return Ended {
                                 endpoint: self,
@@ -56,7 +56,7 @@ impl Endpoint {
                     }
                 }
             }
-            // All that is due fits, or nothing is done. A store that nothing is added to or packed from is left alone: to pass it is to copy it.
+            // All that is due fits, or nothing is done.
             Phase::Running => {
                 let timeout = self.setup.disconnect_timeout;
                 let notify_start = self.setup.disconnect_notify_start;
@@ -71,7 +71,7 @@ impl Endpoint {
                 }
                 if due::sends(due) {
                     let width = self.setup.sending_width();
-                    let size = batch::size(due, statuses, self.pending, width);
+                    let size = batch::size(due, statuses, &self.pending, width);
                     if room::buffer_full(out.len(), self.queued, size) {
                         return Ended {
                             endpoint: self,
@@ -85,7 +85,7 @@ impl Endpoint {
                             self.setup.magic,
                             self.history.newest(),
                             statuses,
-                            self.pending,
+                            &self.pending,
                             width,
                             self.acked,
                         )
@@ -100,9 +100,8 @@ impl Endpoint {
                         epoch,
                     );
                 }
-                if 0 < announced {
-                    self.events = due::announce(self.events, due, timeout, notify_start).events;
-                }
+                // There is room for all of them, as was asked above.
+                let _ = due::announce(&mut self.events, due, timeout, notify_start);
                 self.clocks = due::clocks_after(due, now, self.clocks);
                 self.flags = due::flags_after(due, self.flags);
             }

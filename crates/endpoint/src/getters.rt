@@ -10,6 +10,7 @@ use crate::Endpoint;
 use answer::Refusal;
 use checksums::Checksums;
 use endpoint_rules::Phase;
+use fixed_vec::FixedVec;
 use quality::NetworkStats;
 use setup::Handles;
 use status::ConnectionStatus;
@@ -33,12 +34,12 @@ fn is_early(start: u64, epoch: u64) -> bool
 
 impl Endpoint {
     // Ascending, with a count that is their number.
-    #[tactic(auto, using(crate::proofs::Laws::Getters::shows_handles))]
+    #[tactic(auto, using(crate::proofs::Laws::Getters::shows_handles), unfolding(fixed_vec::specs::FixedVec::held))]
     pub fn handles(self) -> Handles
         ensures { HandlesAs (seen self) result }
     {
         Handles {
-            count: self.setup.handles.count(),
+            count: self.setup.handles.len(),
             ..self.setup.handles
         }
     }
@@ -90,8 +91,10 @@ impl Endpoint {
         ensures { ChecksumsAs (seen self) result }
     {
         Checksums {
-            used: self.checksums.count(),
-            ..self.checksums
+            entries: FixedVec {
+                count: self.checksums.count(),
+                ..self.checksums.entries
+            },
         }
     }
 

@@ -64,7 +64,7 @@ impl Endpoint {
         };
         match self.request(now, nonce, out) {
             Ok(()) => {
-                self.nonces = self.nonces.issue(nonce);
+                self.nonces.issue(nonce);
                 self.sync.phase = Phase::Synchronizing;
                 self.sync.remaining = NUM_SYNC_PACKETS;
                 self.quality = self.quality.started(epoch);

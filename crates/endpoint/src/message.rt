@@ -1,4 +1,5 @@
 // What arrives: a message as a value, or as the bytes of a datagram.
+// What each call is given, a message, clocks, a nonce, a buffer, are its parameters (F-11), which docs/API.md names.
 mod admission;
 mod body;
 mod hearing;
@@ -17,7 +18,8 @@ use crate::{Ended, Endpoint, Sync, handshake, room};
 use answer::{Answer, Refusal};
 use codec::{Message, MessageBody};
 use endpoint_rules::Phase;
-use events::NETWORK_RESUMED;
+use events::{Frames, NETWORK_RESUMED, Notices};
+use history::{BLANK, Packet};
 
 impl Endpoint {
     // A message goes by the number of its kind, and one above 7, which no body has, is refused. What is decided stands in functions over the plain parts,
@@ -34,7 +36,7 @@ impl Endpoint {
         nonce: u32,
         out: &mut [u8],
     ) -> Answer
-        requires { length self.old.events.entries ≡ most_events }
+        requires { length self.old.events.entries.list ≡ most_events }
         ensures { DidAs self.old (step (Call.message from message.reports.count (meant message payload.now) now epoch nonce (length out.old)) (seen self.old)) out.old (record { endpoint = self.new; answer = result }) out.new }
     {
         if timers::is_bad(now) || timers::is_bad(epoch) {
@@ -59,12 +61,11 @@ impl Endpoint {
                 let reply = body::reply_of(body);
                 if let Phase::Synchronizing = phase {
                     let remaining = self.sync.remaining.saturating_sub(1);
-                    let spent = self.nonces.spend(reply, 0 < remaining, nonce);
-                    if spent.found {
-                        if room::events_full(true, self.events.count()) {
-                            return Err(Refusal::Full);
-                        }
-                        let events = self.events.push(handshake::progress(remaining)).events;
+                    // Copies, since the request may be refused yet.
+                    let mut nonces = self.nonces;
+                    if nonces.spend(reply, 0 < remaining, nonce) {
+                        let mut events = self.events;
+                        events.push(handshake::progress(remaining))?;
                         if 0 < remaining {
                             self.request(now, nonce, out)?;
                             self.sync.remaining = remaining;
@@ -76,7 +77,7 @@ impl Endpoint {
                                 remote_magic: message.magic,
                             };
                         }
-                        self.nonces = spent.nonces;
+                        self.nonces = nonces;
                         self.events = events;
                         self.clocks = self.clocks.heard(now);
                         return Ok(());
@@ -91,7 +92,7 @@ impl Endpoint {
             2 => {
                 let head = body::input_of(body);
                 let opened = packet::open(
-                    self.history,
+                    &self.history,
                     self.setup,
                     head,
                     message.reports.count,
@@ -116,44 +117,42 @@ impl Endpoint {
                         payload.len(),
                         width,
                     );
-                    // A store that nothing is added to or dropped from is left alone: to pass it is to copy it.
-                    // With `||` each test is a join of its own, and the proof did not close.
-                    if informed.resumes | informed.disconnects | (0 < news.count) {
-                        let pushed = self.events.push_packet(
-                            informed.resumes,
-                            informed.disconnects,
-                            news.first,
-                            news.count,
-                            payload,
-                            news.at,
-                            width,
-                            opened.input.bytes,
-                            self.setup.handles.list,
-                            self.setup.handles.count,
-                            self.setup.input_size as usize,
-                        );
-                        if !pushed.ok {
-                            return Err(Refusal::Full);
-                        }
-                        self.events = pushed.events;
-                    }
-                    if self.pending.drops(head.ack_frame) {
-                        let dropped = self.pending.drop_to(head.ack_frame, self.acked);
-                        self.pending = dropped.pending;
-                        self.acked = dropped.last;
-                    }
-                    self.clocks = packet::noted(informed.clocks, opened.held, opened.readable, now);
+                    // Where none is held, no frame is read against it.
+                    let reference = opened.reference.unwrap_or(BLANK);
+                    let notices = Notices {
+                        resumed: informed.resumes,
+                        disconnected: informed.disconnects,
+                    };
+                    let frames = Frames {
+                        first: news.first,
+                        count: news.count,
+                        width,
+                    };
+                    self.events.push_packet(
+                        notices,
+                        frames,
+                        &payload[news.at..],
+                        &reference.bytes,
+                        self.setup.handles.as_slice(),
+                        self.setup.input_size as usize,
+                    )?;
+                    self.acked = self.pending.drop_to(head.ack_frame, self.acked);
+                    self.clocks = packet::noted(
+                        informed.clocks,
+                        opened.reference.is_some(),
+                        opened.readable,
+                        now,
+                    );
                     self.flags = informed.flags;
                     self.statuses = informed.statuses;
                     if opened.readable {
-                        self.history = self.history.take_in(
-                            payload,
-                            head.start_frame,
+                        let packet = Packet {
+                            start: head.start_frame,
                             width,
-                            opened.input,
-                            opened.newest,
-                            self.setup.max_prediction,
-                        );
+                            reference,
+                        };
+                        self.history
+                            .take_in(payload, &packet, opened.newest, self.setup.max_prediction);
                         self.queued = outbox::body_only(
                             out,
                             self.queued,
@@ -176,23 +175,21 @@ impl Endpoint {
                 if full {
                     return Err(Refusal::Full);
                 }
-                let dropped = self.pending.drop_to(ack_frame, self.acked);
-                self.pending = dropped.pending;
-                self.acked = dropped.last;
+                self.acked = self.pending.drop_to(ack_frame, self.acked);
             }
             // ChecksumReport.
             6 => {
-                let checksum = body::checksum_of(body);
-                let reported = self.checksums.report(
-                    checksum.frame,
-                    checksum.low,
-                    checksum.high,
+                // A copy, since an overflow is refused before an event that has no room (N-20).
+                let mut checksums = self.checksums;
+                checksums.report(
+                    body::checksum_of(body),
                     self.setup.interval(),
                     self.setup.choices.firm_checksums,
-                );
-                // `|`, as above.
-                admission::weigh(false, reported.overflow, full | reported.full)?;
-                self.checksums = reported.checksums;
+                )?;
+                if full {
+                    return Err(Refusal::Full);
+                }
+                self.checksums = checksums;
             }
             // SyncRequest, QualityReport, QualityReply, KeepAlive.
             0 | 4 | 5 | 7 => {
@@ -213,9 +210,9 @@ impl Endpoint {
             }
             _ => return Err(Refusal::BadKind),
         }
-        // What is left of every other message is that it was heard.
+        // What is left of every other message is that it was heard. The event has room, or the message was refused above.
         if resumes {
-            self.events = self.events.push(NETWORK_RESUMED).events;
+            let _ = self.events.push(NETWORK_RESUMED);
             self.flags.disconnect_notify_sent = false;
         }
         self.clocks = self.clocks.heard(now);

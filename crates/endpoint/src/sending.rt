@@ -37,7 +37,7 @@ impl Endpoint {
         now: u64,
         out: &mut [u8],
     ) -> Answer
-        requires { length self.old.events.entries ≡ most_events }
+        requires { length self.old.events.entries.list ≡ most_events }
         ensures { DidAs self.old (step (Call.send_input frame bytes.now statuses.count (held_statuses statuses) now (length out.old)) (seen self.old)) out.old (record { endpoint = self.new; answer = result }) out.new }
     {
         if timers::is_bad(now) {
@@ -53,16 +53,15 @@ impl Endpoint {
         // XOR zeros is the input itself, with zeros after it.
         let input = InputBytes {
             frame,
-            bytes: packing::frame_at(bytes, 0, width, [0u8; MOST_WIDTH]),
+            bytes: packing::frame_at(bytes, 0, width, &[0u8; MOST_WIDTH]),
         };
-        let pushed = self.pending.push(input, self.acked.frame);
-        if is_bad_frame(frame, pushed.last) {
+        if is_bad_frame(frame, self.pending.last_frame(self.acked.frame)) {
             return Err(Refusal::BadFrame);
         }
-        if !pushed.ok {
-            return Err(Refusal::Full);
-        }
-        let announces = MOST_PENDING <= pushed.pending.count();
+        // A copy, since the Input that is packed from it may be refused yet.
+        let mut pending = self.pending;
+        pending.push(input)?;
+        let announces = MOST_PENDING <= pending.count();
         if room::events_full(announces, self.events.count()) {
             return Err(Refusal::Full);
         }
@@ -72,14 +71,15 @@ impl Endpoint {
             self.setup.magic,
             self.history.newest(),
             statuses,
-            pushed.pending,
+            &pending,
             width,
             self.acked,
         )?;
+        // It has room, as was asked before the Input was queued.
         if announces {
-            self.events = self.events.push(DISCONNECTED).events;
+            let _ = self.events.push(DISCONNECTED);
         }
-        self.pending = pushed.pending;
+        self.pending = pending;
         self.clocks = self.clocks.sent(now);
         self.queued = end;
         Ok(())

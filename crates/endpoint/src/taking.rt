@@ -13,6 +13,7 @@ use crate::{Ended, Endpoint};
 use answer::Refusal;
 use endpoint_rules::Phase;
 use events::Events;
+use fixed_vec::FixedVec;
 
 #[derive(Clone, Copy)]
 pub struct TakenEvents {
@@ -50,10 +51,12 @@ impl Endpoint {
         ensures { TakenAs self result }
     {
         let events = Events {
-            used: self.events.count(),
-            ..self.events
+            entries: FixedVec {
+                count: self.events.count(),
+                ..self.events.entries
+            },
         };
-        self.events.used = 0;
+        self.events.entries.clear();
         TakenEvents {
             endpoint: self,
             events,

@@ -7,6 +7,7 @@ use native.Mathlib.Omega.{arith}
 use Prim.Native.Nat.{ℕ, zero, suc}
 use lib.Dec.{eqb}
 use lib.ListN.{length}
+use Rattle.fixed_vec.specs.FixedVec.{held}
 use Rattle.base.specs.Little.{Bytes}
 use Rattle.base.specs.Pick.{pick}
 use Rattle.std.specs.Prelude.{Result, Ok, Err}
@@ -185,7 +186,7 @@ hands_none = InventsLengths.handed odd odd_value (0 ∷ []) one_lent refl (omega
 -- ---- invented numbers that a user sees: nine replies of five have come, and one input is pending
 
 abbrev boasted : Events
-boasted = record { entries = filled most_events blank_entry (without_input (Event.Synchronizing 5 9) ∷ []); used = 1 }
+boasted = record { entries = record { list = filled most_events blank_entry (without_input (Event.Synchronizing 5 9) ∷ []); count = 1 } }
 
 abbrev boasting : Version
 boasting =
@@ -194,13 +195,13 @@ boasting =
     (λ e. boasted) (Ok (record { ping = 0; send_queue_len = 1; local_frames_behind = 0; remote_frames_behind = 0 }))
 
 announces-counts : InventsCounts boasting
-unfolding held_events fresh made counts_in Each
+unfolding held_events held fresh made counts_in Each
 announces-counts = InventsCounts.announced odd odd_value p3 p3_asked (λ h. let nine : ◌≡◌ {A = ℕ} 9 5 = h.0.1 in omega arith)
 
 hands_counts : InventsCounts boasting
-unfolding held_events fresh made counts_in
+unfolding held_events held fresh made counts_in
 hands_counts = InventsCounts.handed odd odd_value (λ h. let one : ◌≡◌ {A = ℕ} 1 0 = ap length h in omega arith)
 
 shows_lengths : InventsLengths boasting
-unfolding waiting fresh made
+unfolding waiting held fresh made
 shows_lengths = InventsLengths.shown odd odd_value 0 (omega arith) _ refl (λ h. omega arith)

@@ -12,6 +12,7 @@ use Rattle.base.specs.Pick.{pick}
 use Rattle.base.specs.First.{first_of}
 use Rattle.base.specs.Lay.{laid_at}
 use Rattle.base.proofs.Arrays.{view_le}
+use Rattle.fixed_vec.specs.FixedVec.{held}
 use Rattle.ceilings.specs.Ceilings.{most_players}
 use Rattle.std.specs.Prelude.{Ok, Err}
 use Rattle.answer.specs.Number.{Answered, answer_of, number_of, number_back}
@@ -22,6 +23,7 @@ use Rattle.codec.specs.Message.{meant}
 use Rattle.codec.specs.Bytes.{queue_of}
 use Rattle.checksums.specs.Checksums.{stored}
 use Rattle.events.specs.Events.{held_events}
+use Rattle.events.proofs.Laws.{held_none}
 use Rattle.setup.specs.Setup.{handle_list, bad_setup, terms_with}
 use Rattle.setup.specs.declared.Setup.{Setup}
 use Rattle.timers.specs.Timers.{bad_clock}
@@ -104,7 +106,7 @@ right =
       disconnect = λ e now. ended e (step (Call.disconnect now) (seen e));
       send_checksum_report = λ e frame checksum now out. did e (Call.send_checksum_report frame checksum now (length out)) out;
       update_local_frame_advantage = λ e local. ended e (step (Call.update_local_frame_advantage local) (seen e));
-      take_events = λ e. record { endpoint = anew e (step Call.take_events (seen e)).after; events = record { entries = e.events.entries; used = length (held_events e.events) } };
+      take_events = λ e. record { endpoint = anew e (step Call.take_events (seen e)).after; events = record { entries = record { list = e.events.entries.list; count = length (held_events e.events) } } };
       take_messages = λ e out. ended e (step (Call.take_messages (length out)) (seen e));
       messages = λ e out. take (handed_back (length out) (seen e)) out;
       take_messages_into = λ e out into.
@@ -119,7 +121,7 @@ right =
       is_handling_message = λ e from. eqb from e.setup.peer_addr;
       last_recv_frame = λ e. newest (seen e);
       state = λ e. e.sync.phase;
-      checksums = λ e. record { entries = e.checksums.entries; used = length (stored e.checksums) };
+      checksums = λ e. record { entries = record { list = e.checksums.entries.list; count = length (stored e.checksums) } };
     }
 
 stats_shown : (e : Endpoint) (epoch : ℕ) → IsU64 epoch → shown_stats (right.network_stats e epoch) ≡ shown (Call.network_stats epoch) (seen e)
@@ -188,14 +190,14 @@ called_value e i s (Asked.peer_connect_status handle) h = i
 called_value e i s (Asked.take_messages_into out into) h = ended_value e i s (Asked.take_messages_into out into) h
 
 right_values : GivesValues right
-unfolding held_events
+unfolding held_events held
 right_values =
     record {
       made = λ g now t n z. made_value g now t z;
       called = called_value;
       taken = λ e i s. (
         anew_value e i s Call.take_events tt,
-        record { size = i.events.size; entries = i.events.entries; used = omega (arith, view_le e.events.used e.events.entries, i.events.size) },
+        record { size = i.events.size; entries = i.events.entries; count = omega (arith, view_le e.events.entries.count e.events.entries.list, i.events.size) },
       );
     }
 
@@ -215,7 +217,7 @@ right_meets =
       send_checksum_report = λ e frame checksum now out i h. asked_did e i (Asked.send_checksum_report frame checksum now out) h out;
       update_local_frame_advantage = λ e local i h. asked_done e i (Asked.update_local_frame_advantage local) h;
       take_events = λ e i.
-          let t = takes_events e (length (held_events e.events)) refl in
+          let t = takes_events e (length (held_events e.events)) refl (record { entries = record { list = e.events.entries.list; count = 0 } }) (held_none e.events.entries.list) in
           record { events = t.events; count = t.count; after = seen_anew e i Call.take_events; terms = record { setup = refl; count = refl } };
       take_messages = λ e out i h. asked_done e i (Asked.take_messages out) h;
       messages = λ e out i h. refl;

@@ -2,14 +2,20 @@
 -- `TypedSetup`, `IsMessage` and `IsStatuses` (laws `..-is`), so every machine value is covered; and where these hold there is a machine value that means it (laws
 -- `..-means`), so nothing else is.
 use mathlib.Core.List.{List, []}
+use mathlib.Core.Path.{◌≡◌}
 use borrow.Author.Rules.{rules}
 use denote.Laws.{Is}
 use denote.Param.{number}
+use denote.RattleType.{RattleType}
 use denote.Enum.Declared as Enum
 use denote.Struct.Declared as Struct
 use denote.Plain.{UInt}
 use mir.Syntax.{w16, w32, w64}
 use mir.Val.{Val}
+use Prim.Native.Nat.{ℕ, ◌^◌, ◌<◌}
+use lib.ListN.{length}
+use Rattle.fixed_vec.specs.declared.FixedVec.{FixedVec}
+use Rattle.fixed_vec.specs.contracts.FixedVec as FixedVecType
 use Rattle.ceilings.specs.Ceilings.{most_players, most_input_size, most_width, most_pending, most_received, most_nonces, most_checksums, most_events}
 use Rattle.packing.specs.declared.input_bytes.InputBytes.{InputBytes}
 use Rattle.packing.specs.contracts.input_bytes.InputBytes as InputBytes
@@ -42,7 +48,6 @@ use Rattle.codec.specs.declared.MessageBody.TheVariants as Body
 use Rattle.codec.specs.declared.Message.{Message}
 use Rattle.codec.specs.contracts.Wide as Wide
 use Rattle.codec.specs.contracts.StatusReport as StatusReport
-use Rattle.fixed_vec.specs.contracts.FixedVec as FixedVec
 use Rattle.codec.specs.contracts.MessageBody as MessageBody
 use Rattle.codec.specs.contracts.Message as Message
 use Rattle.codec.proofs.Meant.{meant_magic, meant_body}
@@ -51,7 +56,6 @@ use Rattle.setup.specs.declared.Setup.{Setup}
 use Rattle.setup.specs.declared.DesyncDetection.{DesyncDetection}
 use Rattle.setup.specs.declared.DesyncDetection.TheVariants.{Off, On}
 use Rattle.setup.specs.contracts.Setup as Setup
-use Rattle.setup.specs.contracts.Handles as Handles
 use Rattle.setup.specs.contracts.Choices as Choices
 use Rattle.setup.specs.contracts.DesyncDetection as DesyncDetection
 use Rattle.timers.specs.declared.Clocks.{Clocks}
@@ -62,6 +66,7 @@ use Rattle.endpoint_rules.specs.declared.Phase.{Phase}
 use Rattle.endpoint_rules.specs.declared.Phase.TheVariants.{Initializing, Synchronizing, Running, Disconnected, Shutdown}
 use Rattle.endpoint_rules.specs.contracts.Phase as Phase
 use Rattle.endpoint_rules.specs.contracts.Flags as Flags
+use Rattle.endpoint_invariant.specs.Each.{Each}
 use Rattle.endpoint_invariant.specs.Typed.{IsU32, TypedDesync, TypedSetup}
 use Rattle.endpoint_invariant.proofs.Typed.{wire_typed, setup_typed}
 use Rattle.endpoint.specs.declared.Endpoint.{Endpoint}
@@ -92,26 +97,26 @@ input_is x vs h =
 
 pending_is : (x : Pending) (vs : List Val) → Is (Struct.row Pending.the_type) x vs → IsPending x
 pending_is x vs h =
-    let a = array_is (Struct.row InputBytes.the_type) IsInput input_is most_pending x.slots _ h.1.1.0 in
-    record { size = a.0; inputs = a.1; used = h.1.1.1.0.1 }
+    let a = array_is (Struct.row InputBytes.the_type) IsInput input_is most_pending x.inputs.list _ h.1.1.0.1.1.0 in
+    record { size = a.0; inputs = a.1; count = h.1.1.0.1.1.1.0.1 }
 
 history_is : (x : History) (vs : List Val) → Is (Struct.row History.the_type) x vs → IsHistory x
 history_is x vs h =
-    let a = array_is (Struct.row InputBytes.the_type) IsInput input_is most_received x.slots _ h.1.1.0 in
-    record { size = a.0; inputs = a.1; used = h.1.1.1.0.1 }
+    let a = array_is (Struct.row InputBytes.the_type) IsInput input_is most_received x.inputs.list _ h.1.1.0.1.1.0 in
+    record { size = a.0; inputs = a.1; count = h.1.1.0.1.1.1.0.1 }
 
 nonces_is : (x : Nonces) (vs : List Val) → Is (Struct.row Nonces.the_type) x vs → IsNonces x
 nonces_is x vs h =
-    let a = array_is (UInt w32) IsU32 (λ n ws k. k.1) most_nonces x.list _ h.1.1.0 in
-    record { size = a.0; nonces = a.1; used = h.1.1.1.0.1 }
+    let a = array_is (UInt w32) IsU32 (λ n ws k. k.1) most_nonces x.list.list _ h.1.1.0.1.1.0 in
+    record { size = a.0; nonces = a.1; count = h.1.1.0.1.1.1.0.1 }
 
 checksum_is : (x : Checksum) (vs : List Val) → Is (Struct.row Checksum.the_type) x vs → IsChecksum x
 checksum_is x vs h = (h.1.1.0.1, h.1.1.1.0.1, h.1.1.1.1.0.1)
 
 checksums_is : (x : Checksums) (vs : List Val) → Is (Struct.row Checksums.the_type) x vs → IsChecksums x
 checksums_is x vs h =
-    let a = array_is (Struct.row Checksum.the_type) IsChecksum checksum_is most_checksums x.entries _ h.1.1.0 in
-    record { size = a.0; checksums = a.1; used = h.1.1.1.0.1 }
+    let a = array_is (Struct.row Checksum.the_type) IsChecksum checksum_is most_checksums x.entries.list _ h.1.1.0.1.1.0 in
+    record { size = a.0; checksums = a.1; count = h.1.1.0.1.1.1.0.1 }
 
 event_is : (v : Event) (vs : List Val) → Is (Enum.row Event.the_type) v vs → IsEvent v
 event_is (Announced.Synchronizing total count) vs h = search rules
@@ -128,8 +133,8 @@ entry_is x vs h =
 
 events_is : (x : Events) (vs : List Val) → Is (Struct.row Events.the_type) x vs → IsEvents x
 events_is x vs h =
-    let a = array_is (Struct.row Entry.the_type) IsEntry entry_is most_events x.entries _ h.1.1.0 in
-    record { size = a.0; entries = a.1; used = h.1.1.1.0.1 }
+    let a = array_is (Struct.row Entry.the_type) IsEntry entry_is most_events x.entries.list _ h.1.1.0.1.1.0 in
+    record { size = a.0; entries = a.1; count = h.1.1.0.1.1.1.0.1 }
 
 clocks_is : (c : Clocks) (vs : List Val) → Is (Struct.row Clocks.the_type) c vs → IsClocks c
 clocks_is c vs h = record { quality = search rules; input = search rules; send = search rules; request = search rules; receive = search rules; shutdown = search rules }
@@ -158,6 +163,12 @@ endpoint_is e vs h =
 
 -- ---- and nothing else is
 
+-- a list of fixed size
+list_means : (R : RattleType) (P : R.Denot → Type 0) → ((x : R.Denot) → P x → Means R x) → (n : ℕ) (x : FixedVec R.Denot n)
+    → length x.list ≡ n → Each P x.list → x.count < 2 ^ 64 → Means (Struct.row (FixedVecType.the_type R (number n))) x
+list_means R P one n x size each count =
+    struct_means (FixedVecType.the_type R (number n)) x (array_means R P one n x.list size each ▸ number_means w64 x.count count ▸ tt)
+
 -- what calls are given
 status_means : (s : ConnectionStatus) → IsU32 s.last_frame → Means (Struct.row ConnectionStatus.the_type) s
 status_means s h = struct_means ConnectionStatus.the_type s (flag_means s.disconnected ▸ number_means w32 s.last_frame h ▸ tt)
@@ -185,17 +196,12 @@ body_means Body.KeepAlive h = enum_means MessageBody.the_type Body.KeepAlive tt
 report_means : (r : StatusReport) → IsU32 r.last_frame → Means (Struct.row StatusReport.the_type) r
 report_means r h = struct_means StatusReport.the_type r (flag_means r.disconnected ▸ number_means w32 r.last_frame h ▸ tt)
 
--- the type of a message's reports
-abbrev reports_type : Struct.Declared
-reports_type = FixedVec.the_type (Struct.row StatusReport.the_type) (number most_players)
-
 pub message_means : (m : Message) → IsMessage m → Means (Struct.row Message.the_type) m
 message_means m h =
-    let reports : Means (Struct.row reports_type) m.reports
-    = struct_means reports_type m.reports (
-    array_means (Struct.row StatusReport.the_type) (λ (r : StatusReport). IsU32 r.last_frame) report_means most_players m.reports.list h.size h.frames ▸
-    number_means w64 m.reports.count h.count ▸ tt) in
-    struct_means Message.the_type m (number_means w16 m.magic h.magic ▸ body_means m.body h.body ▸ reports ▸ tt)
+    struct_means Message.the_type m (
+    number_means w16 m.magic h.magic ▸
+    body_means m.body h.body ▸
+    list_means (Struct.row StatusReport.the_type) (λ (r : StatusReport). IsU32 r.last_frame) report_means most_players m.reports h.size h.frames h.count ▸ tt)
 
 desync_means : (d : DesyncDetection) → TypedDesync d → Means (Enum.row DesyncDetection.the_type) d
 desync_means Off h = enum_means DesyncDetection.the_type Off tt
@@ -203,14 +209,10 @@ desync_means (On interval) h = enum_means DesyncDetection.the_type (On interval)
 
 pub setup_means : (g : Setup) → TypedSetup g → Means (Struct.row Setup.the_type) g
 setup_means g h =
-    let handles : Means (Struct.row Handles.the_type) g.handles
-    = struct_means Handles.the_type g.handles (
-    array_means (UInt w32) IsU32 (number_means w32) most_players g.handles.list h.handles h.handle ▸
-    number_means w64 g.handles.count h.count ▸ tt) in
     let choices : Means (Struct.row Choices.the_type) g.choices = struct_means Choices.the_type g.choices (desync_means g.choices.desync_detection h.desync ▸ flag_means g.choices.firm_checksums ▸ tt) in
     struct_means Setup.the_type g (
     number_means w32 g.num_players h.players ▸
-    handles ▸
+    list_means (UInt w32) IsU32 (number_means w32) most_players g.handles h.handles h.handle h.count ▸
     number_means w32 g.local_players h.local_players ▸
     number_means w32 g.input_size h.input_size ▸
     number_means w32 g.max_prediction h.max_prediction ▸
@@ -227,21 +229,21 @@ input_means x h = struct_means InputBytes.the_type x (number_means w32 x.frame h
 
 pending_means : (x : Pending) → IsPending x → Means (Struct.row Pending.the_type) x
 pending_means x h =
-    struct_means Pending.the_type x (array_means (Struct.row InputBytes.the_type) IsInput input_means most_pending x.slots h.size h.inputs ▸ number_means w64 x.used h.used ▸ tt)
+    struct_means Pending.the_type x (list_means (Struct.row InputBytes.the_type) IsInput input_means most_pending x.inputs h.size h.inputs h.count ▸ tt)
 
 history_means : (x : History) → IsHistory x → Means (Struct.row History.the_type) x
 history_means x h =
-    struct_means History.the_type x (array_means (Struct.row InputBytes.the_type) IsInput input_means most_received x.slots h.size h.inputs ▸ number_means w64 x.used h.used ▸ tt)
+    struct_means History.the_type x (list_means (Struct.row InputBytes.the_type) IsInput input_means most_received x.inputs h.size h.inputs h.count ▸ tt)
 
 nonces_means : (x : Nonces) → IsNonces x → Means (Struct.row Nonces.the_type) x
-nonces_means x h = struct_means Nonces.the_type x (array_means (UInt w32) IsU32 (number_means w32) most_nonces x.list h.size h.nonces ▸ number_means w64 x.used h.used ▸ tt)
+nonces_means x h = struct_means Nonces.the_type x (list_means (UInt w32) IsU32 (number_means w32) most_nonces x.list h.size h.nonces h.count ▸ tt)
 
 checksum_means : (x : Checksum) → IsChecksum x → Means (Struct.row Checksum.the_type) x
 checksum_means x h = struct_means Checksum.the_type x (number_means w32 x.frame h.0 ▸ number_means w64 x.low h.1 ▸ number_means w64 x.high h.2 ▸ tt)
 
 checksums_means : (x : Checksums) → IsChecksums x → Means (Struct.row Checksums.the_type) x
 checksums_means x h =
-    struct_means Checksums.the_type x (array_means (Struct.row Checksum.the_type) IsChecksum checksum_means most_checksums x.entries h.size h.checksums ▸ number_means w64 x.used h.used ▸ tt)
+    struct_means Checksums.the_type x (list_means (Struct.row Checksum.the_type) IsChecksum checksum_means most_checksums x.entries h.size h.checksums h.count ▸ tt)
 
 event_means : (v : Event) → IsEvent v → Means (Enum.row Event.the_type) v
 event_means (Announced.Synchronizing total count) h = enum_means Event.the_type (Announced.Synchronizing total count) (number_means w32 total h.0 ▸ number_means w32 count h.1 ▸ tt)
@@ -255,7 +257,7 @@ entry_means : (x : Entry) → IsEntry x → Means (Struct.row Entry.the_type) x
 entry_means x h = struct_means Entry.the_type x (event_means x.event h.event ▸ bytes_mean most_input_size x.input h.size h.bytes ▸ tt)
 
 events_means : (x : Events) → IsEvents x → Means (Struct.row Events.the_type) x
-events_means x h = struct_means Events.the_type x (array_means (Struct.row Entry.the_type) IsEntry entry_means most_events x.entries h.size h.entries ▸ number_means w64 x.used h.used ▸ tt)
+events_means x h = struct_means Events.the_type x (list_means (Struct.row Entry.the_type) IsEntry entry_means most_events x.entries h.size h.entries h.count ▸ tt)
 
 clocks_means : (c : Clocks) → IsClocks c → Means (Struct.row Clocks.the_type) c
 clocks_means c h =

@@ -2,6 +2,7 @@
 use mathlib.Core.Path.{◌≡◌, sym, ◌∙◌}
 use Prim.Native.Nat.{ℕ, min}
 use lib.ListN.{length, length-take}
+use Rattle.fixed_vec.specs.FixedVec.{held}
 use Rattle.ceilings.specs.Ceilings.{most_players, most_pending, most_received, most_nonces, most_checksums, most_events}
 use Rattle.status.specs.Status.{default_status}
 use Rattle.status.specs.Statuses.{held_statuses}
@@ -29,22 +30,22 @@ abbrev pub unseen : Setup → (players : ℕ) → Seen → Endpoint
 unseen g players s =
     record {
       setup = g;
-      pending = record { slots = filled most_pending blank_frame s.carried.sender.pending; used = length s.carried.sender.pending };
+      pending = record { inputs = record { list = filled most_pending blank_frame s.carried.sender.pending; count = length s.carried.sender.pending } };
       acked = s.carried.sender.acked;
-      history = record { slots = filled most_received blank_frame s.carried.receiver.history; used = length s.carried.receiver.history };
+      history = record { inputs = record { list = filled most_received blank_frame s.carried.receiver.history; count = length s.carried.receiver.history } };
       sync = record { phase = s.phase; remaining = s.sync.remaining; remote_magic = s.sync.remote_magic };
-      nonces = record { list = filled most_nonces 0 s.sync.nonces; used = length s.sync.nonces };
+      nonces = record { list = record { list = filled most_nonces 0 s.sync.nonces; count = length s.sync.nonces } };
       clocks = s.clocks;
       flags = s.flags;
       quality = s.quality;
       statuses = record { list = filled most_players default_status s.statuses; count = players };
-      checksums = record { entries = filled most_checksums blank_checksum s.checksums; used = length s.checksums };
-      events = record { entries = filled most_events blank_entry s.events; used = length s.events };
+      checksums = record { entries = record { list = filled most_checksums blank_checksum s.checksums; count = length s.checksums } };
+      events = record { entries = record { list = filled most_events blank_entry s.events; count = length s.events } };
       queued = s.queued;
     }
 
 pub seen_unseen : (g : Setup) (players : ℕ) (s : Seen) → terms_of g ≡ s.setup → length s.statuses ≡ min players most_players → seen (unseen g players s) ≡ s
-unfolding seen waiting received outstanding held_statuses stored held_events
+unfolding seen waiting received outstanding held_statuses stored held_events held
 seen_unseen g players s t n =
     rw (
       t,

@@ -5,6 +5,7 @@ use mathlib.Core.Path.{◌≡◌, refl}
 use native.Mathlib.Omega.{arith}
 use Prim.Native.Nat.{ℕ, zero, suc, ◌+◌, ◌^◌, ◌≤◌, ◌<◌, min}
 use lib.ListN.{length, take}
+use Rattle.fixed_vec.specs.FixedVec.{held}
 use Rattle.ceilings.specs.Ceilings.{most_players, most_input_size, most_pending, most_received, most_nonces, most_checksums, most_events}
 use Rattle.packing.specs.declared.input_bytes.InputBytes.{InputBytes}
 use Rattle.pending.specs.Pending.{first_frame, last_frame}
@@ -118,21 +119,21 @@ module _ (g : Setup) (players : ℕ) (s : Seen) (t : TypedSetup g) (n : IsU64 pl
         pending = record {
           size = filled_size most_pending blank_frame s.carried.sender.pending h.sender.count;
           inputs = filled_each most_pending blank_frame IsInput blank_input_lem s.carried.sender.pending sent.0;
-          used = omega (arith, h.sender.count);
+          count = omega (arith, h.sender.count);
         };
         acked = sent.1;
         history = record {
           size = filled_size most_received blank_frame s.carried.receiver.history few;
           inputs = filled_each most_received blank_frame IsInput blank_input_lem s.carried.receiver.history
               (newest_inputs _ s.carried.receiver.history h.receiver.inputs h.receiver.newest);
-          used = omega arith;
+          count = omega arith;
         };
         remaining = omega (arith, h.sync.remaining);
         magic = h.sync.magic;
         nonces = record {
           size = filled_size most_nonces 0 s.sync.nonces h.sync.count;
           nonces = filled_each most_nonces 0 IsU32 (omega arith) s.sync.nonces h.sync.nonces;
-          used = omega (arith, h.sync.count);
+          count = omega (arith, h.sync.count);
         };
         clocks = clocks_value s.clocks h.clocks;
         quality = quality_value s.quality h.quality;
@@ -144,12 +145,12 @@ module _ (g : Setup) (players : ℕ) (s : Seen) (t : TypedSetup g) (n : IsU64 pl
         checksums = record {
           size = filled_size most_checksums blank_checksum s.checksums h.checksums.0;
           checksums = filled_each most_checksums blank_checksum IsChecksum blank_checksum_lem s.checksums h.checksums.1;
-          used = omega (arith, h.checksums.0);
+          count = omega (arith, h.checksums.0);
         };
         events = record {
           size = filled_size most_events blank_entry s.events h.events;
           entries = filled_each most_events blank_entry IsEntry blank_entry_lem s.events entries;
-          used = omega (arith, h.events);
+          count = omega (arith, h.events);
         };
         queued = queued;
       }
@@ -241,8 +242,8 @@ entries_after c t s h k =
     each_behind IsEntry (handed c s) (step c s).after.events (rw (step-announces c s) (each_append IsEntry s.events (step c s).events k announced))
 
 pub anew_value : (e : Endpoint) → IsEndpoint e → Sound (seen e) → (c : Call) → Typed c → IsEndpoint (anew e (step c (seen e)).after)
-unfolding seen held_events
+unfolding seen held_events held
 anew_value e i h c t =
     unseen_value e.setup e.statuses.count (step c (seen e)).after i.setup i.statuses.count (step_sound c t (seen e) h)
-    (entries_after c t (seen e) h (first_entries e.events.used e.events.entries i.events.entries))
+    (entries_after c t (seen e) h (first_entries e.events.entries.count e.events.entries.list i.events.entries))
     (queued_after c t (seen e) i.queued)

@@ -49,27 +49,27 @@ pub record IsInput (x : InputBytes) : Type 0 where
   pub bytes : Bytes x.bytes
 
 pub record IsPending (x : Pending) : Type 0 where
-  pub size : length x.slots ≡ most_pending
-  pub inputs : Each IsInput x.slots
-  pub used : IsU64 x.used
+  pub size : length x.inputs.list ≡ most_pending
+  pub inputs : Each IsInput x.inputs.list
+  pub count : IsU64 x.inputs.count
 
 pub record IsHistory (x : History) : Type 0 where
-  pub size : length x.slots ≡ most_received
-  pub inputs : Each IsInput x.slots
-  pub used : IsU64 x.used
+  pub size : length x.inputs.list ≡ most_received
+  pub inputs : Each IsInput x.inputs.list
+  pub count : IsU64 x.inputs.count
 
 pub record IsNonces (x : Nonces) : Type 0 where
-  pub size : length x.list ≡ most_nonces
-  pub nonces : Each IsU32 x.list
-  pub used : IsU64 x.used
+  pub size : length x.list.list ≡ most_nonces
+  pub nonces : Each IsU32 x.list.list
+  pub count : IsU64 x.list.count
 
 abbrev pub IsChecksum : Checksum → Type 0
 IsChecksum x = IsU32 x.frame × IsU64 x.low × IsU64 x.high
 
 pub record IsChecksums (x : Checksums) : Type 0 where
-  pub size : length x.entries ≡ most_checksums
-  pub checksums : Each IsChecksum x.entries
-  pub used : IsU64 x.used
+  pub size : length x.entries.list ≡ most_checksums
+  pub checksums : Each IsChecksum x.entries.list
+  pub count : IsU64 x.entries.count
 
 abbrev pub IsEvent : Event → Type 0
 IsEvent (Event.Synchronizing total count) = IsU32 total × IsU32 count
@@ -85,9 +85,9 @@ pub record IsEntry (x : Entry) : Type 0 where
   pub bytes : Bytes x.input
 
 pub record IsEvents (x : Events) : Type 0 where
-  pub size : length x.entries ≡ most_events
-  pub entries : Each IsEntry x.entries
-  pub used : IsU64 x.used
+  pub size : length x.entries.list ≡ most_events
+  pub entries : Each IsEntry x.entries.list
+  pub count : IsU64 x.entries.count
 
 pub record IsClocks (c : Clocks) : Type 0 where
   pub quality : IsU64 c.running_last_quality_report

@@ -1,5 +1,7 @@
 -- A version of the endpoint's public functions, and its calls: what each is given, which rule it is a call of, and what it hands back.
 use Rattle.std.specs.Prelude.{Bool, List, [], ℕ, ◌-◌, length, take, drop, Result}
+use Rattle.ceilings.specs.Ceilings.{most_players}
+use Rattle.fixed_vec.specs.declared.FixedVec.{FixedVec}
 use Rattle.answer.specs.Number.{number_of}
 use Rattle.answer.specs.declared.Refusal.{Refusal}
 use Rattle.codec.specs.Message.{meant, FitsWide}
@@ -11,7 +13,6 @@ use Rattle.status.specs.declared.list.Statuses.{Statuses}
 use Rattle.quality.specs.declared.NetworkStats.{NetworkStats}
 use Rattle.checksums.specs.declared.Checksums.{Checksums}
 use Rattle.setup.specs.declared.Setup.{Setup}
-use Rattle.setup.specs.declared.Handles.{Handles}
 use Rattle.endpoint_rules.specs.declared.Phase.{Phase}
 use Rattle.endpoint_rules.specs.Call.{Call}
 use Rattle.endpoint_invariant.specs.Typed.{IsU32, IsU64}
@@ -41,7 +42,7 @@ pub record Version : Type 0 where
   pub take_messages_into : Endpoint → (out into : List ℕ) → TakenMessages × List ℕ
   pub network_stats : Endpoint → (epoch : ℕ) → Result NetworkStats Refusal
   pub peer_connect_status : Endpoint → (handle : ℕ) → Result ConnectionStatus Refusal
-  pub handles : Endpoint → Handles
+  pub handles : Endpoint → FixedVec ℕ most_players
   pub is_synchronized : Endpoint → Bool
   pub is_running : Endpoint → Bool
   pub is_handling_message : Endpoint → (from : ℕ) → Bool

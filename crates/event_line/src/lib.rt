@@ -1,4 +1,5 @@
 // The printed lines of events: the words of one event, and the lines of all events under an end's letter.
+// The buffer and the place in it are two parameters: the buffer is the caller's, and the clauses (`page`) are over the whole buffer and the place.
 #![tactic(auto)]
 
 mod words;
@@ -19,11 +20,11 @@ pub fn line(out: &mut [u8], at: usize, entry: Entry, size: usize) -> usize
 }
 
 // Every event on a line of its own, each where it fits; one line that says so where there is none.
-#[tactic(auto, using(crate::proofs::EachLaws::none_lines, crate::proofs::EachLaws::some_lines, crate::proofs::EachLaws::all_laid, crate::proofs::EachLaws::turn, base::proofs::Arrays::take_count), unfolding(events::specs::Events::held_events))]
+#[tactic(auto, using(crate::proofs::EachLaws::none_lines, crate::proofs::EachLaws::some_lines, crate::proofs::EachLaws::all_laid, crate::proofs::EachLaws::turn), unfolding(events::specs::Events::held_events))]
 pub fn lines(out: &mut [u8], at: usize, name: u8, events: Events, size: usize) -> usize
     ensures { page out.new result ≡ written_all (lines_of name size (held_events events)) (page out.old at) }
 {
-    let entries = &events.entries[..events.count()];
+    let entries = events.entries.as_slice();
     if entries.is_empty() {
         return words::none(name).lay_into(out, at);
     }

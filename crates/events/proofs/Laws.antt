@@ -5,42 +5,25 @@ use mathlib.Core.List.{List, [], ◌∷◌, ◌++◌, append-nil, append_assoc}
 use mathlib.Core.Path.{◌≡◌, refl, sym, ◌∙◌, ap}
 use Prim.Native.Nat.{ℕ, suc, ◌+◌, ◌-◌, ◌*◌, ◌^◌, ◌<◌, ◌≤◌, min}
 use native.Mathlib.Omega.{arith}
-use native.Mathlib.Nat.{zero-mul, suc-mul, add-zero}
+use native.Mathlib.Nat.{zero-mul, suc-mul}
 use native.Mathlib.Numerals.{add-one}
 use lib.Dec.{leb}
-use lib.ListN.{length, take, drop, set, get_or, replicate, length-replicate, length-take, length-drop, length-append, length-set, drop_of_length-le}
-use lib.Seq.{take-suc-set, drop-cons, drop-drop, get_or-take, get_or-drop, take_all}
+use lib.ListN.{length, take, drop, get_or, replicate, length-append, drop_of_length-le}
+use lib.Seq.{drop-cons, take_all}
 use Rattle.base.specs.Pick.{pick}
-use Rattle.base.proofs.Arrays.{drop-replicate, view_le, take_count}
-use Rattle.base.proofs.Kept.{next_turn}
-use Rattle.base.proofs.Padded.{take_join, drop_join, take_alike, pad_over, pad_more}
+use Rattle.base.proofs.Arrays.{drop-replicate}
+use Rattle.base.proofs.Padded.{take_join, drop_join, take_alike, pad_more}
 use Rattle.packing.specs.Packing.{xors, frames_of}
 use Rattle.packing.specs.Pad.{padded}
 use Rattle.packing.proofs.Laws.{xors-length, frames_length}
 use Rattle.events.specs.declared.Entry.{Entry}
-use Rattle.events.specs.declared.Event.TheVariants as Event
 use Rattle.events.specs.declared.Events.{Events}
-use Rattle.events.specs.declared.Pushed.{Pushed}
-use Rattle.events.specs.Events.{held_events, has_room, both, input_of, input_entry, announced, announced_each, announced_all, frames_from, packet_fits, PushedAs}
-
-unfoldable pub no_input : List ℕ
-no_input = replicate 16 0
-
-pub no_input_length : length no_input ≡ 16
-unfolding no_input
-no_input_length = length-replicate {A = ℕ} 16 0
-
--- bytes laid over zeros, up to the shorter's end, are an input
-pub laid_input : (bytes out : List ℕ) (i : ℕ) → i ≡ min 16 (length bytes) → out ≡ take i bytes ++ drop i no_input → out ≡ input_of bytes
-unfolding input_of no_input
-laid_input bytes out i m e = pad_over 0 16 bytes out i m e
-
--- a part of bytes, its length and its elements
-pub part_length : (l : List ℕ) (at size : ℕ) → length (take size (drop at l)) ≡ min size (length l - at)
-part_length l at size = simp (length-take, length-drop)
-
-pub part_at : (l : List ℕ) (at size i : ℕ) → i < size → get_or (take size (drop at l)) i 0 ≡ get_or l (at + i) 0
-part_at l at size i h = rw (get_or-take, get_or-drop)
+use Rattle.std.proofs.Common.{Some, None}
+use Rattle.std.specs.Bool.{then_some}
+use Rattle.events.specs.declared.Event.TheVariants.{NetworkResumed, Disconnected}
+use Rattle.answer.specs.Number.{Answered, done}
+use Rattle.fixed_vec.specs.FixedVec.{held}
+use Rattle.events.specs.Events.{held_events, without_input, has_room, both, ahead, given, input_of, input_entry, announced, announced_each, announced_all, frames_from, packet_fits, PushedAs}
 
 -- a place beyond the end is the end
 pub drop_min : (k n : ℕ) (l : List ℕ) → length l ≡ n → drop (min k n) l ≡ drop k l
@@ -53,33 +36,34 @@ drop_min k n l e =
     ]
     refl
 
--- the entry of a part
-pub entry_is : (frame player : ℕ) (bytes out : List ℕ) (i : ℕ) → i ≡ min 16 (length bytes) → out ≡ take i bytes ++ drop i no_input
-    → ◌≡◌ {A = Entry} (record { event = Event.Input frame player; input = out }) (input_entry frame player bytes)
-unfolding input_entry
-entry_is frame player bytes out i m e = rw (laid_input bytes out i m e)
-
 -- as many events as handles
 pub announced-length : (frame size : ℕ) (bytes hs : List ℕ) → length (announced frame size bytes hs) ≡ length hs
 unfolding announced
 announced-length frame size bytes [] = refl
 announced-length frame size bytes (h ∷ hs) = ap suc (announced-length frame size (drop size bytes) hs)
 
--- a loop that writes a frame's entries behind the first w of an array: a turn and the end
-module _ (frame size : ℕ) (bytes hs : List ℕ) (i : ℕ) where
-  pub frame_turn : (l T : List Entry) (w at at' : ℕ) (x : Entry) → w < length l → i < length hs
-      → x ≡ input_entry frame (get_or hs i 0) (take size (drop at bytes)) → at' ≡ min (at + size) (length bytes)
-      → take w l ++ announced frame size (drop at bytes) (drop i hs) ≡ T
-      → take (w + 1) (set l w x) ++ announced frame size (drop at' bytes) (drop (i + 1) hs) ≡ T
-  unfolding announced
-  frame_turn l T w at at' x hl hh e m inv =
-      next_turn l w x (announced frame size (drop at' bytes) (drop (i + 1) hs)) hl
-      ∙ rw (m, drop_min (at + size) (length bytes) bytes refl, ← drop-drop size at bytes, add-one, e)
-      (rw (drop-cons hs i 0 hh) at inv)
+-- a size beyond the end is the whole
+pub take_min : (k : ℕ) (l : List ℕ) → take (min k (length l)) l ≡ take k l
+take_min k l =
+    elim (leb (length l) k) as (λ b. leb (length l) k ≡ b → take (min k (length l)) l ≡ take k l) [
+      | true ↦ λ q.
+          let h = leb-true (length l) k q in
+          let m : min k (length l) ≡ length l = omega arith in
+          rw m (take_all (length l) l (omega arith) ∙ sym (take_all k l h))
+      | false ↦ λ q. let m : min k (length l) ≡ k = omega (arith, leb-false (length l) k q) in rw m
+    ]
+    refl
 
-  pub frame_end : (l T : List Entry) → length hs ≤ i → l ++ announced frame size bytes (drop i hs) ≡ T → l ≡ T
+-- a loop that announces a frame: a turn and the end
+module _ (frame size : ℕ) (l T : List Entry) (rest hs : List ℕ) (i : ℕ) (inv : l ++ announced frame size rest (drop i hs) ≡ T) where
+  pub frame_turn : i < length hs
+      → (l ++ input_entry frame (get_or hs i 0) (take (min size (length rest)) rest) ∷ []) ++ announced frame size (drop (min size (length rest)) rest) (drop (i + 1) hs) ≡ T
   unfolding announced
-  frame_end l T h e = sym (append-nil l) ∙ (rw (drop_of_length-le hs h) at e)
+  frame_turn h = rw (append_assoc, add-one, take_min size rest, drop_min size (length rest) rest refl) (rw (drop-cons hs i 0 h) at inv)
+
+  pub frame_end : length hs ≤ i → l ≡ T
+  unfolding announced
+  frame_end h = sym (append-nil l) ∙ (rw (drop_of_length-le hs h) at inv)
 
 -- zeros after its bytes change nothing that is announced of a frame
 announced-zeros : (frame size : ℕ) (bytes hs : List ℕ) (m : ℕ) → announced frame size (bytes ++ replicate m 0) hs ≡ announced frame size bytes hs
@@ -101,41 +85,45 @@ announced_all-length frame size hs (bytes ∷ fs) =
     length-append (announced frame size bytes hs) (announced_all (frame + 1) size hs fs)
     ∙ rw (announced-length frame size bytes hs, announced_all-length (frame + 1) size hs fs, suc-mul) (omega arith)
 
--- two tests that hold
-pub each : (x y : Bool) → pick x y false ≡ true → (x ≡ true) × (y ≡ true)
+-- where the room test of a packet holds, its numbers are frames, and all its events fit
+each : (x y : Bool) → pick x y false ≡ true → (x ≡ true) × (y ≡ true)
 each true y e = (refl, e)
 each false y e = (cc, cc)
 
+pub packet_fits_true : (l : List Entry) (frame count : ℕ) (hs : List ℕ) → packet_fits l frame count hs ≡ true → (frame + count ≤ 2 ^ 32) × (length l + count * length hs ≤ 640)
+unfolding packet_fits has_room
+packet_fits_true l frame count hs t =
+    let b = each (leb (frame + count) (2 ^ 32)) (leb (length l + count * length hs) 640) t in
+    (leb-true _ _ b.0, leb-true _ _ b.1)
+
 -- a loop that goes through a packet's frames, over the entries l before this turn: a turn, the end, and the room that is left
-module _ (frame size w : ℕ) (r hs p : List ℕ) (count k : ℕ) (l T : List Entry) where
-  pub packet_turn : (t : List Entry) (bytes : List ℕ) (from from' : ℕ) → k < count → length r ≤ 64 → from' ≡ min (from + w) (length p)
-      → bytes ≡ padded (xors (take w (drop from p)) r)
+module _ (frame size w : ℕ) (r hs rest : List ℕ) (count k : ℕ) (l T : List Entry) (inv : l ++ announced_all (frame + k) size hs (frames_of w r (count - k) rest) ≡ T) where
+  pub packet_turn : (t : List Entry) (bytes : List ℕ) → k < count → length r ≤ 64
+      → bytes ≡ padded (xors (take w rest) r)
       → t ≡ l ++ announced (frame + k) size bytes hs
-      → l ++ announced_all (frame + k) size hs (frames_of w r (count - k) (drop from p)) ≡ T
-      → t ++ announced_all (frame + (k + 1)) size hs (frames_of w r (count - (k + 1)) (drop from' p)) ≡ T
+      → t ++ announced_all (frame + (k + 1)) size hs (frames_of w r (count - (k + 1)) (drop (min w (length rest)) rest)) ≡ T
   unfolding announced_all announced_each frames_from frames_of
-  packet_turn t bytes from from' h hr m b e inv =
+  packet_turn t bytes h hr b e =
       let n : count - k ≡ suc (count - (k + 1)) = omega arith in
       let g : frame + (k + 1) ≡ frame + k + 1 = omega arith in
-      let x = announced-padded (frame + k) size (xors (take w (drop from p)) r) hs (omega (arith, xors-length (take w (drop from p)) r)) in
-      rw (e, b, x, g, m, drop_min (from + w) (length p) p refl, ← drop-drop w from p, append_assoc) (rw n at inv)
+      let x = announced-padded (frame + k) size (xors (take w rest) r) hs (omega (arith, xors-length (take w rest) r)) in
+      rw (e, b, x, g, drop_min w (length rest) rest refl, append_assoc) (rw n at inv)
 
-  module _ (q : List ℕ) (inv : l ++ announced_all (frame + k) size hs (frames_of w r (count - k) q) ≡ T) where
-    pub packet_end : count ≤ k → l ≡ T
-    unfolding announced_all announced_each frames_from frames_of
-    packet_end h = let n : count - k ≡ 0 = omega arith in sym (append-nil l) ∙ (rw n at inv)
+  pub packet_end : count ≤ k → l ≡ T
+  unfolding announced_all announced_each frames_from frames_of
+  packet_end h = let n : count - k ≡ 0 = omega arith in sym (append-nil l) ∙ (rw n at inv)
 
-    pub packet_room : k < count → length l + length hs ≤ length T
-    packet_room h =
-        let n : count - k ≡ suc (count - (k + 1)) = omega arith in
-        let a : length (announced_all (frame + k) size hs (frames_of w r (count - k) q)) ≡ (count - (k + 1)) * length hs + length hs =
-        announced_all-length (frame + k) size hs (frames_of w r (count - k) q) ∙ rw (frames_length w r (count - k) q, n, suc-mul) in
-        omega (arith, ap length inv, length-append l (announced_all (frame + k) size hs (frames_of w r (count - k) q)))
+  pub packet_room : k < count → length l + length hs ≤ length T
+  packet_room h =
+      let n : count - k ≡ suc (count - (k + 1)) = omega arith in
+      let a : length (announced_all (frame + k) size hs (frames_of w r (count - k) rest)) ≡ (count - (k + 1)) * length hs + length hs =
+      announced_all-length (frame + k) size hs (frames_of w r (count - k) rest) ∙ rw (frames_length w r (count - k) rest, n, suc-mul) in
+      omega (arith, ap length inv, length-append l (announced_all (frame + k) size hs (frames_of w r (count - k) rest)))
 
 -- a count of 0 holds nothing
-pub held_none : (e : Events) → held_events (record { entries = e.entries; used = 0 }) ≡ []
-unfolding held_events
-held_none e = refl
+pub held_none : (l : List Entry) → held_events (record { entries = record { list = l; count = 0 } }) ≡ []
+unfolding held_events held
+held_none l = refl
 
 -- room: 640 at most are held after, and where the numbers are frames only the room decides
 pub pushed_bound : (l more : List Entry) → length l ≤ 640 → length (pick (has_room l (length more)) (l ++ more) l) ≤ 640
@@ -152,42 +140,7 @@ packet_fits_lem l frame count hs h = rw (le-leb (frame + count) (2 ^ 32) h)
 pub packet_length : (frame size w : ℕ) (r hs p : List ℕ) (count : ℕ) → length (announced_all frame size hs (frames_of w r count p)) ≡ count * length hs
 packet_length frame size w r hs p count = announced_all-length frame size hs (frames_of w r count p) ∙ rw (frames_length w r count p)
 
--- a store that is written behind what was held at first, up to a place: as it begins, and with one more
-pub record Behind (l : List Entry) (more : List Entry) (entries : List Entry) (to : ℕ) : Type 0 where
-  pub view : take to entries ≡ l ++ more
-  pub long : length entries ≡ 640
-  pub place : to ≡ length l + length more
-
-pub behind_none : (e : Events) (n : ℕ) → n ≡ length (held_events e) → length e.entries ≡ 640 → Behind (held_events e) [] e.entries n
-unfolding held_events
-behind_none e n h l = record { view = rw (append-nil, h, ← take_count e.used e.entries); long = l; place = h ∙ sym (add-zero _) }
-
-pub behind_one : (l more entries : List Entry) (to : ℕ) (x : Entry) → to < 640 → Behind l more entries to → Behind l (more ++ x ∷ []) (set entries to x) (to + 1)
-behind_one l more entries to x h b =
-    record {
-      view = rw (add-one, take-suc-set entries to x (omega (arith, b.long)), b.view, append_assoc);
-      long = rw length-set b.long;
-      place = rw (length-append more (x ∷ [])) (omega (arith, b.place));
-    }
-
-pub pushed-behind : (e : Events) (more entries : List Entry) (to : ℕ) → length (held_events e) + length more ≤ 640 → Behind (held_events e) more entries to
-    → PushedAs e (has_room (held_events e) (length more)) more (record { ok = true; events = record { entries = entries; used = to } })
-unfolding has_room held_events
-pushed-behind e more entries to h b =
-    let t = le-leb (length (held_events e) + length more) 640 h in record { ok = sym t; view = rw t b.view; same = λ q. cc }
-
--- how many events there are to announce
-pub count_if_most : (b : Bool) → pick b 1 0 ≤ 1
-count_if_most true = omega arith
-count_if_most false = omega arith
-
-pub count_if_one : (b : Bool) (m : ℕ) → b ≡ true → m ≡ pick b 1 0 → m ≡ 1
-count_if_one b m h e = rw h at e
-
-pub count_if_length : (b : Bool) (x : Entry) → length (pick b (x ∷ []) []) ≡ pick b 1 0
-count_if_length true x = refl
-count_if_length false x = refl
-
+-- how many of two are announced
 pub both-length : (first : Bool) (one : Entry) (second : Bool) (other : Entry) → length (both first one second other) ≡ pick first 1 0 + pick second 1 0
 unfolding both
 both-length true one true other = refl
@@ -195,16 +148,33 @@ both-length true one false other = refl
 both-length false one true other = refl
 both-length false one false other = refl
 
+-- two, each where it is announced, are those of two that are given
+pub both_given : (first : Bool) (one : Entry) (second : Bool) (other : Entry) → both first one second other ≡ given (pick first (Some one) None) ++ given (pick second (Some other) None)
+unfolding both
+both_given true one true other = refl
+both_given true one false other = refl
+both_given false one true other = refl
+both_given false one false other = refl
+
+-- what an Input announces ahead of its inputs
+pub ahead_given : (resumed disconnected : Bool) → given (then_some resumed (without_input NetworkResumed)) ++ given (then_some disconnected (without_input Disconnected)) ≡ ahead resumed disconnected
+unfolding ahead both
+ahead_given true true = refl
+ahead_given true false = refl
+ahead_given false true = refl
+ahead_given false false = refl
+
 -- one event, announced or not
 module _ (e : Events) (announces : Bool) (entry : Entry) where
   abbrev More : List Entry
   More = pick announces (entry ∷ []) []
 
-  pub pushed_if : (r : Pushed) → announces ≡ true → PushedAs e (has_room (held_events e) 1) (entry ∷ []) r → PushedAs e (has_room (held_events e) (length More)) More r
-  pushed_if r h p = rw h p
+  pub pushed_if : (r : Answered) (new : Events) → announces ≡ true → PushedAs e (has_room (held_events e) 1) (entry ∷ []) r new
+      → PushedAs e (has_room (held_events e) (length More)) More r new
+  pushed_if r new h p = rw h p
 
-  pub not_pushed : announces ≡ false → length e.entries ≡ 640 → PushedAs e (has_room (held_events e) (length More)) More (record { ok = true; events = e })
-  unfolding has_room held_events
+  pub not_pushed : announces ≡ false → length (held_events e) ≤ 640 → PushedAs e (has_room (held_events e) (length More)) More done e
+  unfolding has_room
   not_pushed h l =
-      let t : leb (length (held_events e) + 0) 640 ≡ true = le-leb (length (held_events e) + 0) 640 (omega (arith, l, view_le e.used e.entries)) in
-      rw h (record { ok = sym t; view = rw (t, append-nil); same = λ _. refl })
+      let t : leb (length (held_events e) + 0) 640 ≡ true = le-leb (length (held_events e) + 0) 640 (omega arith) in
+      rw h (record { answer = rw t; view = rw (t, append-nil); same = λ _ _. refl })

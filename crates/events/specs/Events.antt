@@ -1,16 +1,19 @@
 -- The events held, and how frames are announced (E-26, E-27).
-use Rattle.std.specs.Prelude.{Bool, true, false, List, [], ◌∷◌, ◌++◌, ◌≡◌, refl, ℕ, ◌+◌, ◌-◌, ◌*◌, ◌^◌, leb, length, take, drop, replicate}
+use Rattle.std.specs.Prelude.{Bool, true, false, List, [], ◌∷◌, ◌++◌, ◌≡◌, refl, ℕ, ◌+◌, ◌-◌, ◌*◌, ◌^◌, leb, length, take, drop, replicate, Option, Some, None, Err}
 use Rattle.base.specs.Pick.{pick}
 use Rattle.ceilings.specs.Ceilings.{most_events, most_input_size}
+use Rattle.answer.specs.Number.{Answered, done}
+use Rattle.answer.specs.declared.Refusal.{Refusal}
+use Rattle.answer.specs.declared.Refusal.TheVariants.{Full}
+use Rattle.fixed_vec.specs.FixedVec.{held}
 use Rattle.packing.specs.declared.input_bytes.InputBytes.{InputBytes}
 use Rattle.events.specs.declared.Entry.{Entry}
 use Rattle.events.specs.declared.Events.{Events}
-use Rattle.events.specs.declared.Pushed.{Pushed}
 use Rattle.events.specs.declared.Event.{Event}
 
 -- the events held, oldest first; a count beyond the array is the array's length
 unfoldable pub held_events : Events → List Entry
-held_events e = take e.used e.entries
+held_events e = held e.entries
 
 -- room for n more
 unfoldable pub has_room : List Entry → ℕ → Bool
@@ -30,6 +33,11 @@ blank_entry = without_input Event.Synchronized
 -- two events in their order, each where it is announced
 unfoldable pub both : Bool → Entry → Bool → Entry → List Entry
 both first one second other = pick first (one ∷ []) [] ++ pick second (other ∷ []) []
+
+-- an event that is there, or none
+abbrev pub given : Option Entry → List Entry
+given (Some entry) = entry ∷ []
+given None = []
 
 -- what an Input may announce ahead of its inputs
 unfoldable pub ahead : (resumed disconnected : Bool) → List Entry
@@ -62,11 +70,11 @@ announced_all frame size handles frames = announced_each size handles (frames_fr
 unfoldable pub packet_fits : List Entry → (frame count : ℕ) → (handles : List ℕ) → Bool
 packet_fits l frame count handles = pick (leb (frame + count) (2 ^ 32)) (has_room l (count * length handles)) false
 
--- all of some entries at the end where the call is able to, else nothing changes
-pub record PushedAs (e : Events) (able : Bool) (more : List Entry) (r : Pushed) : Type 0 where
-  pub ok : r.ok ≡ able
-  pub view : held_events r.events ≡ pick able (held_events e ++ more) (held_events e)
-  pub same : r.ok ≡ false → r.events ≡ e
+-- all of some entries at the end where the call is able to, else Full and nothing changes
+pub record PushedAs (e : Events) (able : Bool) (more : List Entry) (r : Answered) (new : Events) : Type 0 where
+  pub answer : r ≡ pick able done (Err Full)
+  pub view : held_events new ≡ pick able (held_events e ++ more) (held_events e)
+  pub same : (refusal : Refusal) → r ≡ Err refusal → new ≡ e
 
 -- worked: frame 7 of two players with two bytes each
 frame_example : announced 7 2 (1 ∷ 2 ∷ 3 ∷ 4 ∷ []) (0 ∷ 3 ∷ []) ≡ input_entry 7 0 (1 ∷ 2 ∷ []) ∷ input_entry 7 3 (3 ∷ 4 ∷ []) ∷ []

@@ -1,15 +1,16 @@
 // The events that wait to be taken, oldest first. An event's input stands beside the event: an enum holds no bytes.
 #![tactic(auto)]
 
-ghost use Rattle.std.specs.Prelude.{◌≡◌, [], ◌∷◌, ◌++◌, ◌+◌, ◌*◌, ◌^◌, ◌≤◌, min, false, leb, length, take, drop, get_or};
-ghost use Rattle.base.specs.Pick.{pick};
-ghost use Rattle.ceilings.specs.Ceilings.{most_players, most_width, most_events};
+ghost use Rattle.std.specs.Prelude.{◌≡◌, [], ◌∷◌, ◌++◌, ◌+◌, ◌<◌, ◌≤◌, length, get_or};
+ghost use Rattle.ceilings.specs.Ceilings.{most_events};
 ghost use Rattle.packing.specs.Packing.{frames_of};
-ghost use Rattle.events.specs.Events.{held_events, has_room, input_entry, announced_all, packet_fits, blank_entry, both, ahead, PushedAs};
+ghost use Rattle.events.specs.Events.{held_events, has_room, input_entry, announced, announced_all, packet_fits, blank_entry, given, ahead, PushedAs};
 
-use ceilings::{MOST_EVENTS, MOST_INPUT_SIZE, MOST_PLAYERS, MOST_WIDTH};
+use answer::{Answer, Refusal};
+use ceilings::{MOST_EVENTS, MOST_INPUT_SIZE, MOST_WIDTH};
+use fixed_vec::FixedVec;
 
-#[derive(Clone, Copy)]
+#[derive(Clone, Copy, Debug, PartialEq, Eq)]
 pub enum Event {
     Synchronizing { total: u32, count: u32 },
     Synchronized,
@@ -20,7 +21,7 @@ pub enum Event {
 }
 
 // An event with its input, zeros past the input's size; all zeros beside any event but Input.
-#[derive(Clone, Copy)]
+#[derive(Clone, Copy, Debug, PartialEq, Eq)]
 pub struct Entry {
     pub event: Event,
     pub input: [u8; MOST_INPUT_SIZE],
@@ -47,53 +48,36 @@ pub const NETWORK_RESUMED: Entry = Entry {
 
 #[derive(Clone, Copy)]
 pub struct Events {
-    pub entries: [Entry; MOST_EVENTS],
-    pub used: usize,
+    pub entries: FixedVec<Entry, MOST_EVENTS>,
 }
 
-// The store stands first: a flag in front of it is followed by padding, and over padding the compiler copies the store once more.
-#[derive(Clone, Copy)]
-pub struct Pushed {
-    pub events: Events,
-    pub ok: bool,
+// What an Input may announce ahead of its inputs.
+#[derive(Clone, Copy, Debug, PartialEq, Eq)]
+pub struct Notices {
+    pub resumed: bool,
+    pub disconnected: bool,
 }
 
-// A place further on, or the end: a size is any number.
-fn onward(at: usize, size: usize, end: usize) -> usize
-    requires { at ≤ end }
-    ensures { result ≡ min (at + size) end }
+// The frames of a packet: `count` of `width` bytes each, the first of them `first`.
+#[derive(Clone, Copy, Debug, PartialEq, Eq)]
+pub struct Frames {
+    pub first: u32,
+    pub count: u32,
+    pub width: usize,
+}
+
+// One player's input of a frame.
+#[tactic(auto, unfolding(crate::specs::Events::input_of, crate::specs::Events::input_entry))]
+fn input_entry(frame: u32, player: u32, bytes: &[u8]) -> Entry
+    ensures { result ≡ input_entry frame player bytes.now }
 {
-    if size < end - at { at + size } else { end }
-}
-
-// One player's input of a frame: its part of the frame's bytes.
-#[tactic(auto, using(crate::proofs::Laws::entry_is, base::proofs::Arrays::lay_turn, crate::proofs::Laws::no_input, crate::proofs::Laws::no_input_length, crate::proofs::Laws::part_at, crate::proofs::Laws::part_length), unfolding(crate::proofs::Laws::no_input))]
-fn input_entry(frame: u32, player: u32, bytes: [u8; MOST_WIDTH], at: usize, size: usize) -> Entry
-    requires { at ≤ most_width }
-    ensures { result ≡ input_entry frame player (take size (drop at bytes)) }
-{
-    let n = numbers::least(MOST_INPUT_SIZE, numbers::least(size, MOST_WIDTH - at));
     let mut input = NO_INPUT;
-    let mut i = 0;
-    while i < n {
-        input[i] = bytes[at + i];
-        i += 1;
-    }
+    let n = bytes.len().min(MOST_INPUT_SIZE);
+    input[..n].copy_from_slice(&bytes[..n]);
     Entry {
         event: Event::Input { frame, player },
         input,
     }
-}
-
-// Whether a packet's events fit behind `used`, and its frames' numbers are frames.
-fn packet_fits(used: usize, frame: u32, count: u32, players: usize) -> bool
-    requires { (used ≤ most_events + 2) × (players ≤ most_players) }
-    ensures { result ≡ pick (leb (frame + count) (2 ^ 32)) (leb (used + count * players) most_events) false }
-{
-    if numbers::WORD < (frame as u64) + (count as u64) {
-        return false;
-    }
-    used + (count as usize) * players <= MOST_EVENTS
 }
 
 impl Events {
@@ -102,124 +86,128 @@ impl Events {
         ensures { held_events result ≡ [] }
     {
         Events {
-            entries: [SYNCHRONIZED; MOST_EVENTS],
-            used: 0,
+            entries: FixedVec::new(SYNCHRONIZED),
         }
     }
 
-    #[tactic(auto, using(base::proofs::Arrays::unmap), unfolding(crate::specs::Events::held_events))]
-    pub fn count(self) -> usize
-        ensures { result ≡ length (held_events self) }
+    #[tactic(auto, unfolding(crate::specs::Events::held_events))]
+    pub fn count(&self) -> usize
+        ensures { result ≡ length (held_events self.now) }
     {
-        numbers::least(self.used, MOST_EVENTS)
+        self.entries.len()
     }
 
     // The i-th, or Synchronized with no input.
-    #[tactic(auto, using(base::proofs::Orders::get_or_within, base::proofs::Arrays::unmap, base::proofs::Arrays::view_at, base::proofs::Arrays::view_le), unfolding(crate::specs::Events::blank_entry, crate::specs::Events::held_events))]
-    pub fn entry(self, i: usize) -> Entry
-        ensures { result ≡ get_or (held_events self) i blank_entry }
+    #[tactic(auto, unfolding(crate::specs::Events::blank_entry, crate::specs::Events::held_events))]
+    pub fn entry(&self, i: usize) -> Entry
+        ensures { result ≡ get_or (held_events self.now) i blank_entry }
     {
-        let n = self.count();
-        if i < n {
-            return self.entries[i];
-        }
-        SYNCHRONIZED
+        self.entries.get(i).unwrap_or(SYNCHRONIZED)
+    }
+
+    // Whether there is room for n more.
+    #[tactic(auto, unfolding(crate::specs::Events::has_room))]
+    fn has_room(&self, n: usize) -> bool
+        ensures { result ≡ has_room (held_events self.now) n }
+    {
+        self.count().saturating_add(n) <= MOST_EVENTS
+    }
+
+    // One more at the end, for which there is room.
+    #[tactic(auto, unfolding(crate::specs::Events::held_events))]
+    fn append(&mut self, entry: Entry)
+        requires { length (held_events self.old) < most_events }
+        ensures { held_events self.new ≡ held_events self.old ++ entry ∷ [] }
+    {
+        self.entries.push(entry).unwrap()
     }
 
     // One more at the end; where there is no room, unchanged.
-    #[tactic(auto, using(base::proofs::Arrays::store_end, base::proofs::Arrays::unmap), unfolding(crate::specs::Events::has_room, crate::specs::Events::held_events))]
-    pub fn push(mut self, entry: Entry) -> Pushed
-        ensures { PushedAs self (has_room (held_events self) 1) (entry ∷ []) result }
+    #[tactic(auto, unfolding(crate::specs::Events::has_room, crate::specs::Events::held_events))]
+    pub fn push(&mut self, entry: Entry) -> Answer
+        ensures { PushedAs self.old (has_room (held_events self.old) 1) (entry ∷ []) result self.new }
     {
-        let n = self.count();
-        let ok = n < MOST_EVENTS;
-        if ok {
-            self.entries[n] = entry;
-            self.used = n + 1;
-        }
-        Pushed { events: self, ok }
+        self.entries.push(entry).map_err(|_| Refusal::Full)
     }
 
-    // Two in their order, each where it is to be announced; where there is no room for all, unchanged.
-    #[tactic(auto, using(crate::proofs::Laws::behind_none, crate::proofs::Laws::behind_one, crate::proofs::Laws::count_if_length, crate::proofs::Laws::count_if_most, crate::proofs::Laws::count_if_one, base::proofs::Arrays::unmap, base::proofs::Arrays::view_le), unfolding(crate::specs::Events::both, crate::specs::Events::has_room, crate::specs::Events::held_events))]
-    pub fn push_both(mut self, first: bool, one: Entry, second: bool, other: Entry) -> Pushed
-        ensures { PushedAs self (has_room (held_events self) (length (both first one second other))) (both first one second other) result }
+    // Those of two that are given, in their order. There is room for all.
+    fn append_both(&mut self, first: Option<Entry>, second: Option<Entry>)
+        requires { length (held_events self.old) + length (given first ++ given second) ≤ most_events }
+        ensures { held_events self.new ≡ held_events self.old ++ (given first ++ given second) }
     {
-        let used = self.count();
-        let ok = used + numbers::count_if(first, 1) + numbers::count_if(second, 1) <= MOST_EVENTS;
-        if ok {
-            let mut to = used;
-            if first {
-                self.entries[to] = one;
-                to += 1;
-            }
-            if second {
-                self.entries[to] = other;
-                to += 1;
-            }
-            self.used = to;
+        if let Some(entry) = first {
+            self.append(entry);
         }
-        Pushed { events: self, ok }
+        if let Some(entry) = second {
+            self.append(entry);
+        }
     }
 
-    // What an Input announces: the end of an interruption, a disconnect, and the packet's Input events, frame by frame, in each one per handle: `count`
-    // frames of `width` bytes from a place of the payload on, each XOR the reference, the first being `frame`. Where there is no room for all, or a
-    // number would be no frame, unchanged. All of it is done in here, so that the store is handed over once.
-    #[tactic(auto, using(crate::proofs::Laws::Behind, crate::proofs::Laws::behind_none, crate::proofs::Laws::behind_one, crate::proofs::Laws::count_if_length, crate::proofs::Laws::count_if_most, crate::proofs::Laws::count_if_one, crate::proofs::Laws::drop_min, crate::proofs::Laws::each, crate::proofs::Laws::frame_end, crate::proofs::Laws::frame_turn, crate::proofs::Laws::packet_end, crate::proofs::Laws::packet_length, crate::proofs::Laws::packet_room, crate::proofs::Laws::packet_turn, base::proofs::Arrays::unmap, base::proofs::Arrays::view_le), unfolding(crate::specs::Events::ahead, crate::specs::Events::both, crate::specs::Events::has_room, crate::specs::Events::held_events, crate::specs::Events::packet_fits))]
+    // Those of two that are given, in their order; where there is no room for all, unchanged.
+    #[tactic(auto, unfolding(crate::specs::Events::has_room))]
+    pub fn push_both(&mut self, first: Option<Entry>, second: Option<Entry>) -> Answer
+        ensures { PushedAs self.old (has_room (held_events self.old) (length (given first ++ given second))) (given first ++ given second) result self.new }
+    {
+        if !self.has_room(usize::from(first.is_some()) + usize::from(second.is_some())) {
+            return Err(Refusal::Full);
+        }
+        self.append_both(first, second);
+        Ok(())
+    }
+
+    // One frame, once per handle in their order, each with the next `size` of the frame's bytes. There is room for all.
+    #[tactic(auto, unfolding(crate::specs::Events::announced))]
+    fn announce(&mut self, frame: u32, bytes: &[u8], handles: &[u32], size: usize)
+        requires { length (held_events self.old) + length handles.now ≤ most_events }
+        ensures { held_events self.new ≡ held_events self.old ++ announced frame size bytes.now handles.now }
+    {
+        let mut rest = bytes;
+        for handle in handles {
+            let (input, others) = rest.split_at(size.min(rest.len()));
+            self.append(input_entry(frame, *handle, input));
+            rest = others;
+        }
+    }
+
+    // Whether there is room for a packet's events, and its frames' numbers are frames.
+    #[tactic(auto, unfolding(crate::specs::Events::has_room, crate::specs::Events::packet_fits, crate::specs::Events::ahead, crate::specs::Events::both))]
+    fn packet_fits(&self, notices: Notices, first: u32, count: u32, handles: &[u32]) -> bool
+        ensures { result ≡ packet_fits (held_events self.now ++ ahead notices.resumed notices.disconnected) first count handles.now }
+    {
+        let ahead = usize::from(notices.resumed) + usize::from(notices.disconnected);
+        let inputs = (count as usize).saturating_mul(handles.len());
+        u64::from(first) + u64::from(count) <= numbers::WORD
+            && self.has_room(inputs.saturating_add(ahead))
+    }
+
+    // What an Input announces: the end of an interruption, a disconnect, and the packet's Input events, frame by frame, in each one per handle. The frames
+    // stand one behind the other in the payload, each XOR the reference. Where there is no room for all, or a number would be no frame, unchanged.
+    #[tactic(auto, using(crate::proofs::Laws::packet_room), unfolding(crate::specs::Events::ahead, crate::specs::Events::both, crate::specs::Events::has_room, crate::specs::Events::packet_fits))]
     pub fn push_packet(
-        mut self,
-        resumed: bool,
-        disconnected: bool,
-        frame: u32,
-        count: u32,
+        &mut self,
+        notices: Notices,
+        frames: Frames,
         payload: &[u8],
-        at: usize,
-        width: usize,
-        reference: [u8; MOST_WIDTH],
-        handles: [u32; MOST_PLAYERS],
-        handle_count: usize,
+        reference: &[u8; MOST_WIDTH],
+        handles: &[u32],
         size: usize,
-    ) -> Pushed
-        ensures { PushedAs self (packet_fits (held_events self ++ ahead resumed disconnected) frame count (take handle_count handles))
-            (ahead resumed disconnected ++ announced_all frame size (take handle_count handles) (frames_of width reference count (drop at payload.now))) result }
+    ) -> Answer
+        ensures { PushedAs self.old (packet_fits (held_events self.old ++ ahead notices.resumed notices.disconnected) frames.first frames.count handles.now)
+            (ahead notices.resumed notices.disconnected ++ announced_all frames.first size handles.now (frames_of frames.width reference.now frames.count payload.now)) result self.new }
     {
-        let players = numbers::least(handle_count, MOST_PLAYERS);
-        let used = self.count();
-        let ok = packet_fits(
-            used + numbers::count_if(resumed, 1) + numbers::count_if(disconnected, 1),
-            frame,
-            count,
-            players,
-        );
-        if ok {
-            let end = payload.len();
-            let mut to = used;
-            if resumed {
-                self.entries[to] = NETWORK_RESUMED;
-                to += 1;
-            }
-            if disconnected {
-                self.entries[to] = DISCONNECTED;
-                to += 1;
-            }
-            let mut from = numbers::least(at, end);
-            let mut k = 0;
-            'frames: while k < count {
-                let bytes = packing::frame_at(payload, from, width, reference);
-                let mut part = 0;
-                let mut i = 0;
-                'handles: while i < players {
-                    let entry = input_entry(frame + k, handles[i], bytes, part, size);
-                    self.entries[to] = entry;
-                    to += 1;
-                    part = onward(part, size, MOST_WIDTH);
-                    i += 1;
-                }
-                from = onward(from, width, end);
-                k += 1;
-            }
-            self.used = to;
+        if !self.packet_fits(notices, frames.first, frames.count, handles) {
+            return Err(Refusal::Full);
         }
-        Pushed { events: self, ok }
+        self.append_both(
+            notices.resumed.then_some(NETWORK_RESUMED),
+            notices.disconnected.then_some(DISCONNECTED),
+        );
+        let mut rest = payload;
+        for k in 0..frames.count {
+            let bytes = packing::frame_at(rest, 0, frames.width, reference);
+            self.announce(frames.first + k, &bytes, handles, size);
+            rest = rest.split_at(frames.width.min(rest.len())).1;
+        }
+        Ok(())
     }
 }

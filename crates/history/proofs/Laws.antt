@@ -1,42 +1,32 @@
 -- Laws of the received inputs' definitions, on lists alone: the loops that search, and the one that takes a packet in.
-use borrow.Author.Tests.{eq-eqb, ne_eqb, eqb-true}
-use mathlib.Core.Path.{◌≡◌, refl, ◌∙◌, ap}
+use borrow.Author.Tests.{eqb-true, ltb-true, ltb-false}
+use mathlib.Core.Path.{◌≡◌, refl, ◌∙◌}
 use mathlib.Core.Bool.{Bool, true, false}
 use mathlib.Core.List.{List, [], ◌∷◌, ◌++◌, append-nil}
 use Prim.Native.Nat.{ℕ, suc, ◌+◌, ◌-◌, ◌≤◌, ◌<◌, max}
 use native.Mathlib.Omega.{arith}
-use native.Mathlib.Numerals.{add-one}
 use lib.Dec.{eqb}
-use lib.ListN.{length, take, drop, set, get_or, drop_of_length-le}
-use lib.Seq.{drop-cons, drop-drop, take_all, take_at}
+use lib.ListN.{length, take, drop}
+use lib.Seq.{drop-drop, take_all, take_at, append_snoc}
 use Rattle.base.specs.Pick.{pick}
 use Rattle.base.specs.Keyed.{kept}
-use Rattle.base.proofs.Arrays.{view_at, view_le}
-use Rattle.base.proofs.Kept.{kept_took, kept_left}
+use Rattle.base.proofs.Arrays.{view_le}
+use Rattle.fixed_vec.specs.FixedVec.{held, PushedAs}
+use Rattle.fixed_vec.specs.declared.FixedVec.{FixedVec}
+use Rattle.std.specs.Result.{is_err}
+use Rattle.std.specs.Prelude.{cond, find, fold, Option, Some, None, Result, Ok, Err, ltb}
 use Rattle.frame.specs.Bias.{null_frame}
 use Rattle.packing.specs.Packing.{xors, frames_of}
 use Rattle.packing.specs.Pad.{padded}
 use Rattle.packing.specs.declared.input_bytes.InputBytes.{InputBytes}
 use Rattle.history.specs.declared.History.{History}
-use Rattle.history.specs.History.{received, blank_frame, highest, newest_of, Found, found_in, looked_at, numbered, Ascending}
+use Rattle.history.specs.History.{received, blank_frame, highest, newest_of, Found, found_in, reference_by, reference_frame, looked_at, numbered, Ascending}
 
-pub received-le : (h : History) → length (received h) ≤ length h.slots
-unfolding received
-received-le h = view_le h.used h.slots
-
-pub received_at : (h : History) (k : ℕ) (d : InputBytes) → k < length (received h) → get_or (received h) k d ≡ get_or h.slots k d
-unfolding received
-received_at h k d b = view_at h.used h.slots k d b
+pub received-le : (h : History) → length (received h) ≤ length h.inputs.list
+unfolding received held
+received-le h = view_le h.inputs.count h.inputs.list
 
 -- ---- the newest
-
-pub highest_turn : (l : List InputBytes) (k : ℕ) (d : InputBytes) → k < length l → highest (drop k l) ≡ max (get_or l k d).frame (highest (drop (k + 1) l))
-unfolding highest
-highest_turn l k d h = rw (add-one, drop-cons l k d h)
-
-pub highest_end : (l : List InputBytes) (k : ℕ) → length l ≤ k → highest (drop k l) ≡ 0
-unfolding highest
-highest_end l k h = rw (drop_of_length-le l h)
 
 pub newest_none : (l : List InputBytes) → length l ≡ 0 → newest_of l ≡ 2147483647
 unfolding newest_of
@@ -48,25 +38,29 @@ unfolding newest_of
 newest_is [] h = absurd (omega arith)
 newest_is (x ∷ l) h = refl
 
+highest_from : (n : ℕ) (l : List InputBytes) → fold (λ most x. max x.frame most) n l ≡ max n (highest l)
+unfolding highest
+highest_from n [] = omega arith
+highest_from n (x ∷ l) = highest_from (max x.frame n) l ∙ omega arith
+
+pub newest_fold : (l : List InputBytes) → 0 < length l → newest_of l ≡ fold (λ most x. max x.frame most) 0 l
+newest_fold l h = omega (arith, newest_is l h, highest_from 0 l)
+
 -- ---- a frame's input
 
-module _ (f : ℕ) (l : List InputBytes) (k : ℕ) where
-  pub found_turn : (d : InputBytes) → k < length l → ((get_or l k d).frame ≡ f → ⊥) → found_in f (drop k l) ≡ found_in f (drop (k + 1) l)
-  unfolding found_in
-  found_turn d h n = rw (add-one, drop-cons l k d h, ne_eqb _ _ n)
+-- what is found, if it is held
+found_by : (f : ℕ) (l : List InputBytes) → pick (found_in f l).held (Some (found_in f l).input) None ≡ find (λ x. eqb x.frame f) l
+unfolding found_in
+found_by f [] = refl
+found_by f (x ∷ l) =
+    elim (eqb x.frame f) as
+    (λ b. pick (pick {A = Found} b (record { held = true; input = x }) (found_in f l)).held (Some (pick {A = Found} b (record { held = true; input = x }) (found_in f l)).input) None ≡ cond b (Some x) (find (λ y. eqb y.frame f) l))
+    [ true ↦ refl | false ↦ found_by f l ]
 
-  pub found_stop : (d : InputBytes) → k < length l → (get_or l k d).frame ≡ f → found_in f (drop k l) ≡ record { held = true; input = get_or l k d }
-  unfolding found_in
-  found_stop d h e = rw (drop-cons l k d h, eq-eqb _ _ e)
-
-  pub found_end : length l ≤ k → found_in f (drop k l) ≡ record { held = false; input = blank_frame }
-  unfolding found_in
-  found_end h = rw (drop_of_length-le l h)
-
-pub looked_none : (start : ℕ) (l : List InputBytes) → length l ≡ 0 → looked_at start l ≡ record { input = blank_frame; held = false; newest = null_frame }
-unfolding looked_at found_in newest_of
-looked_none start [] h = refl
-looked_none start (x ∷ l) h = absurd (omega arith)
+pub looked_is : (start newest frame : ℕ) (l : List InputBytes) (r : Option InputBytes) → newest ≡ newest_of l → frame ≡ reference_by newest start → r ≡ find (λ x. eqb x.frame frame) l
+    → record { newest = newest; reference = r } ≡ looked_at start l
+unfolding looked_at reference_frame
+looked_is start newest frame l r n f e = rw (e, f, n, found_by)
 
 -- what is found has the frame
 pub found_frame : (f : ℕ) (l : List InputBytes) → (found_in f l).held ≡ true → (found_in f l).input.frame ≡ f
@@ -113,13 +107,15 @@ module _ (start width : ℕ) (r payload : List ℕ) (count : ℕ) where
   coming_none k place h = let n : count - k ≡ 0 = omega arith in rw n
 
   module _ (p : InputBytes → Bool) where
-    -- the loop that appends those that pass a test, as many as fit, to the first w of an array: its two turns, and its two ends
-    module _ (l T : List InputBytes) (w k place : ℕ) (h : k < count) (inv : take 33 (take w l ++ kept p (coming k place)) ≡ T) where
-      pub fill_turn : w < length l → p (next k place) ≡ true → take 33 (take (w + 1) (set l w (next k place)) ++ kept p (coming (k + 1) (place + width))) ≡ T
-      fill_turn b e = ap (take 33) (kept_took p l w (next k place) (coming (k + 1) (place + width)) b e) ∙ (rw (coming_turn k place h) at inv)
+    -- the loop that appends those that pass a test, as many as fit: its two turns, and its two ends
+    module _ (out T : List InputBytes) (k place : ℕ) (h : k < count) (inv : take 33 (out ++ kept p (coming k place)) ≡ T) where
+      pub fill_turn : p (next k place) ≡ true → take 33 ((out ++ next k place ∷ []) ++ kept p (coming (k + 1) (place + width))) ≡ T
+      unfolding kept
+      fill_turn e = rw append_snoc (rw (coming_turn k place h, e) at inv)
 
-      pub pass_turn : p (next k place) ≡ false → take 33 (take w l ++ kept p (coming (k + 1) (place + width))) ≡ T
-      pass_turn e = ap (take 33) (kept_left p l w (next k place) (coming (k + 1) (place + width)) e) ∙ (rw (coming_turn k place h) at inv)
+      pub pass_turn : p (next k place) ≡ false → take 33 (out ++ kept p (coming (k + 1) (place + width))) ≡ T
+      unfolding kept
+      pass_turn e = rw (coming_turn k place h, e) at inv
 
     pub fill_end : (out : List InputBytes) (k place : ℕ) → count ≤ k → length out ≤ 33 → take 33 (out ++ kept p (coming k place)) ≡ out
     unfolding kept
@@ -127,3 +123,18 @@ module _ (start width : ℕ) (r payload : List ℕ) (count : ℕ) where
 
     pub fill_full : (out : List InputBytes) (k place : ℕ) → length out ≡ 33 → take 33 (out ++ kept p (coming k place)) ≡ out
     fill_full out k place b = take_at out (kept p (coming k place)) 33 b
+
+-- ---- a push of the store
+
+module _ (v new : FixedVec InputBytes 33) (x : InputBytes) (r : Result Unit InputBytes) (e : PushedAs 33 v x r new) where
+  -- taken: it stands behind the others, and all still fit
+  pub push_done : is_err r ≡ false → (held new ≡ held v ++ x ∷ []) × (length (held v) < 33)
+  push_done h =
+      elim (ltb (length (held v)) 33) as (λ b. ltb (length (held v)) 33 ≡ b → r ≡ pick b (Ok tt) (Err x) → held new ≡ pick b (held v ++ x ∷ []) (held v) → (held new ≡ held v ++ x ∷ []) × (length (held v) < 33))
+      [ true ↦ λ t a b. (b, ltb-true _ _ t) | false ↦ λ t a b. absurd (let z : ◌≡◌ {A = Bool} true false = rw a at h in cc) ] refl e.0 e.1
+
+  -- refused: it is as it was, and full
+  pub push_refused : is_err r ≡ true → (held new ≡ held v) × (33 ≤ length (held v))
+  push_refused h =
+      elim (ltb (length (held v)) 33) as (λ b. ltb (length (held v)) 33 ≡ b → r ≡ pick b (Ok tt) (Err x) → held new ≡ pick b (held v ++ x ∷ []) (held v) → (held new ≡ held v) × (33 ≤ length (held v)))
+      [ true ↦ λ t a b. absurd (let z : ◌≡◌ {A = Bool} false true = rw a at h in cc) | false ↦ λ t a b. (b, ltb-false _ _ t) ] refl e.0 e.1

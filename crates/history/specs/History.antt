@@ -1,7 +1,8 @@
 -- The inputs received: what the history holds, the newest frame, and what a packet does to it.
-use Rattle.std.specs.Prelude.{◌≡◌, refl, Bool, true, false, List, [], ◌∷◌, ◌++◌, ℕ, zero, suc, ◌+◌, ◌-◌, ◌*◌, ◌^◌, ◌≤◌, max, ltb, leb, eqb, take}
+use Rattle.std.specs.Prelude.{◌≡◌, refl, Bool, true, false, List, [], ◌∷◌, ◌++◌, ℕ, zero, suc, ◌+◌, ◌-◌, ◌*◌, ◌^◌, ◌≤◌, max, ltb, leb, eqb, take, Some, None}
 use Rattle.base.specs.Pick.{pick}
 use Rattle.base.specs.Keyed.{kept}
+use Rattle.fixed_vec.specs.FixedVec.{held}
 use Rattle.frame.specs.Bias.{null_frame}
 use Rattle.packing.specs.Packing.{unpack}
 use Rattle.packing.specs.Pad.{zeros, padded}
@@ -11,7 +12,7 @@ use Rattle.history.specs.declared.Looked.{Looked}
 
 -- the inputs held; a count beyond the array is the array's length
 unfoldable pub received : History → List InputBytes
-received h = take h.used h.slots
+received h = held h.inputs
 
 -- what is held before anything is received
 unfoldable pub blank_frame : InputBytes
@@ -43,9 +44,9 @@ reference_by newest start = pick (eqb newest null_frame) null_frame (start - 1)
 unfoldable pub reference_frame : ℕ → List InputBytes → ℕ
 reference_frame start history = reference_by (newest_of history) start
 
--- what is found, beside the newest frame
+-- what is found, if it is held, beside the newest frame
 abbrev pub beside : ℕ → Found → Looked
-beside newest found = record { input = found.input; held = found.held; newest = newest }
+beside newest found = record { newest = newest; reference = pick found.held (Some found.input) None }
 
 -- the newest frame, and what is found of the reference of a packet from a frame on
 unfoldable pub looked_at : ℕ → List InputBytes → Looked
@@ -117,14 +118,14 @@ unfolding taken_in at_line above kept newest_of highest input
 again = refl
 
 -- worked: a packet from frame 12 on after 10 and 11 is packed against 11, a first one against the blank frame; one from 13 on against 12, which is not held
-looks : looked_at 12 (input 10 ∷ input 11 ∷ []) ≡ record { input = input 11; held = true; newest = 11 }
+looks : looked_at 12 (input 10 ∷ input 11 ∷ []) ≡ record { newest = 11; reference = Some (input 11) }
 unfolding looked_at reference_frame found_in newest_of highest input
 looks = refl
 
-looks_first : looked_at 12 (blank_frame ∷ []) ≡ record { input = blank_frame; held = true; newest = null_frame }
+looks_first : looked_at 12 (blank_frame ∷ []) ≡ record { newest = null_frame; reference = Some blank_frame }
 unfolding looked_at reference_frame found_in newest_of highest blank_frame
 looks_first = refl
 
-looks_in_vain : looked_at 13 (input 10 ∷ input 11 ∷ []) ≡ record { input = blank_frame; held = false; newest = 11 }
+looks_in_vain : looked_at 13 (input 10 ∷ input 11 ∷ []) ≡ record { newest = 11; reference = None }
 unfolding looked_at reference_frame found_in newest_of highest input
 looks_in_vain = refl

@@ -1,5 +1,6 @@
 // The printed line of a datagram: the kind, the magic and each field's name and value, or the word
 // refused and the number. It has no newline at its end.
+// The buffer and the place in it are two parameters: the buffer is the caller's, and the clauses (`page`) are over the whole buffer and the place.
 #![tactic(auto)]
 
 mod body;

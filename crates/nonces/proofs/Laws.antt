@@ -1,19 +1,21 @@
 -- Laws of the nonces outstanding, on their list: which are outstanding after an issue, which one is forgotten, no nonce twice, lengths.
-use borrow.Author.Tests.{lt-ltb, le-ltb, eq-eqb, ne_eqb}
-use mathlib.Core.Bool.{true, false, not, ◌&&◌, and-false}
+use borrow.Author.Tests.{lt-ltb, le-ltb, eq-eqb, ne_eqb, eqb-true, eqb-false}
+use mathlib.Core.Bool.{Bool, true, false, not, ◌&&◌, ◌||◌, and-false}
 use mathlib.Core.List.{List, [], ◌∷◌, ◌++◌, append_assoc}
 use mathlib.Core.Path.{◌≡◌, refl, sym, ◌∙◌, ap}
 use Prim.Native.Nat.{ℕ, ◌+◌, ◌-◌, ◌≤◌}
 use native.Mathlib.Omega.{arith}
 use lib.Dec.{eqb, ltb}
 use lib.ListN.{length, take, drop, length-take, length-append, take-append-drop}
+use Rattle.std.specs.List.{list_any}
 use Rattle.base.specs.Pick.{pick}
 use Rattle.base.specs.Keyed.{has, without, Distinct}
 use Rattle.base.specs.Last.{last_of}
 use Rattle.base.proofs.Kept.{kept-length}
 use Rattle.base.proofs.Last.{last_few, last_all, last_rest}
 use Rattle.base.proofs.Removal.{kept_distinct, without_gone, without_others, without_none, without-shorter, without-length, has-append, distinct_end, drop-gone, drop_distinct, drop-has}
-use Rattle.nonces.specs.Nonces.{is_outstanding, spent, issued, forgotten}
+use Rattle.nonces.specs.declared.Nonces.{Nonces}
+use Rattle.nonces.specs.Nonces.{outstanding, is_outstanding, spent, issued, forgotten, renewed, SpentAs}
 
 module _ (nonce : ℕ) (l : List ℕ) where
   -- ---- spent
@@ -126,3 +128,46 @@ module _ (nonce : ℕ) (l : List ℕ) (few : length l ≤ 256) (e : is_outstandi
   pub next_forgets_none : (next : ℕ) → forgotten next (spent nonce l) ≡ []
   unfolding without
   next_forgets_none next = forgotten_none next (spent nonce l) (omega (arith, others_few, kept-length (λ x. not (eqb next x)) (spent nonce l)))
+
+-- ---- for the code
+
+-- what the slice's `contains` answers
+pub has_any : (nonce : ℕ) (l : List ℕ) → list_any (λ y. eqb y nonce) l ≡ is_outstanding nonce l
+unfolding has
+has_any nonce [] = refl
+has_any nonce (x ∷ l) =
+    elim (eqb x nonce) as (λ b. eqb x nonce ≡ b → (b || list_any (λ y. eqb y nonce) l) ≡ pick (eqb nonce x) true (has (λ y. y) nonce l))
+    [ true ↦ λ e. rw (eq-eqb nonce x (sym (eqb-true x nonce e))) | false ↦ λ e. rw (ne_eqb nonce x (λ q. eqb-false x nonce e (sym q))) (has_any nonce l) ]
+    refl
+
+-- spent, and none issued: also where it was not outstanding, all but it are left
+pub renewed_none : (nonce : ℕ) (l : List ℕ) → renewed nonce false 0 l ≡ spent nonce l
+unfolding renewed
+renewed_none nonce l =
+    elim (is_outstanding nonce l) as (λ b. is_outstanding nonce l ≡ b → pick b (spent nonce l) l ≡ spent nonce l)
+    [ true ↦ λ _. refl | false ↦ λ e. sym (without_none (λ x. x) nonce l e) ]
+    refl
+
+module _ (s : Nonces) (nonce : ℕ) (r : Bool) where
+  module _ (e : r ≡ is_outstanding nonce (outstanding s)) where
+    pub forgets : (new : Nonces) → r ≡ true → outstanding new ≡ spent nonce (outstanding s) → SpentAs s nonce false 0 r new
+    forgets new f v = record { found = e; view = v ∙ sym (renewed_none nonce (outstanding s)); same = λ q. cc }
+
+    pub forgets_none : r ≡ false → SpentAs s nonce false 0 r s
+    unfolding renewed
+    forgets_none f = record { found = e; view = rw (sym e ∙ f); same = λ _. refl }
+
+  -- then the next one is issued where the handshake goes on
+  module _ (goes_on : Bool) (next : ℕ) (mid : Nonces) (a : SpentAs s nonce false 0 r mid) where
+    pub goes : (new : Nonces) → r ≡ true → goes_on ≡ true → outstanding new ≡ issued next (outstanding mid) → SpentAs s nonce goes_on next r new
+    unfolding renewed
+    goes new f on v =
+        record { found = a.found; view = v ∙ ap (issued next) (a.view ∙ renewed_none nonce (outstanding s)) ∙ rw (sym a.found ∙ f, on); same = λ q. cc }
+
+    pub stops : goes_on ≡ false → SpentAs s nonce goes_on next r mid
+    unfolding renewed
+    stops over = record { found = a.found; view = a.view ∙ rw over; same = a.same }
+
+    pub absent : r ≡ false → SpentAs s nonce goes_on next r mid
+    unfolding renewed
+    absent f = record { found = a.found; view = a.view ∙ rw (sym a.found ∙ f); same = a.same }

@@ -6,7 +6,6 @@ use Prim.Native.Nat.{ℕ}
 use lib.ListN.{length}
 use Rattle.base.proofs.Settled.{settled}
 use Rattle.nonces.specs.declared.Nonces.{Nonces}
-use Rattle.nonces.specs.declared.Spent.{Spent}
 use Rattle.nonces.specs.Nonces.{outstanding, issued, SpentAs}
 
 pub new_settled : (r s : Nonces) → outstanding r ≡ [] → outstanding s ≡ [] → outstanding r ≡ outstanding s
@@ -20,6 +19,6 @@ module _ (n : Nonces) where
     pub issue_settled : (r s : Nonces) → outstanding r ≡ issued nonce (outstanding n) → outstanding s ≡ issued nonce (outstanding n) → outstanding r ≡ outstanding s
     issue_settled = settled outstanding (issued nonce (outstanding n))
 
-    pub spend_settled : (goes_on : Bool) (next : ℕ) (r s : Spent) → SpentAs n nonce goes_on next r → SpentAs n nonce goes_on next s
-        → (r.found ≡ s.found) × (outstanding r.nonces ≡ outstanding s.nonces)
-    spend_settled goes_on next r s a b = (a.found ∙ sym b.found, a.view ∙ sym b.view)
+    pub spend_settled : (goes_on : Bool) (next : ℕ) (r s : Bool) (new other : Nonces) → SpentAs n nonce goes_on next r new → SpentAs n nonce goes_on next s other
+        → (r ≡ s) × (outstanding new ≡ outstanding other)
+    spend_settled goes_on next r s new other a b = (a.found ∙ sym b.found, a.view ∙ sym b.view)

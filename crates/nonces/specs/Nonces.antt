@@ -1,15 +1,15 @@
 -- The nonces that are outstanding, and what issuing and spending one does (E-4, E-5, E-7, E-70).
-use Rattle.std.specs.Prelude.{Bool, true, false, List, [], ◌∷◌, ◌++◌, ◌≡◌, refl, ℕ, zero, suc, ◌-◌, ◌≤◌, ◌<◌, length, take, drop}
+use Rattle.std.specs.Prelude.{Bool, true, false, List, [], ◌∷◌, ◌++◌, ◌≡◌, refl, ℕ, zero, suc, ◌-◌, length, take}
 use Rattle.base.specs.Pick.{pick}
 use Rattle.ceilings.specs.Ceilings.{most_nonces}
 use Rattle.base.specs.Keyed.{kept, has, without}
 use Rattle.base.specs.Last.{last_of}
+use Rattle.fixed_vec.specs.FixedVec.{held}
 use Rattle.nonces.specs.declared.Nonces.{Nonces}
-use Rattle.nonces.specs.declared.Spent.{Spent}
 
 -- the nonces outstanding, in the order of their latest issue; a count beyond the array is the array's length
 unfoldable pub outstanding : Nonces → List ℕ
-outstanding s = take s.used s.list
+outstanding s = held s.list
 
 -- whether a nonce is outstanding, so that its reply may count (E-7)
 abbrev pub is_outstanding : ℕ → List ℕ → Bool
@@ -28,27 +28,15 @@ issued nonce l = last_of (most_nonces - 1) (spent nonce l) ++ nonce ∷ []
 unfoldable pub forgotten : ℕ → List ℕ → List ℕ
 forgotten nonce l = take (length (spent nonce l) - (most_nonces - 1)) (spent nonce l)
 
--- the first n of l without the nonce, m of them, stand at the front of r, and what stands past the n is as before
-pub record KeptAs (l : List ℕ) (n nonce m : ℕ) (r : List ℕ) : Type 0 where
-  pub long : length r ≡ length l
-  pub fewer : m ≤ n
-  pub front : take m r ≡ spent nonce (take n l)
-  pub past : drop n r ≡ drop n l
-
--- the newest 255 of the first n of l, or all where they are fewer, stand at the front of r; they are m, so there is room for one more
-pub record RoomMadeAs (l : List ℕ) (n m : ℕ) (r : List ℕ) : Type 0 where
-  pub long : length r ≡ length l
-  pub few : m < most_nonces
-  pub front : take m r ≡ last_of (most_nonces - 1) (take n l)
-
 -- a nonce that is outstanding is spent, and where the handshake goes on the next one issued; the one spent has made room for it, so of at most 256 none is forgotten
 unfoldable pub renewed : (nonce : ℕ) → (goes_on : Bool) → (next : ℕ) → List ℕ → List ℕ
 renewed nonce goes_on next l = pick (is_outstanding nonce l) (pick goes_on (issued next (spent nonce l)) (spent nonce l)) l
 
-pub record SpentAs (s : Nonces) (nonce : ℕ) (goes_on : Bool) (next : ℕ) (r : Spent) : Type 0 where
-  pub found : r.found ≡ is_outstanding nonce (outstanding s)
-  pub view : outstanding r.nonces ≡ renewed nonce goes_on next (outstanding s)
-  pub same : r.found ≡ false → r.nonces ≡ s
+-- whether it was outstanding; one that was not leaves the very store
+pub record SpentAs (s : Nonces) (nonce : ℕ) (goes_on : Bool) (next : ℕ) (r : Bool) (new : Nonces) : Type 0 where
+  pub found : r ≡ is_outstanding nonce (outstanding s)
+  pub view : outstanding new ≡ renewed nonce goes_on next (outstanding s)
+  pub same : r ≡ false → new ≡ s
 
 -- worked: issued again, a nonce moves to the end and counts once, from the front or from between others
 again_example : issued 4 (4 ∷ 7 ∷ []) ≡ 7 ∷ 4 ∷ []

@@ -1,58 +1,29 @@
 // The nonces of the sync requests that are outstanding, in the order of issue: one issued again counts once, from its latest issue.
 #![tactic(auto)]
 
-ghost use Rattle.std.specs.Prelude.{◌≡◌, [], ◌≤◌, length};
-ghost use Rattle.ceilings.specs.Ceilings.{most_nonces};
-ghost use Rattle.nonces.specs.Nonces.{outstanding, issued, KeptAs, RoomMadeAs, SpentAs};
+ghost use Rattle.std.specs.Prelude.{◌≡◌, [], length, false, not, eqb};
+ghost use Rattle.nonces.specs.Nonces.{outstanding, issued, SpentAs};
 
 use ceilings::MOST_NONCES;
+use fixed_vec::{FixedVec, Test};
 
 #[derive(Clone, Copy)]
 pub struct Nonces {
-    pub list: [u32; MOST_NONCES],
-    pub used: usize,
+    pub list: FixedVec<u32, MOST_NONCES>,
 }
 
-// The store stands first in what `spend` gives back: a flag in front of it would make padding, and then the compiler copies the store once more.
+// Any nonce but one passes.
 #[derive(Clone, Copy)]
-pub struct Spent {
-    pub nonces: Nonces,
-    pub found: bool,
+struct OtherThan {
+    nonce: u32,
 }
 
-// All of the first n but the nonce, in their order, and how many they are: each that stays is written behind those that stayed before it.
-// The array is lent, so no copy of it is made. Of what is lent the proof does not know the length, so the caller says it.
-fn keep_others(list: &mut [u32; MOST_NONCES], n: usize, nonce: u32) -> usize
-    requires { (n ≤ most_nonces) × (length list.old ≡ most_nonces) }
-    ensures { KeptAs list.old n nonce result list.new }
-{
-    let mut kept = 0;
-    let mut i = 0;
-    while i < n {
-        let x = list[i];
-        if nonce != x {
-            list[kept] = x;
-            kept += 1;
-        }
-        i += 1;
-    }
-    kept
-}
+impl Test<u32> for OtherThan {
+    ghost passes = { λ t x. not (eqb t.nonce x) };
 
-// How many of the first n stay, so that one more has room behind them: of a full array the oldest is forgotten, and the others move one place down.
-fn make_room(list: &mut [u32; MOST_NONCES], n: usize) -> usize
-    requires { (n ≤ most_nonces) × (length list.old ≡ most_nonces) }
-    ensures { RoomMadeAs list.old n result list.new }
-{
-    if n < MOST_NONCES {
-        return n;
+    fn passes(&self, x: &u32) -> bool {
+        self.nonce != *x
     }
-    let mut i = 0;
-    while i < MOST_NONCES - 1 {
-        list[i] = list[i + 1];
-        i += 1;
-    }
-    i
 }
 
 impl Nonces {
@@ -61,49 +32,47 @@ impl Nonces {
         ensures { outstanding result ≡ [] }
     {
         Nonces {
-            list: [0; MOST_NONCES],
-            used: 0,
+            list: FixedVec::new(0),
         }
     }
 
     #[tactic(auto, unfolding(crate::specs::Nonces::outstanding))]
-    pub fn count(self) -> usize
-        ensures { result ≡ length (outstanding self) }
+    pub fn count(&self) -> usize
+        ensures { result ≡ length (outstanding self.now) }
     {
-        numbers::least(self.used, MOST_NONCES)
+        self.list.len()
+    }
+
+    // The nonce is outstanding no longer; whether it was. Where it was not, nothing changes.
+    fn forget(&mut self, nonce: u32) -> bool
+        ensures { SpentAs self.old nonce false 0 result self.new }
+    {
+        let found = self.list.as_slice().contains(&nonce);
+        if found {
+            self.list.retain(&OtherThan { nonce });
+        }
+        found
     }
 
     // The nonce at the end, and nowhere else; where 256 others are outstanding, the oldest of them is forgotten.
-    pub fn issue(mut self, nonce: u32) -> Nonces
-        ensures { outstanding result ≡ issued nonce (outstanding self) }
+    pub fn issue(&mut self, nonce: u32)
+        ensures { outstanding self.new ≡ issued nonce (outstanding self.old) }
     {
-        let n = self.count();
-        let others = keep_others(&mut self.list, n, nonce);
-        let at = make_room(&mut self.list, others);
-        self.list[at] = nonce;
-        self.used = at + 1;
-        self
+        self.forget(nonce);
+        let over = self.count().saturating_sub(MOST_NONCES - 1);
+        self.list.remove_front(over);
+        self.list.push(nonce).unwrap()
     }
 
     // The nonce is found where it is outstanding, and is so no longer: fewer are left, so that the next one, where the handshake goes on, has its room.
-    // One function for both: the store would be copied again for the second.
-    pub fn spend(mut self, nonce: u32, goes_on: bool, next: u32) -> Spent
-        ensures { SpentAs self nonce goes_on next result }
+    #[tactic(auto, using(crate::proofs::Laws::goes))]
+    pub fn spend(&mut self, nonce: u32, goes_on: bool, next: u32) -> bool
+        ensures { SpentAs self.old nonce goes_on next result self.new }
     {
-        let n = self.count();
-        let kept = keep_others(&mut self.list, n, nonce);
-        let found = kept < n;
-        if found {
-            self.used = kept;
-            if goes_on {
-                let last = keep_others(&mut self.list, kept, next);
-                self.list[last] = next;
-                self.used = last + 1;
-            }
+        let found = self.forget(nonce);
+        if found && goes_on {
+            self.issue(next);
         }
-        Spent {
-            nonces: self,
-            found,
-        }
+        found
     }
 }

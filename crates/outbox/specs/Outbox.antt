@@ -1,9 +1,9 @@
 -- A send queue with one more message: written whole at its end where it fits, and else nothing. And the Input of all that is pending.
-use Rattle.std.specs.Prelude.{true, false, List, [], ◌∷◌, map, ◌≡◌, refl, ℕ, ◌+◌, ◌*◌, min, length, Result, Ok, Err}
+use Rattle.std.specs.Prelude.{true, false, List, [], ◌∷◌, map, ◌≡◌, refl, ℕ, ◌+◌, ◌*◌, ◌≤◌, min, length, Result, Ok, Err}
 use Rattle.base.specs.Lay.{no_room, laid_at}
 use Rattle.answer.specs.declared.Refusal.{Refusal}
 use Rattle.answer.specs.declared.Refusal.TheVariants.{Full}
-use Rattle.ceilings.specs.Ceilings.{most_width}
+use Rattle.ceilings.specs.Ceilings.{most_width, most_players, most_payload}
 use Rattle.frame.specs.Bias.{null_frame}
 use Rattle.status.specs.declared.ConnectionStatus.{ConnectionStatus}
 use Rattle.packing.specs.Packing.{xors, pack}
@@ -52,9 +52,10 @@ pub record StatusReportsAs (statuses : List ConnectionStatus) (r : Reports) : Ty
   pub list : report_list r ≡ map report_of statuses
   pub count : r.count ≡ length statuses
 
--- the size of that Input: 31 + 5n + b, whatever else it holds
+-- the size of that Input: 31 + 5n + b, whatever else it holds, and so at most 8,307
 pub record InputSizedAs (statuses : List ConnectionStatus) (inputs : List InputBytes) (width r : ℕ) : Type 0 where
   pub counted : r ≡ fixed_size 2 + 5 * length statuses + length inputs * min width most_width
+  pub most : r ≤ fixed_size 2 + 5 * most_players + most_payload
   pub sized : (magic ack : ℕ) (acked : InputBytes) → length acked.bytes ≡ most_width → table_size (pending_input magic ack statuses inputs width acked) ≡ r
 
 -- worked: an InputAck takes 10 bytes, and with a KeepAlive behind it 16

@@ -1,5 +1,6 @@
 // The send queue: a lent byte buffer in which messages stand back to back. One more is written at
 // its end, or nothing where it does not fit.
+// The buffer and the place in it are two parameters: the queue is the owner's, and the clauses (`QueuedAs`) are over the whole buffer and the place.
 #![tactic(auto)]
 
 mod inputs;

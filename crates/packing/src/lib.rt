@@ -1,5 +1,6 @@
 // Payloads of inputs: frames one behind the other, each XOR one reference (P-1). Here is one frame, into a lent buffer and out of a lent payload, so that
 // neither end copies a payload; the payload as a whole is a definition of specs/.
+// The buffer and the place in it are two parameters: the buffer is the caller's, and the clauses (`PlacedAs`) are over the whole buffer and the place.
 #![tactic(auto)]
 
 ghost use Rattle.std.specs.Prelude.{◌≡◌, min, take, drop};
@@ -16,68 +17,52 @@ pub use input_bytes::InputBytes;
 pub fn frame_width(width: usize) -> usize
     ensures { result ≡ min width most_width }
 {
-    numbers::least(width, MOST_WIDTH)
+    width.min(MOST_WIDTH)
 }
 
 // Lays one frame, XOR the reference, at a place of a lent buffer; where it does not fit, nothing is written.
 pub fn pack_frame(
     out: &mut [u8],
     at: usize,
-    frame: [u8; MOST_WIDTH],
+    frame: &[u8; MOST_WIDTH],
     width: usize,
-    reference: [u8; MOST_WIDTH],
+    reference: &[u8; MOST_WIDTH],
 ) -> bool
-    ensures { PlacedAs out.old at (xors (take width frame) reference) result out.new }
+    ensures { PlacedAs out.old at (xors (take width frame.now) reference.now) result out.new }
 {
     let w = frame_width(width);
-    let len = out.len();
-    if len < at {
+    if out.len() < at || out.len() - at < w {
         return false;
     }
-    if len - at < w {
-        return false;
-    }
-    let mut i = 0;
-    while i < w {
-        out[at + i] = frame[i] ^ reference[i];
-        i += 1;
+    for (i, x) in frame[..w].iter().enumerate() {
+        out[at + i] = *x ^ reference[i];
     }
     true
 }
 
 // A part of a payload XOR the reference, with zeros after it.
-fn undo(part: &[u8], reference: [u8; MOST_WIDTH]) -> [u8; MOST_WIDTH]
-    ensures { result ≡ padded (xors part.now reference) }
+fn undo(part: &[u8], reference: &[u8; MOST_WIDTH]) -> [u8; MOST_WIDTH]
+    ensures { result ≡ padded (xors part.now reference.now) }
 {
-    let mut out = [0u8; MOST_WIDTH];
-    let mut i = 0;
-    while i < MOST_WIDTH && i < part.len() {
-        out[i] = part[i] ^ reference[i];
-        i += 1;
+    let mut out = [0; MOST_WIDTH];
+    let n = part.len().min(MOST_WIDTH);
+    for (i, x) in part[..n].iter().enumerate() {
+        out[i] = *x ^ reference[i];
     }
     out
 }
 
 // The frame that starts at a place of a payload, with zeros after it; what lies past the payload's end is not there.
-#[tactic(auto, unfolding(crate::specs::Pad::padded, crate::specs::Packing::xors))]
 pub fn frame_at(
     payload: &[u8],
     at: usize,
     width: usize,
-    reference: [u8; MOST_WIDTH],
+    reference: &[u8; MOST_WIDTH],
 ) -> [u8; MOST_WIDTH]
-    ensures { result ≡ padded (xors (take width (drop at payload.now)) reference) }
+    ensures { result ≡ padded (xors (take width (drop at payload.now)) reference.now) }
 {
-    let len = payload.len();
-    if len <= at {
-        return [0u8; MOST_WIDTH];
-    }
-    let left = len - at;
-    if width < left {
-        let end = at + width;
-        return undo(&payload[at..end], reference);
-    }
-    undo(&payload[at..], reference)
+    let rest = &payload[at.min(payload.len())..];
+    undo(&rest[..width.min(rest.len())], reference)
 }
 
 // Whether a payload of this length is whole frames.
@@ -85,18 +70,12 @@ pub fn frame_at(
 pub fn decodable(length: usize, width: usize) -> bool
     ensures { result ≡ decodable_length width length }
 {
-    if width == 0 {
-        return false;
-    }
-    length % width == 0
+    width != 0 && length.is_multiple_of(width)
 }
 
 // How many whole frames a payload of this length has.
 pub fn frame_count(length: usize, width: usize) -> usize
     ensures { result ≡ frame_count width length }
 {
-    if width == 0 {
-        return 0;
-    }
-    length / width
+    length.checked_div(width).unwrap_or(0)
 }

@@ -1,5 +1,4 @@
 pub mod Laws
-pub mod DropTo
 pub mod Widths
 pub mod PackAll
 pub mod Settled

@@ -27,7 +27,7 @@ payload-length width reference l h r =
     ∙ rw (length-map l (sent_bytes width))
 
 -- it is at most 129 frames of 64 bytes
-pub payload_most : (p : Pending) (width r : ℕ) → length p.slots ≡ 129 → SizedAs p width r → r ≤ 8256
+pub payload_most : (p : Pending) (width r : ℕ) → length p.inputs.list ≡ 129 → SizedAs p width r → r ≤ 8256
 payload_most p width r long e =
     let many : length (waiting p) ≤ 129 = omega (arith, waiting-le p) in
     let wide : min width 64 ≤ 64 = omega arith in

@@ -1,16 +1,17 @@
 -- The inputs sent and not yet acknowledged: what the store holds, and what its calls do to that.
-use Rattle.std.specs.Prelude.{◌≡◌, refl, Bool, false, List, [], ◌∷◌, ◌++◌, map, ℕ, ◌*◌, min, ltb, leb, length, take}
+use Rattle.std.specs.Prelude.{◌≡◌, refl, Bool, false, List, [], ◌∷◌, ◌++◌, map, ℕ, ◌*◌, ◌≤◌, min, ltb, leb, length, take, Err}
 use Rattle.base.specs.Pick.{pick}
-use Rattle.ceilings.specs.Ceilings.{most_width, most_pending}
+use Rattle.answer.specs.Number.{Answered, done}
+use Rattle.answer.specs.declared.Refusal.TheVariants.{Full}
+use Rattle.ceilings.specs.Ceilings.{most_width, most_pending, most_payload}
+use Rattle.fixed_vec.specs.FixedVec.{held}
 use Rattle.packing.specs.Packing.{pack}
 use Rattle.packing.specs.declared.input_bytes.InputBytes.{InputBytes}
 use Rattle.pending.specs.declared.Pending.{Pending}
-use Rattle.pending.specs.declared.Pushed.{Pushed}
-use Rattle.pending.specs.declared.Dropped.{Dropped}
 
 -- the inputs held, oldest first; a count beyond the array is the array's length
 unfoldable pub waiting : Pending → List InputBytes
-waiting p = take p.used p.slots
+waiting p = held p.inputs
 
 -- room for one more
 unfoldable pub room : List InputBytes → Bool
@@ -52,20 +53,22 @@ sent_bytes width x = take width x.bytes
 unfoldable pub payload : ℕ → InputBytes → List InputBytes → List ℕ
 payload width reference l = pack reference.bytes (map (sent_bytes width) l)
 
-pub record PushedAs (p : Pending) (x : InputBytes) (none : ℕ) (r : Pushed) : Type 0 where
-  pub ok : r.ok ≡ room (waiting p)
-  pub last : r.last ≡ last_frame none (waiting p)
-  pub view : waiting r.pending ≡ pushed (waiting p) x
-  pub same : r.ok ≡ false → r.pending ≡ p
+-- done where there was room, else refused and the very store
+pub record PushedAs (p : Pending) (x : InputBytes) (r : Answered) (new : Pending) : Type 0 where
+  pub ok : r ≡ pick (room (waiting p)) done (Err Full)
+  pub view : waiting new ≡ pushed (waiting p) x
+  pub same : r ≡ Err Full → new ≡ p
 
 -- the size of all inputs packed, against any reference
 pub record SizedAs (p : Pending) (width : ℕ) (r : ℕ) : Type 0 where
   pub counted : r ≡ length (waiting p) * min width most_width
   pub packed : (reference : InputBytes) → length reference.bytes ≡ most_width → length (payload width reference (waiting p)) ≡ r
+  pub most : r ≤ most_payload
 
-pub record DroppedAs (p : Pending) (ack : ℕ) (reference : InputBytes) (r : Dropped) : Type 0 where
-  pub last : r.last ≡ last_to ack reference (waiting p)
-  pub view : waiting r.pending ≡ drop_to ack (waiting p)
+-- the reference after it, and what is left
+pub record DroppedAs (p : Pending) (ack : ℕ) (reference : InputBytes) (r : InputBytes) (new : Pending) : Type 0 where
+  pub last : r ≡ last_to ack reference (waiting p)
+  pub view : waiting new ≡ drop_to ack (waiting p)
 
 -- worked: an ack of frame 2 drops frames 1 and 2; frame 2 is the new reference
 frame-of : ℕ → InputBytes

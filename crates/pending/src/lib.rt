@@ -1,31 +1,18 @@
 // The inputs sent and not yet acknowledged, oldest first: at most 129.
 #![tactic(auto)]
 
-ghost use Rattle.std.specs.Prelude.{◌≡◌, [], length};
+ghost use Rattle.std.specs.Prelude.{◌≡◌, [], leb, length, take_while};
 ghost use Rattle.packing.specs.Packing.{PlacedAs};
-ghost use Rattle.pending.specs.Pending.{waiting, drops, first_frame, payload, PushedAs, SizedAs, DroppedAs};
+ghost use Rattle.pending.specs.Pending.{waiting, drops, first_frame, last_frame, payload, PushedAs, SizedAs, DroppedAs};
 
+use answer::{Answer, Refusal};
 use ceilings::{MOST_PENDING, MOST_WIDTH};
+use fixed_vec::FixedVec;
 use packing::InputBytes;
 
 #[derive(Clone, Copy)]
 pub struct Pending {
-    pub slots: [InputBytes; MOST_PENDING],
-    pub used: usize,
-}
-
-// The store stands first in what a call gives back: a flag in front of it would make padding, and then the compiler copies the store once more.
-#[derive(Clone, Copy)]
-pub struct Pushed {
-    pub pending: Pending,
-    pub ok: bool,
-    pub last: u32,
-}
-
-#[derive(Clone, Copy)]
-pub struct Dropped {
-    pub pending: Pending,
-    pub last: InputBytes,
+    pub inputs: FixedVec<InputBytes, MOST_PENDING>,
 }
 
 impl Pending {
@@ -33,126 +20,97 @@ impl Pending {
     pub fn new() -> Pending
         ensures { waiting result ≡ [] }
     {
-        let unused = InputBytes {
+        let blank = InputBytes {
             frame: 0,
-            bytes: [0u8; MOST_WIDTH],
+            bytes: [0; MOST_WIDTH],
         };
         Pending {
-            slots: [unused; MOST_PENDING],
-            used: 0,
+            inputs: FixedVec::new(blank),
         }
     }
 
-    #[tactic(auto, using(base::proofs::Arrays::unmap), unfolding(crate::specs::Pending::waiting))]
-    pub fn count(self) -> usize
-        ensures { result ≡ length (waiting self) }
+    #[tactic(auto, unfolding(crate::specs::Pending::waiting))]
+    pub fn count(&self) -> usize
+        ensures { result ≡ length (waiting self.now) }
     {
-        numbers::least(self.used, MOST_PENDING)
-    }
-
-    // One more at the end; where it is full, unchanged and not ok. The answer has the last frame before it too, or the one given where there was none.
-    #[tactic(auto, using(crate::proofs::Laws::last_is, crate::proofs::Laws::last_none, base::proofs::Arrays::store_end, base::proofs::Arrays::unmap, crate::proofs::Laws::waiting_at), unfolding(crate::specs::Pending::pushed, crate::specs::Pending::room, crate::specs::Pending::waiting))]
-    pub fn push(mut self, input: InputBytes, none: u32) -> Pushed
-        ensures { PushedAs self input none result }
-    {
-        let n = self.count();
-        let mut last = none;
-        if 0 < n {
-            let at = n - 1;
-            let x = self.slots[at];
-            last = x.frame;
-        }
-        let ok = n < MOST_PENDING;
-        if ok {
-            self.slots[n] = input;
-            self.used = n + 1;
-        }
-        Pushed {
-            pending: self,
-            ok,
-            last,
-        }
-    }
-
-    // Whether a drop to ack changes anything: the oldest input has a frame of at most ack.
-    #[tactic(auto, using(crate::proofs::Laws::drops_is, crate::proofs::Laws::drops_none, crate::proofs::Laws::waiting_at))]
-    pub fn drops(self, ack: u32) -> bool
-        ensures { result ≡ drops ack (waiting self) }
-    {
-        if self.count() == 0 {
-            return false;
-        }
-        let x = self.slots[0];
-        x.frame <= ack
-    }
-
-    // Drops the leading inputs with a frame of at most ack. The last dropped is the new reference; where none is dropped, the old one stays.
-    pub fn drop_to(mut self, ack: u32, reference: InputBytes) -> Dropped
-        ensures { DroppedAs self ack reference result }
-    {
-        let n = self.count();
-        let mut last = reference;
-        let mut kept = 0;
-        let mut k = 0;
-        while k < n {
-            let x = self.slots[k];
-            if kept == 0 && x.frame <= ack {
-                last = x;
-            } else {
-                self.slots[kept] = x;
-                kept += 1;
-            }
-            k += 1;
-        }
-        self.used = kept;
-        Dropped {
-            pending: self,
-            last,
-        }
+        self.inputs.len()
     }
 
     // The frame of the oldest input, or the one given where there is none.
-    #[tactic(auto, using(crate::proofs::Laws::first_is, crate::proofs::Laws::first_none, crate::proofs::Laws::waiting_at))]
-    pub fn first_frame(self, none: u32) -> u32
-        ensures { result ≡ first_frame none (waiting self) }
+    #[tactic(auto, using(crate::proofs::Laws::first_some, crate::proofs::Laws::first_none), unfolding(crate::specs::Pending::waiting))]
+    pub fn first_frame(&self, none: u32) -> u32
+        ensures { result ≡ first_frame none (waiting self.now) }
     {
-        if self.count() == 0 {
-            return none;
-        }
-        let x = self.slots[0];
-        x.frame
+        self.inputs.first().map_or(none, |x| x.frame)
     }
 
-    // The bytes of all inputs packed; a frame has at most 64.
-    pub fn payload_size(self, width: usize) -> usize
-        ensures { SizedAs self width result }
+    // The frame of the newest input, or the one given where there is none.
+    #[tactic(auto, using(crate::proofs::Laws::last_some, crate::proofs::Laws::last_none), unfolding(crate::specs::Pending::waiting))]
+    pub fn last_frame(&self, none: u32) -> u32
+        ensures { result ≡ last_frame none (waiting self.now) }
     {
-        self.count() * packing::frame_width(width)
+        self.inputs.last().map_or(none, |x| x.frame)
+    }
+
+    // One more at the end; where it is full, refused and unchanged.
+    #[tactic(auto, unfolding(crate::specs::Pending::pushed, crate::specs::Pending::room, crate::specs::Pending::waiting))]
+    pub fn push(&mut self, input: InputBytes) -> Answer
+        ensures { PushedAs self.old input result self.new }
+    {
+        self.inputs.push(input).map_err(|_| Refusal::Full)
+    }
+
+    // Whether a drop to ack changes anything: the oldest input has a frame of at most ack.
+    #[tactic(auto, using(crate::proofs::Laws::drops_some, crate::proofs::Laws::drops_none), unfolding(crate::specs::Pending::waiting))]
+    pub fn drops(&self, ack: u32) -> bool
+        ensures { result ≡ drops ack (waiting self.now) }
+    {
+        self.inputs.first().is_some_and(|x| x.frame <= ack)
+    }
+
+    // How many of the oldest have a frame of at most ack.
+    #[tactic(auto, unfolding(crate::specs::Pending::waiting))]
+    fn leading(&self, ack: u32) -> usize
+        ensures { result ≡ length (take_while (λ x. leb x.frame ack) (waiting self.now)) }
+    {
+        let inputs = self.inputs.as_slice();
+        inputs.iter().take_while(|x| x.frame <= ack).count()
+    }
+
+    // Drops the leading inputs with a frame of at most ack. The last dropped is the new reference; where none is dropped, the old one stays.
+    #[tactic(auto, unfolding(crate::specs::Pending::waiting))]
+    pub fn drop_to(&mut self, ack: u32, reference: InputBytes) -> InputBytes
+        ensures { DroppedAs self.old ack reference result self.new }
+    {
+        let n = self.leading(ack);
+        let last = self.inputs.as_slice()[..n].last().copied();
+        self.inputs.remove_front(n);
+        last.unwrap_or(reference)
+    }
+
+    // The bytes of all inputs packed; a frame has at most the 64 of its array. That length is asked of a place of the store: by a read behind a reference
+    // the proof learns that every input held has its 64 bytes.
+    pub fn payload_size(&self, width: usize) -> usize
+        ensures { SizedAs self.now width result }
+    {
+        let most = self.inputs.list[0].bytes.len();
+        self.count() * width.min(most)
     }
 
     // Packs all inputs against the reference straight into a lent buffer; where they do not fit, nothing is written.
-    pub fn pack_all(self, out: &mut [u8], at: usize, width: usize, reference: InputBytes) -> bool
-        ensures { PlacedAs out.old at (payload width reference (waiting self)) result out.new }
+    // The buffer and the place in it are two parameters, as `PlacedAs` has them.
+    pub fn pack_all(&self, out: &mut [u8], at: usize, width: usize, reference: &InputBytes) -> bool
+        ensures { PlacedAs out.old at (payload width reference.now (waiting self.now)) result out.new }
     {
         let size = self.payload_size(width);
-        let len = out.len();
-        if len < at {
+        if out.len() < at || out.len() - at < size {
             return false;
         }
-        if len - at < size {
-            return false;
-        }
-        let n = self.count();
         let w = packing::frame_width(width);
-        let r = reference.bytes;
         let mut place = at;
-        let mut k = 0;
-        while k < n {
-            let x = self.slots[k];
-            let b = x.bytes;
-            packing::pack_frame(out, place, b, width, r);
+        for x in self.inputs.as_slice() {
+            packing::pack_frame(out, place, &x.bytes, width, &reference.bytes);
             place += w;
-            k += 1;
         }
         true
     }

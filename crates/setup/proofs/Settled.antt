@@ -6,15 +6,12 @@ use lib.ListN.{length}
 use Rattle.base.proofs.Settled.{settled}
 use Rattle.setup.specs.declared.Choices.{Choices}
 use Rattle.setup.specs.declared.DesyncDetection.{DesyncDetection}
-use Rattle.setup.specs.declared.Handles.{Handles}
+use Rattle.fixed_vec.specs.declared.FixedVec.{FixedVec}
 use Rattle.setup.specs.declared.Setup.{Setup}
 use Rattle.setup.specs.Setup.{choices_with, bad_setup, sorted, handle_list, terms_of, terms_with, SortedAs, receiving_width, sending_width, interval_of}
 
 pub new_settled : (d : DesyncDetection) (r s : Choices) → r ≡ choices_with d → s ≡ choices_with d → r ≡ s
 new_settled d = settled (λ r. r) (choices_with d)
-
-pub count_settled : (h : Handles) (r s : ℕ) → r ≡ length (handle_list h) → s ≡ length (handle_list h) → r ≡ s
-count_settled h = settled (λ r. r) (length (handle_list h))
 
 module _ (g : Setup) where
   pub is_bad_settled : (r s : Bool) → r ≡ bad_setup g → s ≡ bad_setup g → r ≡ s

@@ -1,11 +1,11 @@
 -- The setup of an endpoint (C-1 to C-10): what is given, when it lies outside the ceilings, what an endpoint keeps of it, and what then holds of that.
-use Rattle.std.specs.Prelude.{Bool, true, false, List, [], ◌∷◌, ◌≡◌, refl, ℕ, zero, suc, ◌*◌, ◌^◌, ◌≤◌, ◌<◌, ltb, leb, eqb, length, take}
+use Rattle.std.specs.Prelude.{Bool, true, false, List, [], ◌∷◌, ◌≡◌, refl, ℕ, suc, ◌*◌, ◌^◌, ◌≤◌, ◌<◌, ltb, leb, eqb, length, take}
 use Rattle.base.specs.Pick.{pick}
 use Rattle.base.specs.Keyed.{has}
 use Rattle.numbers.specs.Range.{outside}
 use Rattle.ceilings.specs.Ceilings.{most_players, most_input_size, most_prediction}
 use Rattle.setup.specs.declared.Setup.{Setup}
-use Rattle.setup.specs.declared.Handles.{Handles}
+use Rattle.fixed_vec.specs.declared.FixedVec.{FixedVec}
 use Rattle.setup.specs.declared.Choices.{Choices}
 use Rattle.setup.specs.declared.DesyncDetection.{DesyncDetection}
 use Rattle.setup.specs.declared.DesyncDetection.TheVariants.{Off, On}
@@ -68,15 +68,15 @@ any_of [] = false
 any_of (t ∷ ts) = pick t true (any_of ts)
 
 -- the handles given; of more than four, four
-abbrev pub handle_list : Handles → List ℕ
+abbrev pub handle_list : FixedVec ℕ most_players → List ℕ
 handle_list h = take h.count h.list
 
 -- handles that list these, with this count; what their array holds past the count is left open
-abbrev pub ListedAs : List ℕ → ℕ → Handles → Type 0
+abbrev pub ListedAs : List ℕ → ℕ → FixedVec ℕ most_players → Type 0
 ListedAs hs n r = (handle_list r ≡ hs) × (r.count ≡ n)
 
 -- handles outside their ceilings (C-2)
-abbrev pub bad_handles : Handles → Bool
+abbrev pub bad_handles : FixedVec ℕ most_players → Bool
 bad_handles h = any_of (outside 1 most_players h.count ∷ any_twice (handle_list h) ∷ any_above most_handle (handle_list h) ∷ [])
 
 -- an interval outside its ceilings (C-10)
@@ -108,12 +108,6 @@ inserted h (x ∷ xs) = pick (leb h x) (h ∷ x ∷ xs) (x ∷ inserted h xs)
 unfoldable pub sorted : List ℕ → List ℕ
 sorted [] = []
 sorted (x ∷ xs) = inserted x (sorted xs)
-
--- sorting in place: the handle at a place goes to where it belongs among those after it
-unfoldable pub sunk : ℕ → List ℕ → List ℕ
-sunk at [] = []
-sunk zero (h ∷ hs) = inserted h hs
-sunk (suc at) (h ∷ hs) = h ∷ sunk at hs
 
 -- the terms of a setup with these handles
 unfoldable pub terms_with : List ℕ → Setup → Terms

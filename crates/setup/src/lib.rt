@@ -4,9 +4,12 @@
 ghost use Rattle.std.specs.Prelude.{◌≡◌};
 ghost use Rattle.setup.specs.Setup.{terms_of, SortedAs, bad_setup, bad_desync, choices_with, interval_of, receiving_width, sending_width};
 
-mod list;
+mod handles;
 
-// Whether the ends report checksums of their frames to each other, to find out where their games differ. ggrs: `DesyncDetection`.
+use fixed_vec::FixedVec;
+
+// Whether the ends report checksums of their frames to each other, to find out where their games differ. ggrs: `DesyncDetection`. No Option, though of its
+// shape: the definitions `bad_desync` and `interval_of` go by these variants, and docs/API.md has them as ggrs has.
 #[derive(Clone, Copy, Debug, PartialEq, Eq)]
 pub enum DesyncDetection {
     // Reports that come all the same are stored as with an interval of 1, or firmly.
@@ -28,11 +31,7 @@ pub struct Choices {
 }
 
 // The numbers of the players at the other end, in any order; `new` sorts them. The count is as given: one above 4 is refused.
-#[derive(Clone, Copy)]
-pub struct Handles {
-    pub list: [u32; ceilings::MOST_PLAYERS],
-    pub count: usize,
-}
+pub type Handles = FixedVec<u32, { ceilings::MOST_PLAYERS }>;
 
 // What `new` is given. It takes any numbers, and refuses those outside the ranges below with 1 (BadSetup). `ggrs:` says what the crate's `UdpProtocol::new` calls
 // a field.
@@ -107,7 +106,7 @@ impl Setup {
         ensures { result ≡ bad_setup self }
     {
         !(1..=MOST_PLAYERS).contains(&self.num_players)
-            | self.handles.is_bad()
+            | handles::is_bad(self.handles)
             | !(1..=MOST_PLAYERS).contains(&self.local_players)
             | (self.num_players < self.local_players)
             | !(1..=MOST_INPUT_SIZE).contains(&self.input_size)
@@ -120,21 +119,18 @@ impl Setup {
     }
 
     // The handles ascending, all else as it was, the count too.
-    #[tactic(auto, using(crate::proofs::Sorting::sorted_start, crate::proofs::Sorting::sorted_turn, base::proofs::Arrays::view_le))]
-    pub fn sorted(self) -> Setup
+    pub fn sorted(mut self) -> Setup
         ensures { SortedAs self result }
     {
-        Setup {
-            handles: self.handles.sorted(),
-            ..self
-        }
+        handles::sort(&mut self.handles);
+        self
     }
 
-    #[tactic(auto, using(base::proofs::Arrays::view_le), unfolding(crate::specs::Setup::terms_with))]
+    #[tactic(auto, unfolding(crate::specs::Setup::terms_with, fixed_vec::specs::FixedVec::held))]
     pub fn receiving_width(self) -> usize
         ensures { result ≡ receiving_width (terms_of self) }
     {
-        self.handles.count() * self.input_size as usize
+        self.handles.len() * self.input_size as usize
     }
 
     #[tactic(auto, unfolding(crate::specs::Setup::terms_with))]

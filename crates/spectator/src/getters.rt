@@ -46,6 +46,7 @@ impl SpectatorSession {
                 ..self.events.entries
             },
         };
+        // The clause `left` of TakenAs names the count, which `clear` leaves open.
         self.events.entries.count = 0;
         TakenEvents {
             session: self,

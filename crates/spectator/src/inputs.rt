@@ -71,9 +71,7 @@ impl Inputs {
         ensures { InputsAs (input_stored slots frame player input (inputs_of self.old)) self.new }
     {
         let place = place_of(slots, frame, player);
+        self.entries.set(place, PlayerInput { frame, input });
         self.entries.count = self.count();
-        if place < self.entries.count {
-            self.entries.list[place] = PlayerInput { frame, input };
-        }
     }
 }

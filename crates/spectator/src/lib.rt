@@ -43,6 +43,7 @@ pub struct SpectatorSession {
 }
 
 // What a call answers, with the session after it. The session comes first: with a byte and a gap in front of it each call would copy it once more.
+// A struct of both and no `Result`: a refusal gives the session back too, and docs/API.md names the fields.
 #[derive(Clone, Copy)]
 pub struct Ended {
     pub session: SpectatorSession,

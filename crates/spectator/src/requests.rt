@@ -100,7 +100,7 @@ impl Inputs {
         Ok(())
     }
 
-    #[tactic(auto, using(crate::proofs::Laws::Requests::count_turn, crate::proofs::Laws::Requests::frames_counted, crate::proofs::Laws::Requests::request_turn, base::proofs::Arrays::unmap), unfolding(crate::specs::Stores::request_counts, crate::specs::Stores::request_frames, spectator_rules::specs::Advance::requests_by, fixed_vec::specs::FixedVec::held))]
+    #[tactic(auto, using(crate::proofs::Laws::Requests::frames_counted), unfolding(crate::specs::Stores::request_counts, crate::specs::Stores::request_frames, spectator_rules::specs::Advance::requests_by, fixed_vec::specs::FixedVec::held))]
     pub(crate) fn requests_from(
         &self,
         statuses: &Statuses,
@@ -114,9 +114,11 @@ impl Inputs {
     {
         let mut requests = Requests::none();
         for k in 0..n {
-            requests.frames.list[k as usize] = self.request_at(statuses, slots, frame + k, players);
+            let _ = requests
+                .frames
+                .push(self.request_at(statuses, slots, frame + k, players));
         }
-        requests.frames.count = n as usize;
+        requests.frames.count = requests.frames.len();
         requests
     }
 }

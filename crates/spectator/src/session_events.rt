@@ -47,45 +47,20 @@ impl SessionEvents {
         self.entries.get(i).unwrap_or(BLANK_ENTRY)
     }
 
-    // Those from the k-th on, moved to the front.
-    #[tactic(auto, using(base::proofs::Arrays::unmap, base::proofs::Arrays::view_le, crate::proofs::Laws::SessionEvents::moved_front), unfolding(crate::specs::Stores::events_of, fixed_vec::specs::FixedVec::held))]
-    fn shift(&mut self, k: usize)
-        ensures { EventsAs (drop k (events_of self.old)) self.new }
-    {
-        let n = self.count();
-        if n <= k {
-            self.entries.count = 0;
-            return;
-        }
-        self.entries.list.copy_within(k..n, 0);
-        self.entries.count = n - k;
-    }
-
-    // One more at the end.
-    #[tactic(auto, using(base::proofs::Arrays::store_end, base::proofs::Arrays::unmap), unfolding(crate::specs::Stores::events_of, fixed_vec::specs::FixedVec::held))]
-    fn push(&mut self, entry: SessionEntry)
-        requires { length (events_of self.old) < most_session_events }
-        ensures { EventsAs (events_of self.old ++ entry ∷ []) self.new }
-    {
-        let n = self.count();
-        self.entries.list[n] = entry;
-        self.entries.count = n + 1;
-    }
-
     // One more at the end; the oldest are dropped beyond `most`.
-    #[tactic(auto, using(crate::proofs::Laws::SessionEvents::announced_dropped, crate::proofs::Laws::SessionEvents::announced_none, base::proofs::Arrays::unmap, base::proofs::Arrays::view_le), unfolding(crate::specs::Stores::events_of, fixed_vec::specs::FixedVec::held))]
+    #[tactic(auto, using(crate::proofs::Laws::SessionEvents::announced_none), unfolding(crate::specs::Stores::events_of, fixed_vec::specs::FixedVec::held))]
     pub(crate) fn announce(&mut self, entry: SessionEntry, most: u32)
         ensures { EventsAs (event_added most entry (events_of self.old)) self.new }
     {
         let most = (most as usize).min(MOST_SESSION_EVENTS);
+        // The clause EventsAs names the count, which the list's methods leave open; so it is set, here and at the end.
         if most == 0 {
             self.entries.count = 0;
             return;
         }
-        let n = self.count();
-        if most <= n {
-            self.shift(n - most + 1);
-        }
-        self.push(entry);
+        let over = (self.entries.len() + 1).saturating_sub(most);
+        self.entries.remove_front(over);
+        let _ = self.entries.push(entry);
+        self.entries.count = self.entries.len();
     }
 }

@@ -196,7 +196,7 @@ session_held s i =
     record {
       peer = i.host.setup.peer;
       queued = i.host.queued;
-      entries = each_take IsEntry s.host.events.used s.host.events.entries i.host.events.entries;
+      entries = each_take IsEntry s.host.events.entries.count s.host.events.entries.list i.host.events.entries;
       inputs = each_take (λ (x : PlayerInput). Bytes x.input) s.inputs.entries.count s.inputs.entries.list
           (each_also IsPlayerInput (λ (x : PlayerInput). Bytes x.input) (λ x k. k.bytes) s.inputs.entries.list i.inputs.inputs);
       events = each_take IsSessionEntry s.events.entries.count s.events.entries.list i.events.entries;

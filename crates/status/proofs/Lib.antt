@@ -1,5 +1,4 @@
 pub mod Merge
 pub mod MergeAll
 pub mod Held
-pub mod Fours
 pub mod Settled

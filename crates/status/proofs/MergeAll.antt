@@ -1,11 +1,12 @@
 -- Laws of merging place by place, over lists: what merging does at a place, one report after another, and that order, grouping and repeats do not matter.
-use mathlib.Core.Path.{◌≡◌, refl, ap}
+use mathlib.Core.Path.{◌≡◌, refl, sym, ap}
 use mathlib.Core.List.{List, [], ◌∷◌, foldl}
-use Prim.Native.Nat.{ℕ, zero, suc, ◌≤◌, ◌<◌}
+use Prim.Native.Nat.{ℕ, zero, suc, ◌+◌, ◌≤◌, ◌<◌}
+use native.Mathlib.Numerals.{add-one}
 use native.Mathlib.Omega.{arith}
 use native.Mathlib.Nat.{not-suc-le-zero, le_of_suc-le-suc}
 use lib.ListN.{length, take, get_or}
-use Rattle.base.proofs.Orders.{Among, same_runs}
+use Rattle.base.proofs.Orders.{get_or_within, Among, same_runs}
 use Rattle.status.specs.declared.ConnectionStatus.{ConnectionStatus}
 use Rattle.status.specs.Status.{default_status, merged}
 use Rattle.status.specs.Statuses.{merged_at, merged_all}
@@ -85,3 +86,12 @@ all_again (s ∷ l) (x ∷ xs) = rw (merged_again s x, all_again l xs)
 -- any number of report lists: two runs over the same ones, in any order and with any repeats
 pub all_any_order : (xss yss : List L) (l : L) → Among xss yss → Among yss xss → foldl merged_all l xss ≡ foldl merged_all l yss
 all_any_order = same_runs merged_all all_swap all_again
+
+-- the same of a turn that finds the reports as zs, and the record as it has come so far
+pub merge_turn : (xs ys zs : L) (i : ℕ) (d : ConnectionStatus) (now : L) → zs ≡ ys → i < length zs → now ≡ merged_all xs (take i ys)
+    → merged_at i (get_or zs i d) now ≡ merged_all xs (take (i + 1) ys)
+merge_turn xs ys zs i d now e h a =
+    rw (e, a, add-one) (
+    let k : i < length ys = rw e at h in
+    rw (get_or_within ys i d default_status k) (sym (all_turn xs ys i k))
+    )

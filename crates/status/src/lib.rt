@@ -1,7 +1,7 @@
 // What an endpoint knows of a player's connection, from its own side and from the other end's reports.
 #![tactic(auto)]
 
-ghost use Rattle.std.specs.Prelude.{◌≡◌, max};
+ghost use Rattle.std.specs.Prelude.{◌≡◌};
 ghost use Rattle.status.specs.Status.{default_status, reported, merged};
 
 mod lent;
@@ -10,23 +10,26 @@ mod list;
 pub use lent::copied;
 pub use list::Statuses;
 
-#[derive(Clone, Copy)]
+// No Option of a frame: the last frame counts of a disconnected player too.
+#[derive(Clone, Copy, Debug, PartialEq, Eq)]
 pub struct ConnectionStatus {
     pub disconnected: bool,
     pub last_frame: u32,
 }
 
-impl ConnectionStatus {
+impl Default for ConnectionStatus {
+    ghost is_default = { λ status. status ≡ default_status };
+
     #[tactic(auto, unfolding(crate::specs::Status::default_status))]
-    pub fn default() -> ConnectionStatus
-        ensures { result ≡ default_status }
-    {
+    fn default() -> ConnectionStatus {
         ConnectionStatus {
             disconnected: false,
             last_frame: frame::NULL_FRAME,
         }
     }
+}
 
+impl ConnectionStatus {
     // The one way by which a report, as it travels, becomes a record.
     #[tactic(auto, unfolding(crate::specs::Status::reported))]
     pub fn reported(disconnected: bool, last_frame: u32) -> ConnectionStatus
@@ -43,17 +46,9 @@ impl ConnectionStatus {
     pub fn merge(self, other: ConnectionStatus) -> ConnectionStatus
         ensures { result ≡ merged self other }
     {
-        let disconnected = self.disconnected || other.disconnected;
-        let last_frame = later(self.last_frame, other.last_frame);
         ConnectionStatus {
-            disconnected,
-            last_frame,
+            disconnected: self.disconnected || other.disconnected,
+            last_frame: self.last_frame.max(other.last_frame),
         }
     }
-}
-
-fn later(a: u32, b: u32) -> u32
-    ensures { result ≡ max a b }
-{
-    if a < b { b } else { a }
 }

@@ -7,6 +7,7 @@ ghost use Rattle.status.specs.Statuses.{held_statuses, HeldAs, default_statuses,
 use crate::ConnectionStatus;
 use ceilings::MOST_PLAYERS;
 
+// No FixedVec: its functions are methods, which an alias of another crate's type can't have, and around one callers would read each field by two names.
 #[derive(Clone, Copy)]
 pub struct Statuses {
     pub list: [ConnectionStatus; MOST_PLAYERS],
@@ -19,42 +20,39 @@ impl Statuses {
     pub fn new(players: usize) -> Statuses
         ensures { HeldAs (default_statuses players) (min players most_players) result }
     {
-        let status = ConnectionStatus::default();
-        let list = [status; MOST_PLAYERS];
         Statuses {
-            list,
-            count: numbers::least(players, MOST_PLAYERS),
+            list: [ConnectionStatus::default(); MOST_PLAYERS],
+            count: players.min(MOST_PLAYERS),
         }
     }
 
-    #[tactic(auto, using(base::proofs::Arrays::unmap), unfolding(crate::specs::Statuses::held_statuses))]
+    #[tactic(auto, unfolding(crate::specs::Statuses::held_statuses))]
     pub fn count(self) -> usize
         ensures { result ≡ length (held_statuses self) }
     {
-        numbers::least(self.count, MOST_PLAYERS)
+        self.count.min(MOST_PLAYERS)
     }
 
     // The status at a place, or the default where there is none.
-    #[tactic(auto, using(base::proofs::Orders::get_or_within, base::proofs::Arrays::unmap, base::proofs::Arrays::view_at, base::proofs::Arrays::view_le), unfolding(crate::specs::Statuses::held_statuses))]
+    #[tactic(auto, unfolding(crate::specs::Statuses::held_statuses))]
     pub fn get(self, at: usize) -> ConnectionStatus
         ensures { result ≡ get_or (held_statuses self) at default_status }
     {
-        if at < self.count() {
-            return self.list[at];
-        }
-        ConnectionStatus::default()
+        self.list[..self.count()]
+            .get(at)
+            .copied()
+            .unwrap_or_default()
     }
 
     // One place merged with a status; nothing changes where there is no such place. The count stays, beyond the array too.
-    #[tactic(auto, using(base::proofs::Arrays::unmap, base::proofs::Arrays::view_le), unfolding(crate::specs::Statuses::held_statuses, crate::specs::Statuses::merged_at))]
-    pub fn merge_at(self, at: usize, other: ConnectionStatus) -> Statuses
+    #[tactic(auto, unfolding(crate::specs::Statuses::held_statuses, crate::specs::Statuses::merged_at))]
+    pub fn merge_at(mut self, at: usize, other: ConnectionStatus) -> Statuses
         ensures { HeldAs (merged_at at other (held_statuses self)) self.count result }
     {
-        let mut next = self;
         if at < self.count() {
-            next.list[at] = self.get(at).merge(other);
+            self.list[at] = self.get(at).merge(other);
         }
-        next
+        self
     }
 
     // The same for a report as it travels.
@@ -65,16 +63,14 @@ impl Statuses {
     }
 
     // Each place merged with the same place of the other, where it has one.
-    #[tactic(auto, using(crate::proofs::MergeAll::all_none, crate::proofs::MergeAll::all_turn))]
+    #[tactic(auto, using(crate::proofs::MergeAll::all_none), unfolding(crate::specs::Statuses::held_statuses))]
     pub fn merge(self, other: Statuses) -> Statuses
         ensures { HeldAs (merged_all (held_statuses self) (held_statuses other)) self.count result }
     {
-        let n = other.count();
+        let theirs = &other.list[..other.count()];
         let mut next = self;
-        let mut i = 0;
-        while i < n {
-            next = next.merge_at(i, other.get(i));
-            i += 1;
+        for (i, status) in theirs.iter().enumerate() {
+            next = next.merge_at(i, *status);
         }
         next
     }

@@ -16,7 +16,7 @@ fn frame_of(i: u32) -> u32 {
 
 // The events that wait and the bytes queued, added up.
 fn waiting(end: &Endpoint) -> u64 {
-    (end.events.used as u64).wrapping_add(end.queued as u64)
+    (end.events.entries.count as u64).wrapping_add(end.queued as u64)
 }
 
 // The Input of one frame after the other, each packed against the one before.
@@ -31,7 +31,7 @@ pub(crate) fn input(setup: Setup, payload: &[u8], count: u32) -> u64 {
         end = ended.endpoint;
         sum = sum.wrapping_add(waiting(&end));
         end.queued = 0;
-        end.events.used = 0;
+        end.events.entries.count = 0;
     }
     sum
 }
@@ -74,7 +74,7 @@ pub(crate) fn send_input(count: u32) -> u64 {
         end = ended.endpoint;
         sum = sum.wrapping_add(waiting(&end));
         end.queued = 0;
-        end.pending.used = 3;
+        end.pending.inputs.count = 3;
     }
     sum
 }

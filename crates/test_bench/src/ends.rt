@@ -47,6 +47,6 @@ pub(crate) fn ready(setup: Setup, other: u16) -> Endpoint {
 // Both queues emptied in place: a store each, and no call that is timed.
 pub(crate) fn emptied(mut end: Endpoint) -> Endpoint {
     end.queued = 0;
-    end.events.used = 0;
+    end.events.entries.count = 0;
     end
 }

@@ -73,7 +73,7 @@ impl End {
 
 fn event_sum(events: &Events) -> u64 {
     let mut sum = 0u64;
-    for entry in events.entries.iter().take(events.used) {
+    for entry in events.entries.as_slice() {
         if let Event::Input { frame, player } = entry.event {
             sum = sum
                 .wrapping_add(u64::from(frame.wrapping_sub(BIAS32)))

@@ -48,10 +48,8 @@ fn answer_script(input: &mut Stdin, output: Stdout) -> Result<(), Stop> {
         let Some(record) = script::next_record(input, at, &mut payload)? else {
             break;
         };
-        let part = match script::part_of(&record, &mut payload, &arrays) {
-            Some(length) => Some(text::filled(&payload, length)),
-            None => None,
-        };
+        let length = script::part_of(&record, &mut payload, &arrays);
+        let part = length.map(|n| text::filled(&payload, n));
         match record.object {
             Object::First => {
                 first = answered(output, mode, first, &record, part, &mut arrays.first)?;

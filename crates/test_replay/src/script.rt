@@ -58,6 +58,7 @@ pub(crate) fn next_record(
 }
 
 // Reads until the slice is full or the script ends. How many bytes it put at the slice's start.
+// No index is counted: how far a read comes is what the stream says.
 fn read_full(input: &mut Stdin, buf: &mut [u8]) -> Result<usize, Stop>
     ensures { IfOk result (λ n. n ≤ length buf.new) }
 {

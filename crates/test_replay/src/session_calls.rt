@@ -123,19 +123,18 @@ fn asked(session: SpectatorSession, record: &Record) -> Answer {
 }
 
 fn put_requests(out: Out, requests: Requests, size: u32) -> Result<Out, Stop> {
-    let n = requests.count();
-    let mut out = out.count(n)?.u8((size % 0x100) as u8)?;
-    for i in 0..n {
-        out = put_request(out, requests.frame(i), size)?;
+    let frames = requests.frames.as_slice();
+    let mut out = out.count(frames.len())?.u8((size % 0x100) as u8)?;
+    for request in frames {
+        out = put_request(out, request, size)?;
     }
     Ok(out)
 }
 
-fn put_request(out: Out, request: Request, size: u32) -> Result<Out, Stop> {
-    let n = request.count();
-    let mut out = out.u8((n % 0x100) as u8)?;
-    for player in 0..n {
-        let synced = request.input(player);
+fn put_request(out: Out, request: &Request, size: u32) -> Result<Out, Stop> {
+    let inputs = request.inputs.as_slice();
+    let mut out = out.u8((inputs.len() % 0x100) as u8)?;
+    for synced in inputs {
         out = out
             .bytes(text::filled(&synced.input, size as usize))?
             .u8(match synced.status {
@@ -175,10 +174,10 @@ fn put_inputs(out: Out, inputs: &Inputs, players: u32, size: u32) -> Result<Out,
 }
 
 fn put_events(out: Out, events: SessionEvents) -> Result<Out, Stop> {
-    let n = events.count();
-    let mut out = out.count(n)?;
-    for i in 0..n {
-        out = put_event(out, events.entry(i))?;
+    let entries = events.entries.as_slice();
+    let mut out = out.count(entries.len())?;
+    for entry in entries {
+        out = put_event(out, *entry)?;
     }
     Ok(out)
 }

@@ -31,18 +31,11 @@ fn put_standing(out: Out, endpoint: Endpoint) -> Result<Out, Stop> {
 // What it holds, each input in the bytes of its side's width. The history ascends as it stands: only frames above its newest are taken in, and they go to
 // its end.
 fn put_stores(out: Out, endpoint: Endpoint) -> Result<Out, Stop> {
-    let Endpoint {
-        pending,
-        history,
-        ..
-    } = endpoint;
     let sending = endpoint.setup.sending_width();
-    let waiting = front(&pending.slots, pending.count());
-    let out = put_inputs(out, waiting, sending)?;
+    let out = put_inputs(out, endpoint.pending.inputs.as_slice(), sending)?;
     let out = put_input(out, &endpoint.acked, sending)?;
     let receiving = endpoint.setup.receiving_width();
-    let received = front(&history.slots, history.count());
-    let out = put_inputs(out, received, receiving)?;
+    let out = put_inputs(out, endpoint.history.inputs.as_slice(), receiving)?;
     let out = put_checksums(out, endpoint.checksums)?;
     put_events(out, endpoint.events, endpoint.setup.input_size)
 }
@@ -57,11 +50,6 @@ fn phase_number(phase: Phase) -> u8 {
     }
 }
 
-// The first n of a list.
-fn front<T>(list: &[T], n: usize) -> &[T] {
-    list.get(..n).unwrap_or(list)
-}
-
 // The numbers of a list, their count before them.
 fn put_list(out: Out, list: &[u32]) -> Result<Out, Stop> {
     let mut out = out.count(list.len())?;
@@ -72,7 +60,7 @@ fn put_list(out: Out, list: &[u32]) -> Result<Out, Stop> {
 }
 
 pub(crate) fn put_handles(out: Out, handles: Handles) -> Result<Out, Stop> {
-    put_list(out, front(&handles.list, handles.count()))
+    put_list(out, handles.as_slice())
 }
 
 fn put_setup(out: Out, setup: Setup) -> Result<Out, Stop> {
@@ -92,8 +80,7 @@ fn put_setup(out: Out, setup: Setup) -> Result<Out, Stop> {
 }
 
 fn put_handshake(out: Out, sync: Sync, nonces: Nonces, flags: Flags) -> Result<Out, Stop> {
-    let outstanding = front(&nonces.list, nonces.count());
-    put_list(out.u32(sync.remaining)?, outstanding)?
+    put_list(out.u32(sync.remaining)?, nonces.list.as_slice())?
         .u16(sync.remote_magic)?
         .flag(flags.disconnect_notify_sent)?
         .flag(flags.disconnect_event_sent)
@@ -145,13 +132,11 @@ fn put_inputs(out: Out, list: &[InputBytes], width: usize) -> Result<Out, Stop> 
 
 // Ascending by frame, while they are held in the order of their arrival.
 fn put_checksums(out: Out, checksums: Checksums) -> Result<Out, Stop> {
-    let n = checksums.count();
     let mut ascending = checksums.entries;
-    if let Some(held) = ascending.get_mut(..n) {
-        held.sort_unstable_by_key(|checksum| checksum.frame);
-    }
+    let n = ascending.len();
+    ascending.list[..n].sort_unstable_by_key(|checksum| checksum.frame);
     let mut out = out.count(n)?;
-    for checksum in ascending.iter().take(n) {
+    for checksum in ascending.as_slice() {
         out = out
             .frame(checksum.frame)?
             .u64(checksum.low)?
@@ -178,10 +163,10 @@ fn put_event(out: Out, entry: Entry, size: u32) -> Result<Out, Stop> {
 }
 
 pub(crate) fn put_events(out: Out, events: Events, size: u32) -> Result<Out, Stop> {
-    let n = events.count();
-    let mut out = out.count(n)?;
-    for i in 0..n {
-        out = put_event(out, events.entry(i), size)?;
+    let entries = events.entries.as_slice();
+    let mut out = out.count(entries.len())?;
+    for entry in entries {
+        out = put_event(out, *entry, size)?;
     }
     Ok(out)
 }

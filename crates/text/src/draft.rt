@@ -1,4 +1,5 @@
 // A text while it is composed, by value: pieces one after another, each whole or not at all.
+// The buffer and the place in it are two parameters: the buffer is the caller's, and the clauses (`page`) are over the whole buffer and the place.
 ghost use Rattle.std.specs.Prelude.{[], ◌≡◌};
 ghost use Rattle.text.specs.Decimal.{decimal_of, signed_of};
 ghost use Rattle.text.specs.Hex.{hex_of};

@@ -1,4 +1,5 @@
 // Bytes as hexadecimal text in a lent buffer.
+// The buffer and the place in it are two parameters: the buffer is the caller's, and the clauses (`AppendedAs`) are over the whole buffer and the place.
 ghost use Rattle.std.specs.Prelude.{◌≡◌};
 ghost use Rattle.text.specs.Append.{AppendedAs};
 ghost use Rattle.text.specs.Hex.{hex_of};

@@ -5,6 +5,7 @@ ghost use Rattle.text.specs.Decimal.{decimal_of, signed_of, text_of};
 use itoa::Buffer;
 
 // A number as text: the bytes from `start` on. The longest number has 39 digits, and one byte more leaves room for a sign.
+// No `FixedVec`, which fills from the front: a sign goes in front of the digits.
 #[derive(Clone, Copy)]
 pub struct Numeral {
     pub bytes: [u8; 40],

@@ -1,4 +1,5 @@
 // A piece of text laid into a lent buffer at a place.
+// The buffer and the place in it are two parameters: the buffer is the caller's, and the clauses (`AppendedAs`) are over the whole buffer and the place.
 ghost use Rattle.std.specs.Prelude.{◌≡◌, take};
 ghost use Rattle.text.specs.Append.{AppendedAs};
 ghost use Rattle.text.specs.Page.{page, written};

@@ -33,6 +33,7 @@ pub fn passed(last: u64, wait: u64, now: u64) -> bool
 }
 
 // A clock after a step that sets it where it is due.
+// Public, and named by docs/LEAVES.md.
 pub fn time_if(due: bool, now: u64, last: u64) -> u64
     ensures { result ≡ pick due now last }
 {
@@ -89,6 +90,7 @@ impl Clocks {
     }
 
     // What an act restarts: the input's clock with a resend, the report's with a report, and the send time where anything goes out.
+    // One call with three flags: public, and named by docs/LEAVES.md.
     pub fn fired(mut self, resend: bool, report: bool, sends: bool, now: u64) -> Clocks
         ensures { result ≡ timed now resend report sends self }
     {

@@ -1,14 +1,16 @@
 -- An endpoint after what a call announces: only its events are others, and there was room for them.
 use mathlib.Core.Bool.{true}
 use mathlib.Core.List.{List, [], ◌++◌, append-nil}
-use mathlib.Core.Path.{◌≡◌, sym, ◌∙◌}
+use mathlib.Core.Path.{◌≡◌, ◌∙◌}
 use lib.ListN.{length}
 use Rattle.events.specs.declared.Entry.{Entry}
 use Rattle.events.specs.declared.Events.{Events}
-use Rattle.events.specs.declared.Pushed.{Pushed}
+use Rattle.std.specs.Prelude.{Ok}
+use Rattle.answer.specs.Number.{Answered}
 use Rattle.events.specs.Events.{held_events, has_room, PushedAs}
 use Rattle.endpoint.specs.declared.Endpoint.{Endpoint}
 use Rattle.endpoint.proofs.Laws.Ends.{grown}
+use Rattle.endpoint.proofs.Laws.Room.{room_known}
 
 abbrev pub with_events_of : Endpoint → Events → Endpoint
 with_events_of e events = grown e events e.queued
@@ -20,8 +22,10 @@ pub record AnnouncedAs (e : Endpoint) (more : List Entry) (s : Endpoint) : Type 
   pub view : held_events events ≡ held_events e.events ++ more
 
 module _ (e : Endpoint) (more : List Entry) (s : Endpoint) where
-  pub announced_all_lem : (t : Pushed) → PushedAs e.events (has_room (held_events e.events) (length more)) more t → t.ok ≡ true → s ≡ with_events_of e t.events → AnnouncedAs e more s
-  announced_all_lem t et ok es = record { events = t.events; rest = es; room = sym et.ok ∙ ok; view = et.view ∙ rw (sym et.ok ∙ ok) }
+  pub announced_all_lem : (r : Answered) (t : Events) → PushedAs e.events (has_room (held_events e.events) (length more)) more r t → r ≡ Ok tt → s ≡ with_events_of e t → AnnouncedAs e more s
+  announced_all_lem r t et ok es =
+      let room = room_known _ r et.answer ok in
+      record { events = t; rest = es; room = room; view = et.view ∙ rw room }
 
   pub announced_nothing : more ≡ [] → has_room (held_events e.events) 0 ≡ true → s ≡ e → AnnouncedAs e more s
   announced_nothing none room es = record { events = e.events; rest = es; room = rw none room; view = rw (none, append-nil) }

@@ -19,7 +19,9 @@ use Rattle.status.specs.Status.{default_status}
 use Rattle.status.specs.Statuses.{held_statuses}
 use Rattle.checksums.specs.declared.Checksums.{Checksums}
 use Rattle.checksums.specs.Checksums.{stored}
-use Rattle.setup.specs.declared.Handles.{Handles}
+use Rattle.ceilings.specs.Ceilings.{most_players}
+use Rattle.fixed_vec.specs.declared.FixedVec.{FixedVec}
+use Rattle.fixed_vec.specs.FixedVec.{held}
 use Rattle.setup.specs.Setup.{handle_list, terms_with}
 use Rattle.timers.specs.Timers.{bad_clock}
 use Rattle.endpoint_rules.specs.declared.Phase.{Phase}
@@ -60,10 +62,10 @@ module _ (e : Endpoint) where
   unfolding value_of seen
   shows_phase = refl
 
-  pub shows_checksums : (n : ℕ) → n ≡ length (stored e.checksums) → ChecksumsAs (seen e) (record { entries = e.checksums.entries; used = n })
-  unfolding value_of seen stored
+  pub shows_checksums : (n : ℕ) → n ≡ length (stored e.checksums) → ChecksumsAs (seen e) (record { entries = record { list = e.checksums.entries.list; count = n } })
+  unfolding value_of seen stored held
   shows_checksums n h =
-      let same : take n e.checksums.entries ≡ stored e.checksums = rw h (sym (take_count e.checksums.used e.checksums.entries)) in
+      let same : take n e.checksums.entries.list ≡ stored e.checksums = rw h (sym (take_count e.checksums.entries.count e.checksums.entries.list)) in
       (ap Value.checksums same, h ∙ ap length (sym same))
 
   module _ (handle : ℕ) where
@@ -123,7 +125,7 @@ same_stats : (r s : Result NetworkStats Refusal) → shown_stats r ≡ shown_sta
 same_stats = same_shown Value.stats (λ a h. cc) (λ a b h. cc) shown_stats (λ a. refl) (λ r. refl)
 
 module _ (e : Endpoint) where
-  pub handles_settled : (r s : Handles) → HandlesAs (seen e) r → HandlesAs (seen e) s → (handle_list r ≡ handle_list s) × (r.count ≡ s.count)
+  pub handles_settled : (r s : FixedVec ℕ most_players) → HandlesAs (seen e) r → HandlesAs (seen e) s → (handle_list r ≡ handle_list s) × (r.count ≡ s.count)
   handles_settled r s a b = let same : handle_list r ≡ handle_list s = let n : Value.numbers (handle_list r) ≡ Value.numbers (handle_list s) = a.0 ∙ sym b.0 in cc in (same, a.1 ∙ ap length same ∙ sym b.1)
 
   pub is_synchronized_settled : (r s : Bool) → Value.flag r ≡ value_of (Call.ask Question.is_synchronized) (seen e) → Value.flag s ≡ value_of (Call.ask Question.is_synchronized) (seen e) → r ≡ s
@@ -141,7 +143,7 @@ module _ (e : Endpoint) where
   pub state_settled : (r s : Phase) → Value.phase r ≡ value_of (Call.ask Question.state) (seen e) → Value.phase s ≡ value_of (Call.ask Question.state) (seen e) → r ≡ s
   state_settled r s a b = cc
 
-  pub checksums_settled : (r s : Checksums) → ChecksumsAs (seen e) r → ChecksumsAs (seen e) s → (stored r ≡ stored s) × (r.used ≡ s.used)
+  pub checksums_settled : (r s : Checksums) → ChecksumsAs (seen e) r → ChecksumsAs (seen e) s → (stored r ≡ stored s) × (r.entries.count ≡ s.entries.count)
   checksums_settled r s a b =
       let same : stored r ≡ stored s = let n : Value.checksums (stored r) ≡ Value.checksums (stored s) = a.0 ∙ sym b.0 in cc in
       (same, a.1 ∙ ap length same ∙ sym b.1)

@@ -2,7 +2,7 @@
 use borrow.Author.Tests.{lt-ltb, leb-true, leb-false, lt-leb, le-leb}
 use mathlib.Core.Bool.{Bool, true, false, ◌||◌, ◌&&◌}
 use mathlib.Core.List.{List, [], ◌∷◌}
-use mathlib.Core.Path.{◌≡◌, refl, sym, ◌∙◌}
+use mathlib.Core.Path.{◌≡◌, refl, ◌∙◌}
 use native.Mathlib.Nat.{add-zero}
 use Prim.Native.Nat.{ℕ, ◌<◌, ◌+◌}
 use lib.ListN.{length}
@@ -20,7 +20,10 @@ use lib.Dec.{leb}
 use Rattle.base.specs.Pick.{pick}
 use Rattle.events.specs.declared.Entry.{Entry}
 use Rattle.events.specs.declared.Events.{Events}
-use Rattle.events.specs.declared.Pushed.{Pushed}
+use Rattle.std.specs.Prelude.{Ok, Err}
+use Rattle.answer.specs.Number.{Answered}
+use Rattle.answer.specs.declared.Refusal.{Refusal}
+use Rattle.answer.specs.declared.Refusal.TheVariants.{Full}
 
 or-true : (x : Bool) → x || true ≡ true
 or-true true = refl
@@ -81,13 +84,22 @@ module _ (e : Events) (n : ℕ) (en : n ≡ length (held_events e)) where
   one_fits h = le-leb (length (held_events e) + 1) 640 (omega (arith, leb-false 640 n h))
 
 module _ (e : Events) (x : Entry) (n : ℕ) (en : n ≡ length (held_events e)) where
-  abbrev pub PushedIf : Bool → Pushed → Type 0
-  PushedIf announces p = PushedAs e (has_room (held_events e) (length (pick announces (x ∷ []) []))) (pick announces (x ∷ []) []) p
+  abbrev pub PushedIf : Bool → Answered → Events → Type 0
+  PushedIf announces r t = PushedAs e (has_room (held_events e) (length (pick announces (x ∷ []) []))) (pick announces (x ∷ []) []) r t
 
-  pub crowded : (announces : Bool) → (announces && leb 640 n) ≡ true → PushedIf announces (record { ok = false; events = e })
-  crowded true h = let f : has_room (held_events e) 1 ≡ false = one_crowds e n en h in record { ok = sym f; view = rw f; same = λ _. refl }
-  crowded false h = record { ok = cc; view = cc; same = λ _. refl }
+  pub crowded : (announces : Bool) → (announces && leb 640 n) ≡ true → PushedIf announces (Err Full) e
+  crowded true h = let f : has_room (held_events e) 1 ≡ false = one_crowds e n en h in record { answer = rw f; view = rw f; same = λ _ _. refl }
+  crowded false h = record { answer = cc; view = cc; same = λ _ _. refl }
 
-  pub roomy : (announces : Bool) (p : Pushed) → (announces && leb 640 n) ≡ false → announces ≡ true → PushedAs e (has_room (held_events e) 1) (x ∷ []) p → p.ok ≡ true
-  roomy true p h t ep = ep.ok ∙ one_fits e n en h
-  roomy false p h t ep = cc
+  pub roomy : (announces : Bool) (r : Answered) (t : Events) → (announces && leb 640 n) ≡ false → announces ≡ true → PushedAs e (has_room (held_events e) 1) (x ∷ []) r t → r ≡ Ok tt
+  roomy true r t h k ep = ep.answer ∙ rw (one_fits e n en h)
+  roomy false r t h k ep = cc
+
+-- what the answer of a push says of the room
+pub room_known : (b : Bool) (r : Answered) → r ≡ pick b (Ok tt) (Err Full) → r ≡ Ok tt → b ≡ true
+room_known true r h k = refl
+room_known false r h k = cc
+
+pub crowd_known : (b : Bool) (r : Answered) (z : Refusal) → r ≡ pick b (Ok tt) (Err Full) → r ≡ Err z → (b ≡ false) × (z ≡ Full)
+crowd_known true r z h k = cc
+crowd_known false r z h k = (refl, cc)

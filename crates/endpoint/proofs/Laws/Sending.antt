@@ -3,7 +3,7 @@ use Rattle.std.specs.Prelude.{Ok, Err}
 use borrow.Author.Tests.{not-false, eqb-true, lt-ltb, le-ltb, le-leb, lt-leb, eqb-false, eq-eqb, ne_eqb}
 use mathlib.Core.Bool.{Bool, true, false, not, ◌||◌, ◌&&◌}
 use mathlib.Core.List.{List, [], ◌∷◌, ◌++◌}
-use mathlib.Core.Path.{◌≡◌, refl, sym, ◌∙◌}
+use mathlib.Core.Path.{◌≡◌, refl, ◌∙◌}
 use Prim.Native.Nat.{ℕ, suc, ◌-◌, ◌≤◌, ◌<◌}
 use lib.Dec.{leb, eqb}
 use lib.ListN.{length, take, drop, replicate}
@@ -17,7 +17,7 @@ use Rattle.packing.specs.Pad.{padded}
 use Rattle.packing.proofs.Pads.{padded_plain}
 use Rattle.packing.specs.declared.input_bytes.InputBytes.{InputBytes}
 use Rattle.pending.specs.Pending.{waiting, room, pushed, last_frame, PushedAs}
-use Rattle.pending.specs.declared.Pushed.{Pushed}
+use Rattle.pending.specs.declared.Pending.{Pending}
 use Rattle.history.specs.History.{received, newest_of}
 use Rattle.status.specs.declared.ConnectionStatus.{ConnectionStatus}
 use Rattle.status.specs.declared.list.Statuses.{Statuses}
@@ -26,7 +26,7 @@ use Rattle.events.specs.Events as Events
 use Rattle.events.specs.Events.{held_events, has_room, without_input}
 use Rattle.events.specs.declared.Entry.{Entry}
 use Rattle.events.specs.declared.Event.TheVariants.{Disconnected}
-use Rattle.events.specs.declared.Pushed.{Pushed as PushedEvents}
+use Rattle.events.specs.declared.Events.{Events as Queue}
 use Rattle.events.proofs.Laws.{pushed_if}
 use Rattle.setup.specs.Setup.{terms_of, terms_with, sending_width}
 use Rattle.timers.specs.declared.Clocks.{Clocks}
@@ -44,7 +44,7 @@ use Rattle.endpoint_rules.specs.Step.{step, send_step}
 use Rattle.endpoint.specs.declared.Endpoint.{Endpoint}
 use Rattle.endpoint.specs.declared.Ended.{Ended}
 use Rattle.endpoint.specs.Endpoint.{seen, SameTerms, DidAs}
-use Rattle.endpoint.proofs.Laws.Room.{crowded, roomy, full_events, full_buffer, room_one}
+use Rattle.endpoint.proofs.Laws.Room.{room_known, crowd_known, crowded, roomy, full_events, full_buffer, room_one}
 use Rattle.endpoint.proofs.Laws.Ends.{remade, refused_did, queued_did}
 use Rattle.endpoint.proofs.Laws.Announced.{with_events_of, AnnouncedAs, announced_all_lem, announced_nothing}
 use Rattle.endpoint.proofs.Laws.Settled.{did_settled}
@@ -66,10 +66,10 @@ abbrev pub Announcing : Endpoint → ℕ → Endpoint → Type 0
 Announcing e n s = AnnouncedAs e (announced_if (leb 129 n)) s
 
 module _ (e : Endpoint) (n : ℕ) where
-  pub announces_one : (m : ℕ) → m ≡ length (held_events e.events) → (t : PushedEvents) → (leb 129 n && leb 640 m) ≡ false → leb 129 n ≡ true
-      → Events.PushedAs e.events (has_room (held_events e.events) 1) (disconnection ∷ []) t → (s : Endpoint) → s ≡ with_events_of e t.events → Announcing e n s
-  announces_one m em t h k et s es =
-      announced_all_lem e _ s t (pushed_if e.events (leb 129 n) disconnection t k et) (roomy e.events disconnection m em (leb 129 n) t h k et) es
+  pub announces_one : (m : ℕ) → m ≡ length (held_events e.events) → (r : Answered) (t : Queue) → (leb 129 n && leb 640 m) ≡ false → leb 129 n ≡ true
+      → Events.PushedAs e.events (has_room (held_events e.events) 1) (disconnection ∷ []) r t → (s : Endpoint) → s ≡ with_events_of e t → Announcing e n s
+  announces_one m em r t h k et s es =
+      announced_all_lem e _ s r t (pushed_if e.events (leb 129 n) disconnection r t k et) (roomy e.events disconnection m em (leb 129 n) r t h k et) es
 
   pub announces_none : leb 129 n ≡ false → has_room (held_events e.events) 0 ≡ true → (s : Endpoint) → s ≡ e → Announcing e n s
   announces_none k room s es = announced_nothing e _ s (rw k) room es
@@ -140,15 +140,16 @@ module _ (e : Endpoint) (frame : ℕ) (bytes : List ℕ) (st : Statuses) (now : 
       send_ignored h = refused_did e (Ok tt) _ (rw (good, same_tests ∙ right, h)) buffer
 
       module _ (running : is_running e.sync.phase ≡ true) where
-        -- what the code makes: the input, the store with it
-        module _ (b : List ℕ) (eb : b ≡ padded (xors (take w (drop 0 bytes)) (replicate 64 0))) (p : Pushed) (ep : PushedAs e.pending (record { frame = frame; bytes = b }) e.acked.frame p) where
-          pub send_frame : bad_after p.last frame ≡ true → Sends e (Err BadFrame) buffer
+        -- the newest frame that pends
+        module _ (newest : ℕ) (es : newest ≡ last_frame e.acked.frame before) where
+          pub send_frame : bad_after newest frame ≡ true → Sends e (Err BadFrame) buffer
           unfolding step send_step tested seen bad_frame
-          send_frame h = refused_did e (Err BadFrame) _ (rw (good, same_tests ∙ right, running, ← ep.last, h)) buffer
+          send_frame h = refused_did e (Err BadFrame) _ (rw (good, same_tests ∙ right, running, ← es, h)) buffer
 
-          module _ (follows : bad_after p.last frame ≡ false) where
+          -- what the code makes: the input, r: the answer of its push, p: the store with it
+          module _ (follows : bad_after newest frame ≡ false) (b : List ℕ) (eb : b ≡ padded (xors (take w (drop 0 bytes)) (replicate 64 0))) (r : Answered) (p : Pending) (ep : PushedAs e.pending (record { frame = frame; bytes = b }) r p) where
             next : bad_after (last_frame e.acked.frame before) frame ≡ false
-            next = rw (← ep.last) follows
+            next = rw (← es) follows
 
             send_full : room before ≡ true → is_full (length buffer) Sending ≡ true → Sends e (Err Full) buffer
             unfolding step send_step tested seen bad_frame
@@ -158,27 +159,33 @@ module _ (e : Endpoint) (frame : ℕ) (bytes : List ℕ) (st : Statuses) (now : 
             unfolding step send_step tested seen bad_frame
             send_fits k h = rw (good, same_tests ∙ right, running, next, k, sends now frame bytes (held_statuses st) (seen e), h)
 
-            pub send_crowded : p.ok ≡ false → Sends e (Err Full) buffer
+            none_more : room before ≡ false → Sends e (Err Full) buffer
             unfolding step send_step tested seen bad_frame
-            send_crowded k = refused_did e (Err Full) _ (rw (good, same_tests ∙ right, running, next, sym ep.ok ∙ k)) buffer
+            none_more k = refused_did e (Err Full) _ (rw (good, same_tests ∙ right, running, next, k)) buffer
 
-            module _ (ok : p.ok ≡ true) (n : ℕ) (en : n ≡ length (waiting p.pending)) where
-              pends : waiting p.pending ≡ before ++ taken ∷ []
+            pub send_crowded : (z : Refusal) → r ≡ Err z → Sends e (Err z) buffer
+            send_crowded z k = let crowd = crowd_known _ r z ep.ok k in rw crowd.1 (none_more crowd.0)
+
+            module _ (done : r ≡ Ok tt) (n : ℕ) (en : n ≡ length (waiting p)) where
+              roomy_before : room before ≡ true
+              roomy_before = room_known _ r ep.ok done
+
+              pends : waiting p ≡ before ++ taken ∷ []
               unfolding pushed
-              pends = ep.view ∙ rw (sym ep.ok ∙ ok, eb, ← wide, take-length, padded_plain bytes)
+              pends = ep.view ∙ rw (roomy_before, eb, ← wide, take-length, padded_plain bytes)
 
               announcing : announced_if (leb 129 n) ≡ announced_with (before ++ taken ∷ [])
               announcing = rw (en, pends)
 
               pub send_unannounced : (m : ℕ) → m ≡ length (held_events e.events) → (leb 129 n && leb 640 m) ≡ true → Sends e (Err Full) buffer
               unfolding seen accepted
-              send_unannounced m em k = send_full (sym ep.ok ∙ ok) (full_events buffer Sending (rw (← announcing) (sym (crowded e.events disconnection m em (leb 129 n) k).ok)))
+              send_unannounced m em k = send_full roomy_before (full_events buffer Sending (rw (← announcing) (crowd_known _ _ Full (crowded e.events disconnection m em (leb 129 n) k).answer refl).0))
 
               -- b': the buffer with the Input
-              module _ (newest : ℕ) (nn : newest ≡ newest_of (received e.history)) (b' : List ℕ) where
+              module _ (ack : ℕ) (nn : ack ≡ newest_of (received e.history)) (b' : List ℕ) where
                 -- the Input of all that pends then
                 abbrev Whole : Wire
-                Whole = pending_input e.setup.magic newest (held_statuses st) (waiting p.pending) w e.acked
+                Whole = pending_input e.setup.magic ack (held_statuses st) (waiting p) w e.acked
 
                 whole : Sending.out ≡ Whole ∷ []
                 unfolding seen accepted terms_with
@@ -192,16 +199,16 @@ module _ (e : Endpoint) (frame : ℕ) (bytes : List ℕ) (st : Statuses) (now : 
                 unfolding seen accepted
                 send_choked r eq =
                     let x = eq in
-                    rw (x.1, x.2) (send_full (sym ep.ok ∙ ok) (full_buffer buffer Sending Whole some whole x.0))
+                    rw (x.1, x.2) (send_full roomy_before (full_buffer buffer Sending Whole some whole x.0))
 
                 -- s: e after what is announced
                 pub send_done : (q : ℕ) → QueuedAs buffer e.queued Whole (Ok q) b' → (s : Endpoint) → Announcing e n s → (c : Clocks) → c ≡ Timers.sent_at now s.clocks
-                    → Sends (remade s p.pending s.acked s.history s.sync s.nonces c s.flags s.quality s.statuses s.checksums s.events q) (Ok tt) b'
+                    → Sends (remade s p s.acked s.history s.sync s.nonces c s.flags s.quality s.statuses s.checksums s.events q) (Ok tt) b'
                 unfolding seen accepted terms_with
                 send_done q eq s es =
                     rw es.rest (λ c ec.
                     queued_did e _ (record { setup = refl; count = refl }) Sending Does
-                    (send_fits (sym ep.ok ∙ ok) (room_one buffer Sending Whole some whole (rw (← announcing) es.room) eq.room))
+                    (send_fits roomy_before (room_one buffer Sending Whole some whole (rw (← announcing) es.room) eq.room))
                     Whole whole buffer b' q eq refl (rw (pends, ec, es.view, announcing)))
 
   pub send_input_settled : (r s : Ended) (b c : List ℕ) → DidAs e Does buffer r b → DidAs e Does buffer s c

@@ -3,7 +3,7 @@ use Rattle.std.specs.Prelude.{Result, Ok, Err}
 use Rattle.answer.specs.declared.Refusal.{Refusal}
 use borrow.Author.Tests.{ltb-false}
 use mathlib.Core.Bool.{Bool, true, false, not, ◌&&◌}
-use mathlib.Core.List.{List, ◌++◌}
+use mathlib.Core.List.{List, [], ◌++◌}
 use mathlib.Core.Path.{◌≡◌, refl, sym, ◌∙◌, ap}
 use native.Mathlib.Omega.{arith}
 use Prim.Native.Nat.{ℕ, ◌≤◌}
@@ -17,7 +17,8 @@ use Rattle.base.proofs.Arrays.{take_count}
 use Rattle.base.proofs.Settled.{settled}
 use Rattle.answer.specs.declared.Refusal.TheVariants.{Full}
 use Rattle.events.specs.Events.{held_events}
-use Rattle.events.proofs.Laws.{held_none}
+use Rattle.events.specs.declared.Events.{Events}
+use Rattle.fixed_vec.specs.FixedVec.{held}
 use Rattle.endpoint_rules.specs.Seen.{is_shutdown}
 use Rattle.endpoint_rules.specs.Did.{Did, refused, tested}
 use Rattle.endpoint_rules.specs.Call.{Call}
@@ -51,11 +52,11 @@ filled_part_lem b queued n buffer h =
 
 module _ (e : Endpoint) where
   -- n: how many there are
-  pub takes_events : (n : ℕ) → n ≡ length (held_events e.events) → TakenAs e (record { events = record { entries = e.events.entries; used = n }; endpoint = remade e e.pending e.acked e.history e.sync e.nonces e.clocks e.flags e.quality e.statuses e.checksums (record { entries = e.events.entries; used = 0 }) e.queued })
-  unfolding value_of step seen held_events
-  takes_events n h =
-      let same : take n e.events.entries ≡ held_events e.events = rw h (sym (take_count e.events.used e.events.entries)) in
-      record { events = ap Value.events same; count = h ∙ ap length (sym same); after = rw (held_none e.events); terms = record { setup = refl; count = refl } }
+  pub takes_events : (n : ℕ) → n ≡ length (held_events e.events) → (none : Events) → held_events none ≡ [] → TakenAs e (record { events = record { entries = record { list = e.events.entries.list; count = n } }; endpoint = remade e e.pending e.acked e.history e.sync e.nonces e.clocks e.flags e.quality e.statuses e.checksums none e.queued })
+  unfolding value_of step seen held_events held
+  takes_events n h none en =
+      let same : take n e.events.entries.list ≡ held_events e.events = rw h (sym (take_count e.events.entries.count e.events.entries.list)) in
+      record { events = ap Value.events same; count = h ∙ ap length (sym same); after = rw en; terms = record { setup = refl; count = refl } }
 
   module _ (room : ℕ) where
     pub take_short : not (is_shutdown e.sync.phase) && ltb room e.queued ≡ true → DoneAs e (step (Call.take_messages room) (seen e)) (record { answer = Err Full; endpoint = e })
@@ -111,7 +112,7 @@ module _ (e : Endpoint) (queue into : List ℕ) where
 
 module _ (e : Endpoint) where
   pub take_events_settled : (r s : TakenEvents) → TakenAs e r → TakenAs e s
-      → (held_events r.events ≡ held_events s.events) × (r.events.used ≡ s.events.used) × (seen r.endpoint ≡ seen s.endpoint) × SameTerms r.endpoint s.endpoint
+      → (held_events r.events ≡ held_events s.events) × (r.events.entries.count ≡ s.events.entries.count) × (seen r.endpoint ≡ seen s.endpoint) × SameTerms r.endpoint s.endpoint
   take_events_settled r s a b =
       let held : held_events r.events ≡ held_events s.events = same a.events b.events in
       (held, a.count ∙ ap length held ∙ sym b.count, a.after ∙ sym b.after, same_terms e a.terms b.terms)

@@ -1,8 +1,8 @@
 -- A packet that is looked into: what is found of it, before anything is done.
-use Rattle.std.specs.Prelude.{Bool, ◌&&◌, true, false, ◌≡◌, ℕ, ◌+◌, ◌*◌, ◌^◌, suc, ◌-◌, min, ◌≤◌, ltb, List, length}
+use Rattle.std.specs.Prelude.{Bool, ◌&&◌, true, false, ◌≡◌, ℕ, ◌+◌, ◌*◌, ◌^◌, suc, ◌-◌, min, ◌≤◌, ltb, List, length, is_some, unwrap_or}
 use Rattle.packing.specs.Packing.{frame_count, decodable_length, decodable}
 use Rattle.history.specs.declared.History.{History}
-use Rattle.history.specs.History.{received, newest_of, Found, found_in, reference_frame, above, packet_of}
+use Rattle.history.specs.History.{blank_frame, received, newest_of, Found, found_in, reference_frame, above, packet_of}
 use Rattle.setup.specs.declared.Setup.{Setup}
 use Rattle.setup.specs.Setup.{terms_of, receiving_width, handle_list}
 use Rattle.endpoint.specs.declared.message.packet.Opened.{Opened}
@@ -14,16 +14,16 @@ use Rattle.endpoint.specs.declared.message.packet.News.{News}
 use Rattle.packing.specs.declared.input_bytes.InputBytes.{InputBytes}
 use Rattle.endpoint_rules.specs.Seen.{Seen}
 
--- the reference, as it was found
+-- the reference, as it was found: the blank one where it is not held
 abbrev pub found_of : Opened → Found
-found_of r = record { held = r.held; input = r.input }
+found_of r = record { held = is_some r.reference; input = unwrap_or r.reference blank_frame }
 
 pub record OpenedAs (h : History) (g : Setup) (requested : Bool) (start count length : ℕ) (r : Opened) : Type 0 where
   pub found : found_of r ≡ found_in (reference_frame start (received h)) (received h)
   pub newest : r.newest ≡ newest_of (received h)
   pub discarded : r.discarded ≡ discarded_by requested count g.num_players start
   pub long : r.too_long ≡ too_long_by (receiving_width (terms_of g)) length
-  pub readable : r.readable ≡ (r.held && decodable_length (receiving_width (terms_of g)) length)
+  pub readable : r.readable ≡ (is_some r.reference && decodable_length (receiving_width (terms_of g)) length)
   pub overflows : r.overflows ≡ overflows_by start (frame_count (receiving_width (terms_of g)) length)
 
 -- What a packet announces (E-26, E-27).

@@ -1,4 +1,5 @@
 // The messages of one act, written one after another where there is room for all of them.
+// The buffer and the place in it are two parameters: the queue is the owner's, and the clauses are over the whole buffer and the place.
 ghost use Rattle.std.specs.Prelude.{[], ◌∷◌};
 ghost use Rattle.base.specs.Pick.{pick};
 ghost use Rattle.status.specs.Statuses.{held_statuses};
@@ -23,8 +24,8 @@ fn body_only_if(due: bool, out: &mut [u8], at: usize, magic: u16, body: MessageB
 
 // The bytes that are due, whatever they are.
 #[tactic(auto, using(status::proofs::Held::held_le, crate::proofs::Laws::Act::Batch::size_if, crate::proofs::Laws::Act::Batch::size_if_most, crate::proofs::Laws::Act::Batch::sizes_append, base::proofs::Arrays::unmap), unfolding(crate::specs::Inside::Batch::batch, crate::specs::Inside::Batch::due_reports))]
-pub(crate) fn size(due: Due, statuses: Statuses, pending: Pending, width: usize) -> usize
-    ensures { SizedWith due (held_statuses statuses) (waiting pending) width result }
+pub(crate) fn size(due: Due, statuses: Statuses, pending: &Pending, width: usize) -> usize
+    ensures { SizedWith due (held_statuses statuses) (waiting pending.now) width result }
 {
     usize::from(due.input) * outbox::input_size(statuses, pending, width)
         + usize::from(due.report) * FIXED_SIZES[4]

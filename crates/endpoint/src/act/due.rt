@@ -1,11 +1,13 @@
 // What is due in Running, found out before any of it is done; and what it does to the clocks, the flags and the events.
+// The plain parts are parameters each, as the definition `due_of` has them.
 ghost use Rattle.std.specs.Prelude.{◌≡◌, ◌||◌, ◌+◌, ◌-◌, ltb, length};
 ghost use Rattle.base.specs.Pick.{pick};
 ghost use Rattle.events.specs.Events.{held_events, has_room, PushedAs};
 ghost use Rattle.endpoint.specs.Inside.Due.{due_of, clocks_by, flags_by, due_events};
 
+use answer::Answer;
 use endpoint_rules::Flags;
-use events::{DISCONNECTED, Entry, Event, Events, NO_INPUT, Pushed};
+use events::{DISCONNECTED, Entry, Event, Events, NO_INPUT};
 use timers::Clocks;
 
 const RUNNING_RETRY_INTERVAL: u64 = 200;
@@ -90,24 +92,23 @@ pub(crate) fn flags_after(due: Due, flags: Flags) -> Flags
 }
 
 // Both events in their order; where not all that is due fits, unchanged. What is left of the timeout is announced with an interruption.
-#[tactic(auto, unfolding(events::specs::Events::both, crate::specs::Inside::Due::due_events))]
+#[tactic(auto, using(events::proofs::Laws::both_given), unfolding(crate::specs::Inside::Due::due_events))]
 pub(crate) fn announce(
-    events: Events,
+    events: &mut Events,
     due: Due,
     disconnect_timeout: u64,
     notify_start: u64,
-) -> Pushed
-    ensures { PushedAs events (has_room (held_events events) (length (due_events due (disconnect_timeout - notify_start)))) (due_events due (disconnect_timeout - notify_start)) result }
+) -> Answer
+    ensures { PushedAs events.old (has_room (held_events events.old) (length (due_events due (disconnect_timeout - notify_start)))) (due_events due (disconnect_timeout - notify_start)) result events.new }
 {
-    events.push_both(
-        due.interruption,
-        Entry {
-            event: Event::NetworkInterrupted {
-                disconnect_timeout: disconnect_timeout.saturating_sub(notify_start),
-            },
-            input: NO_INPUT,
+    let interruption = Entry {
+        event: Event::NetworkInterrupted {
+            disconnect_timeout: disconnect_timeout.saturating_sub(notify_start),
         },
-        due.disconnect,
-        DISCONNECTED,
+        input: NO_INPUT,
+    };
+    events.push_both(
+        due.interruption.then_some(interruption),
+        due.disconnect.then_some(DISCONNECTED),
     )
 }

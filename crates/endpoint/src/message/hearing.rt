@@ -1,4 +1,5 @@
 // What every message that is not ignored brings: the receive time, and in Running the end of an announced interruption.
+// The plain parts are parameters each, as the definition `heard_by` has them.
 ghost use Rattle.std.specs.Prelude.{◌≡◌, ◌&&◌};
 ghost use Rattle.endpoint_rules.specs.Seen.{is_running};
 ghost use Rattle.endpoint.specs.Inside.Hearing.{heard_by, resumed_flags};

@@ -1,4 +1,5 @@
 // What an Input brings besides inputs and an acknowledgement: either the other end's statuses or its request to disconnect.
+// The plain parts are parameters each, as `InformedAs` has them.
 ghost use Rattle.std.specs.Prelude.{◌≡◌, true, ◌&&◌};
 ghost use Rattle.base.specs.Pick.{pick};
 ghost use Rattle.status.specs.Statuses.{held_statuses, HeldAs, merged_all};

@@ -21,11 +21,10 @@ use packing::InputBytes;
 use setup::Setup;
 use timers::Clocks;
 
-// A packet that is looked into, and nothing done yet: the reference with whether it is held, and what is found of it.
+// A packet that is looked into, and nothing done yet: the reference, where it is held, and what is found of it.
 #[derive(Clone, Copy)]
 pub struct Opened {
-    pub input: InputBytes,
-    pub held: bool,
+    pub reference: Option<InputBytes>,
     pub newest: u32,
     pub discarded: bool,
     pub too_long: bool,
@@ -72,19 +71,18 @@ fn overflows(start_frame: u32, count: usize) -> bool
 
 #[tactic(auto, unfolding(history::specs::History::looked_at))]
 pub(crate) fn open(
-    history: History,
+    history: &History,
     setup: Setup,
     head: InputHead,
     count: usize,
     length: usize,
 ) -> Opened
-    ensures { OpenedAs history setup head.disconnect_requested head.start_frame count length result }
+    ensures { OpenedAs history.now setup head.disconnect_requested head.start_frame count length result }
 {
     let width = setup.receiving_width();
     let looked = history.look(head.start_frame);
     Opened {
-        input: looked.input,
-        held: looked.held,
+        reference: looked.reference,
         newest: looked.newest,
         discarded: is_discarded(
             head.disconnect_requested,
@@ -93,7 +91,7 @@ pub(crate) fn open(
             head.start_frame,
         ),
         too_long: is_too_long(setup, length),
-        readable: is_readable(looked.held, length, width),
+        readable: is_readable(looked.reference.is_some(), length, width),
         overflows: overflows(head.start_frame, packing::frame_count(length, width)),
     }
 }

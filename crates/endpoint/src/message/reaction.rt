@@ -1,4 +1,5 @@
 // Messages that are answered at once or only noted: a request for a reply, both quality reports, and one that just keeps the connection alive.
+// The plain parts, and the buffer and its place, are parameters each, as `ReactedAs` has them.
 ghost use Rattle.endpoint.specs.Inside.Reaction.{ReactedAs};
 
 use answer::Refusal;

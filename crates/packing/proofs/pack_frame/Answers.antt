@@ -1,6 +1,5 @@
 -- `pack_frame` writes the frame's bytes, each XOR the reference's, once it knows that they fit.
-use Rattle.std.proofs.Common.{rules, ◌≡◌, min, take, ℕ, ◌<◌, length, arith, add-one, List}
-use mathlib.Core.Path.{sym, ◌∙◌}
+use Rattle.std.proofs.Common.{rules, ◌≡◌, min, take, ℕ, ◌<◌, length, arith, add-one, List, sym, ◌∙◌}
 use lib.Bits.{bit_xor}
 use lib.ListN.{get_or, length-take}
 use lib.Seq.{paste-suc, get_or-take}
@@ -14,34 +13,36 @@ module _ (frame reference : List ℕ) (width : ℕ) (hf : length frame ≡ 64) (
   long : length (xors (take width frame) reference) ≡ min width 64
   long = xors-length (take width frame) reference ∙ omega (arith, length-take width frame)
 
-  byte : (i : ℕ) → i < min width 64 → bit_xor (get_or frame i 0) (get_or reference i 0) ≡ get_or (xors (take width frame) reference) i 0
-  byte i h =
+  byte : (i w : ℕ) → w ≡ min width 64 → i < w → bit_xor (get_or (take w frame) i 0) (get_or reference i 0) ≡ get_or (xors (take width frame) reference) i 0
+  byte i w e h =
       let n = length-take width frame in
-      sym (xors_at (take width frame) reference i (omega arith) (omega arith) ∙ rw (get_or-take width frame i 0 (omega arith)))
+      rw (get_or-take w frame i 0 h) (sym (xors_at (take width frame) reference i (omega arith) (omega arith) ∙ rw (get_or-take width frame i 0 (omega arith))))
 
-pub returns-then-len-at-2 : goal.returns-then-len-at-2
-returns-then-len-at-2 c =
-    let n = long c.args.frame c.args.reference c.args.width (search rules) (search rules) in
-    laid_not c.args.out.now c.args.at (xors (take c.args.width c.args.frame) c.args.reference) (omega (arith, c.frame_width-w.ensures))
+pub returns-then-out-at : goal.returns-then-out-at
+returns-then-out-at c =
+    let n = long c.args.frame.now c.args.reference.now c.args.width (search rules) (search rules) in
+    laid_not c.args.out.now c.args.at (xors (take c.args.width c.args.frame.now) c.args.reference.now) (omega (arith, c.frame_width-w.ensures))
 
 pub loop-i-preserved : goal.loop-i-preserved
 loop-i-preserved c =
     let a = c.args in
     let l = c.loop-i in
-    let n = long a.frame a.reference a.width l.invariant.3 l.invariant.4 in
-    let b = byte a.frame a.reference a.width l.invariant.3 l.invariant.4 l.i (omega arith) in (
-      omega arith,
-      l.invariant.1,
-      l.invariant.2,
-      l.invariant.3,
-      l.invariant.4,
-      rw (b, l.invariant.5, paste-suc a.out.now a.at (xors (take a.width a.frame) a.reference) l.i 0 (omega arith) (omega arith), add-one),
-    )
+    let w = c.frame_width-w in
+    let f : length a.frame.now ≡ 64 = search rules in
+    let r : length a.reference.now ≡ 64 = search rules in
+    let t = length-take w.result a.frame.now in
+    let n = long a.frame.now a.reference.now a.width f r in
+    let b = byte a.frame.now a.reference.now a.width f r l.i w.result w.ensures (omega arith) in
+    rw (b, l.invariant, paste-suc a.out.now a.at (xors (take a.width a.frame.now) a.reference.now) l.i 0 (omega (arith, w.ensures)) (omega (arith, w.ensures)), add-one)
 
 pub returns : goal.returns
 returns c =
     let a = c.args in
     let l = c.loop-i in
-    let n = long a.frame a.reference a.width l.invariant.3 l.invariant.4 in
-    laid_all a.out.now a.at (xors (take a.width a.frame) a.reference) _ (omega arith)
-    (l.invariant.5 ∙ laid_paste a.out.now a.at (xors (take a.width a.frame) a.reference) l.i (omega arith))
+    let w = c.frame_width-w in
+    let f : length a.frame.now ≡ 64 = search rules in
+    let r : length a.reference.now ≡ 64 = search rules in
+    let t = length-take w.result a.frame.now in
+    let n = long a.frame.now a.reference.now a.width f r in
+    laid_all a.out.now a.at (xors (take a.width a.frame.now) a.reference.now) _ (omega (arith, w.ensures))
+    (l.invariant ∙ laid_paste a.out.now a.at (xors (take a.width a.frame.now) a.reference.now) l.i (omega (arith, w.ensures)))

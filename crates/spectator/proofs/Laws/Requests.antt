@@ -7,8 +7,7 @@ use native.Mathlib.Omega.{arith}
 use Prim.Native.Nat.{ℕ, zero, suc, ◌+◌, ◌≤◌, ◌<◌}
 use native.Mathlib.Nat.{add-suc, suc-add, add-zero}
 use native.Mathlib.Numerals.{add-one}
-use lib.ListN.{length, take, set, get_or, length-take}
-use lib.Seq.{take-suc-set}
+use lib.ListN.{length, get_or, length-take, length-map}
 use Rattle.std.specs.Prelude.{Option, Some, None}
 use Rattle.std.specs.List.{slice_get}
 use Rattle.std.specs.Option.{unwrap_or, option_map}
@@ -85,17 +84,21 @@ module _ (slots players : ℕ) (l : List PlayerInput) (s : List ConnectionStatus
   requests_more (suc n) frame = ap (λ (r : List (List SyncedInput)). frame_inputs_by slots frame players l s ∷ r) (requests_more n (suc frame) ∙ rw (suc-add, add-suc))
 
 module _ (slots players frame k : ℕ) (l : List PlayerInput) (s : List ConnectionStatus) (frames : List Request) (x : Request) where
-  pub request_turn : k < length frames → map request_of (take k frames) ≡ requests_by slots k frame players l s → request_of x ≡ frame_inputs_by slots (frame + k) players l s
-      → map request_of (take (k + 1) (set frames k x)) ≡ requests_by slots (k + 1) frame players l s
-  request_turn h e q = rw (add-one, take-suc-set, map-append request_of (take k frames) (x ∷ []), e, q, requests_more slots players l s k frame)
+  -- k frames, so there is room for one more
+  pub frames_many : map request_of frames ≡ requests_by slots k frame players l s → length frames ≡ k
+  frames_many e = sym (length-map frames request_of) ∙ ap length e ∙ sym (frames_counted slots players l s k frame)
+
+  pub request_turn : map request_of frames ≡ requests_by slots k frame players l s → request_of x ≡ frame_inputs_by slots (frame + k) players l s
+      → map request_of (frames ++ x ∷ []) ≡ requests_by slots (k + 1) frame players l s
+  request_turn e q = rw (add-one, map-append request_of frames (x ∷ []), e, q, requests_more slots players l s k frame)
 
   abbrev count_of : Request → ℕ
   count_of r = r.inputs.count
 
-  pub count_turn : k < length frames → map count_of (take k frames) ≡ map length (requests_by slots k frame players l s) → x.inputs.count ≡ length (frame_inputs_by slots (frame + k) players l s)
-      → map count_of (take (k + 1) (set frames k x)) ≡ map length (requests_by slots (k + 1) frame players l s)
-  count_turn h e q =
-      rw (add-one, take-suc-set, map-append count_of (take k frames) (x ∷ []), e, q, requests_more slots players l s k frame, map-append length (requests_by slots k frame players l s) (frame_inputs_by slots (frame + k) players l s ∷ []))
+  pub count_turn : map count_of frames ≡ map length (requests_by slots k frame players l s) → x.inputs.count ≡ length (frame_inputs_by slots (frame + k) players l s)
+      → map count_of (frames ++ x ∷ []) ≡ map length (requests_by slots (k + 1) frame players l s)
+  count_turn e q =
+      rw (add-one, map-append count_of frames (x ∷ []), e, q, requests_more slots players l s k frame, map-append length (requests_by slots k frame players l s) (frame_inputs_by slots (frame + k) players l s ∷ []))
 
 -- ---- a frame, read from those advanced
 

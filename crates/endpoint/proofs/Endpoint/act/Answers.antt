@@ -1,11 +1,11 @@
 -- `act` tests clocks and count, and does what its phase brings.
 use mathlib.Core.Logic.{inl, inr}
-use mathlib.Core.Path.{sym, ◌∙◌, subst, subst₂}
+use mathlib.Core.Path.{sym, ◌∙◌, subst₂}
 use Rattle.endpoint.proofs.Laws.Handshake.{good_clocks}
 use Rattle.endpoint.proofs.Laws.Lengths.{entries_long, acked_long, no_event_fits}
-use Rattle.endpoint.proofs.Laws.Act.Ways.{Resent, Packed, Announced, resent_none, resent_some, packed_none, size_is, packed_some, announced_full, announced_fits, announced_none, announced_some, running_unannounced, running_full, running-done, synchronizing_idle, synchronizing_full, synchronizing_done, disconnected_idle, disconnected_over, act_synchronizing, act_running, act_disconnected, act_idle}
+use Rattle.endpoint.proofs.Laws.Act.Ways.{Resent, Packed, resent_none, resent_some, packed_none, size_is, packed_some, announced_full, announced_fits, announced_all, running_unannounced, running_full, running-done, synchronizing_idle, synchronizing_full, synchronizing_done, disconnected_idle, disconnected_over, act_synchronizing, act_running, act_disconnected, act_idle}
 use Rattle.endpoint.proofs.Endpoint.act.Goals as goal
-use Rattle.endpoint.proofs.Endpoint.act.Goals.{Joined-announced-gt0, Joined-sends, then-sends+else-buffer_full, else-sends, then-due, else-due, then-announced-gt0, else-announced-gt0}
+use Rattle.endpoint.proofs.Endpoint.act.Goals.{Joined-sends, then-sends+else-buffer_full, else-sends, then-due, else-due}
 
 pub returns-in-Err : goal.returns-in-Err
 returns-in-Err c =
@@ -20,7 +20,7 @@ returns-in-Ok c =
     let good = good_clocks a.now a.epoch _ _ c.is_bad.ensures c.if-is_bad.false c.is_bad-else-is_bad.ensures c.if-is_bad-2.false in
     act_synchronizing a.self a.out.now a.statuses a.now a.epoch a.nonce good c.if-statuses-self.false c.in-Synchronizing.is _ _
     (synchronizing_done a.self a.out.now a.now a.nonce (sym c.passed.ensures ∙ c.if-passed.true) _ _ (rw c.in-Ok.is at c.request.ensures)
-    (no_event_fits a.self (entries_long a.self _ c.well_formed.0)) c.issue-self.result c.issue-self.ensures)
+    (no_event_fits a.self (entries_long a.self _ c.well_formed.0)) c.issue.new.self c.issue.ensures)
 
 pub returns-else-passed : goal.returns-else-passed
 returns-else-passed c =
@@ -69,30 +69,21 @@ packed c =
     ]
 
 -- and announced
-announced : (c : Joined-announced-gt0) → Announced c.args.self c.args.out.now c.args.statuses c.args.now c.args.epoch c.due_at-due.result c.if-sends.self c.if-announced-gt0.self
-announced c =
-    let a = c.args in
-    let d = c.due_at-due.result in
-    let n = c.count in
-    let m = c.event_count-announced in
-    elim c.if-announced-gt0.branch [
-      | then-announced-gt0 w ↦ subst (Announced a.self a.out.now a.statuses a.now a.epoch d c.if-sends.self) (sym w.self-is) (announced_some a.self a.out.now a.statuses a.now a.epoch d n.result m.result n.ensures m.ensures c.if-sends.self (packed c.before).0 c.if-count-announced-gt-MOST_EVENTS.false w.announce.result w.announce.ensures)
-      | else-announced-gt0 w ↦ subst (Announced a.self a.out.now a.statuses a.now a.epoch d c.if-sends.self) (sym w.self-is) (announced_none a.self a.out.now a.statuses a.now a.epoch d n.result m.result n.ensures m.ensures c.if-sends.self (packed c.before).0 w.if-announced-gt0.false)
-    ]
-
-pub returns-after-announced-gt0 : goal.returns-after-announced-gt0
-returns-after-announced-gt0 c =
+pub returns-after-sends : goal.returns-after-sends
+returns-after-sends c =
     let a = c.args in
     let good = good_clocks a.now a.epoch _ _ c.is_bad.ensures c.if-is_bad.false c.is_bad-else-is_bad.ensures c.if-is_bad-2.false in
     let count = c.count-pending in
     let due = c.due_at-due in
     let n = c.count in
     let m = c.event_count-announced in
+    let queued = packed (goal.at.returns-after-sends c).Joined-sends in
+    let announced = announced_all a.self a.out.now a.statuses a.now a.epoch due.result n.result m.result n.ensures m.ensures c.if-sends.self queued.0 c.if-count-announced-gt-MOST_EVENTS.false c.announce.result c.announce.new.events c.announce.ensures in
     act_running a.self a.out.now a.statuses a.now a.epoch a.nonce good c.if-statuses-self.false c.in-Running.is _ _
     (running-done a.self a.out.now a.statuses a.now a.epoch due.result count.result count.ensures due.ensures
-    c.if-sends.self c.if-announced-gt0.self c.if-sends.out c.clocks_after-self.result c.flags_after-self.result
+    c.if-sends.self _ c.if-sends.out c.clocks_after-self.result c.flags_after-self.result
     (announced_fits a.self a.out.now a.statuses a.now a.epoch due.result n.result m.result n.ensures m.ensures c.if-count-announced-gt-MOST_EVENTS.false)
-    (packed c.before.before.before.before.before) (announced c.before.before.before.before) c.clocks_after-self.ensures c.flags_after-self.ensures)
+    queued announced c.clocks_after-self.ensures c.flags_after-self.ensures)
 
 pub returns-then-self-now : goal.returns-then-self-now
 returns-then-self-now c =

@@ -1,17 +1,21 @@
 -- Each return of `handle_message`, by the law of its way out in Laws/Message.
-use borrow.Author.Tests.{not-true, not-false}
 use mathlib.Core.Bool.{false, ◌&&◌, ◌||◌}
-use mathlib.Core.List.{[], ◌∷◌, ◌++◌}
+use mathlib.Core.List.{List, [], ◌∷◌, ◌++◌}
 use mathlib.Core.Path.{◌≡◌, sym, ◌∙◌, ap, subst, refl}
 use native.Mathlib.Omega.{arith}
-use Prim.Native.Nat.{ℕ}
+use Prim.Native.Nat.{ℕ, ◌-◌}
 use lib.Dec.{T}
-use lib.ListN.{length}
+use lib.ListN.{length, take, drop, length-drop}
+use lib.Seq.{take_all}
 use types.Run.{OneOf}
-use Rattle.base.specs.Pick.{pick}
 use Rattle.base.proofs.Tags.{noneb, none_of}
-use Rattle.history.specs.History.{received, newest_of}
-use Rattle.events.specs.Events.{ahead}
+use Rattle.fixed_vec.specs.FixedVec.{held}
+use Rattle.packing.specs.Packing.{frames_of}
+use Rattle.packing.specs.Pad.{zeros}
+use Rattle.history.specs.History.{blank_frame}
+use Rattle.setup.specs.Setup.{handle_list}
+use Rattle.events.specs.declared.Entry.{Entry}
+use Rattle.events.specs.Events.{held_events, ahead, announced_all, packet_fits, PushedAs}
 use Rattle.codec.proofs.KindNumbers.{kind_is_one}
 use Rattle.nonces.specs.Nonces.{outstanding, is_outstanding}
 use Rattle.timers.specs.Timers.{bad_clock}
@@ -19,19 +23,18 @@ use Rattle.endpoint_rules.specs.Seen.{is_synchronizing}
 use Rattle.endpoint_rules.specs.declared.Phase.{Phase}
 use Rattle.endpoint_rules.specs.declared.Phase.TheVariants.{Initializing, Synchronizing, Running, Disconnected, Shutdown}
 use Rattle.endpoint_rules.specs.Step.{ignored_by}
-use Rattle.endpoint.specs.Inside.Packet.{news}
-use Rattle.endpoint.proofs.Laws.Message.InputAck.{Drops, drops_some, drops_none}
-use Rattle.endpoint.proofs.Laws.Message.Input.{packet_refused, packet_unannounced, packet_announced, packet_quiet, packet_read, packet_unread}
-use Rattle.endpoint.proofs.Laws.Ends.{passed_on}
+use Rattle.endpoint.specs.Inside.Packet.{found_of}
+use Rattle.endpoint.proofs.Laws.Message.InputAck.{drops_some}
+use Rattle.endpoint.proofs.Laws.Message.Input.{packet_refused, packet_unannounced, packet_announced, packet_read, packet_unread}
+use Rattle.endpoint.proofs.Laws.Announced.{with_events_of}
+use Rattle.endpoint.proofs.Laws.Ends.{passed_on, remade}
 use Rattle.endpoint.proofs.Laws.Handshake.{good_clocks}
-use Rattle.endpoint.proofs.Laws.Lengths.{no_event_fits}
 use Rattle.endpoint.proofs.Laws.Message.Bodies.{message-ignored}
-use Rattle.endpoint.proofs.Laws.Announced.{AnnouncedAs}
-use Rattle.endpoint.proofs.Laws.Message.Ways.{reply_passes, reply_crowded, reply_choked, Counted, counted_more, counted_last, input_passes, only_crowded, ack_crowded, report-refused, react_refuses, Left, only_left, ack_left, report_left, react_left, ends_quiet, ends_announced}
+use Rattle.endpoint.proofs.Laws.Message.Ways.{reply_passes, reply_crowded, reply_choked, Counted, counted_more, counted_last, input_passes, only_crowded, ack_crowded, report-refused, report_crowded, react_refuses, Left, only_left, ack_left, report_left, react_left, ends_quiet, ends_announced}
 use borrow.Author.Rules.{rules}
 use Rattle.endpoint.proofs.Endpoint.handle_message.Goals as goal
-use Rattle.endpoint.proofs.Endpoint.handle_message.Goals.{Else-is_ignored, Joined-informed-news, Joined-drops, Joined-kind_of}
-use Rattle.endpoint.proofs.Endpoint.handle_message.Goals.{in-Synchronizing+else-spent, in_default-phase, then-informed-news+else-not-pushed, else-informed-news, then-drops, else-drops, in-0-1, in_default+then-this-lt6, in-1+else-full, in-2+else-not-opened+else-full-2, in-3+else-full-3, in-6+in_ok-weigh-in-6, in-0+in_ok-reacted-in-0, then-resumes, else-resumes, then-remaining-gt0+in_ok-request-in-1, else-remaining-gt0}
+use Rattle.endpoint.proofs.Endpoint.handle_message.Goals.{Else-is_ignored, After-push_packet, Joined-kind_of}
+use Rattle.endpoint.proofs.Endpoint.handle_message.Goals.{in-Synchronizing+else-spend, in_default-phase, in-0-1, in_default+then-this-lt6, in-1+else-full, in-2+else-not-opened+else-full-2, in-3+else-full-3, in-6+in_ok-report-in-6+else-full-4, in-0+in_ok-reacted-in-0, then-resumes, else-resumes, then-remaining-gt0+in_ok-request-in-1, else-remaining-gt0}
 
 -- an open door: the clocks are within their ceilings, and the message is not ignored
 good : (h : Else-is_ignored) → bad_clock h.args.now || bad_clock h.args.epoch ≡ false
@@ -48,37 +51,38 @@ returns-then-is_ignored c =
     message-ignored a.self.now a.from a.message a.payload.now a.now a.epoch a.nonce a.out.now
     (good_clocks a.now a.epoch _ _ c.is_bad.ensures c.if-is_bad.false c.is_bad-else-is_bad.ensures c.if-is_bad-2.false) (sym c.is_ignored.ensures ∙ c.if-is_ignored.true)
 
-pub returns-then-events_full : goal.returns-then-events_full
-returns-then-events_full c =
-    let h = (goal.at.returns-then-events_full c).Else-is_ignored in
+pub returns-in_err-push-in-1 : goal.returns-in_err-push-in-1
+returns-in_err-push-in-1 c =
+    let h = (goal.at.returns-in_err-push-in-1 c).Else-is_ignored in
     let a = c.args in
-    reply_crowded a.self.now a.from a.message a.payload.now a.now a.epoch a.nonce a.out.now (good h) (heeded h)
-    _ (c.reply_of-reply.ensures (sym c.kind_of.ensures ∙ c.in-1.is)) c.in-Synchronizing.is c.saturating_sub-remaining.result c.saturating_sub-remaining.ensures c.spend-spent.result c.spend-spent.ensures c.if-spent.true
-    c.count-then-spent.result c.count-then-spent.ensures (sym c.events_full.ensures ∙ c.if-events_full.true)
+    rw (passed_on c.from_residual.result _ c.from_residual.ensures.1)
+    (reply_crowded a.self.now a.from a.message a.payload.now a.now a.epoch a.nonce a.out.now (good h) (heeded h)
+    _ (c.reply_of-reply.ensures (sym c.kind_of.ensures ∙ c.in-1.is)) c.in-Synchronizing.is c.saturating_sub-remaining.result c.saturating_sub-remaining.ensures c.spend.result c.spend.new.self c.spend.ensures c.if-spend.true
+    c.progress.result c.push.new.self _ c.in_err-push-in-1.ensures)
 
 pub returns-in_err-request-in-1 : goal.returns-in_err-request-in-1
 returns-in_err-request-in-1 c =
     let h = (goal.at.returns-in_err-request-in-1 c).Else-is_ignored in
     let a = c.args in
-    rw (passed_on c.from_residual.result _ c.from_residual.ensures.1)
+    rw (passed_on c.from_residual-in_err-request-in-1.result _ c.from_residual-in_err-request-in-1.ensures.1)
     (reply_choked a.self.now a.from a.message a.payload.now a.now a.epoch a.nonce a.out.now (good h) (heeded h)
-    _ (c.reply_of-reply.ensures (sym c.kind_of.ensures ∙ c.in-1.is)) c.in-Synchronizing.is c.saturating_sub-remaining.result c.saturating_sub-remaining.ensures c.spend-spent.result c.spend-spent.ensures c.if-spent.true
-    c.count-then-spent.result c.count-then-spent.ensures c.if-remaining-gt0.true _ _ _ c.in_err-request-in-1.ensures)
+    _ (c.reply_of-reply.ensures (sym c.kind_of.ensures ∙ c.in-1.is)) c.in-Synchronizing.is c.saturating_sub-remaining.result c.saturating_sub-remaining.ensures c.spend.result c.spend.new.self c.spend.ensures c.if-spend.true
+    c.progress.result c.push.new.self c.if-remaining-gt0.true _ _ _ c.in_err-request-in-1.ensures)
 
-pub returns-then-spent : goal.returns-then-spent
-returns-then-spent c =
-    let h = (goal.at.returns-then-spent c).Else-is_ignored in
+pub returns-then-spend : goal.returns-then-spend
+returns-then-spend c =
+    let h = (goal.at.returns-then-spend c).Else-is_ignored in
     let a = c.args in
     let counted : Counted a.self.now a.from a.message a.payload.now a.now a.epoch a.nonce a.out.now (good h) (heeded h)
-    _ (c.reply_of-reply.ensures (sym c.kind_of.ensures ∙ c.in-1.is)) c.in-Synchronizing.is c.saturating_sub-remaining.result c.saturating_sub-remaining.ensures c.spend-spent.result c.spend-spent.ensures c.if-spent.true
-    c.count-then-spent.result c.count-then-spent.ensures (sym c.events_full.ensures ∙ c.if-events_full.false) _ c.progress.ensures _ c.push.ensures c.if-remaining-gt0.self c.if-remaining-gt0.out =
+    _ (c.reply_of-reply.ensures (sym c.kind_of.ensures ∙ c.in-1.is)) c.in-Synchronizing.is c.saturating_sub-remaining.result c.saturating_sub-remaining.ensures c.spend.result c.spend.new.self c.spend.ensures c.if-spend.true
+    c.progress.result c.push.new.self c.progress.ensures c.in_ok-push-in-1.ensures c.if-remaining-gt0.self c.if-remaining-gt0.out =
     elim c.if-remaining-gt0.branch [
       | then-remaining-gt0+in_ok-request-in-1 w ↦ rw (w.self-is, w.out-is) (counted_more a.self.now a.from a.message a.payload.now a.now a.epoch a.nonce a.out.now (good h) (heeded h)
-          _ (c.reply_of-reply.ensures (sym c.kind_of.ensures ∙ c.in-1.is)) c.in-Synchronizing.is c.saturating_sub-remaining.result c.saturating_sub-remaining.ensures c.spend-spent.result c.spend-spent.ensures c.if-spent.true
-          c.count-then-spent.result c.count-then-spent.ensures (sym c.events_full.ensures ∙ c.if-events_full.false) _ c.progress.ensures _ c.push.ensures w.if-remaining-gt0.true _ _ w.in_ok-request-in-1.ensures)
+          _ (c.reply_of-reply.ensures (sym c.kind_of.ensures ∙ c.in-1.is)) c.in-Synchronizing.is c.saturating_sub-remaining.result c.saturating_sub-remaining.ensures c.spend.result c.spend.new.self c.spend.ensures c.if-spend.true
+          c.progress.result c.push.new.self c.progress.ensures c.in_ok-push-in-1.ensures w.if-remaining-gt0.true _ _ w.in_ok-request-in-1.ensures)
       | else-remaining-gt0 w ↦ rw (w.self-is, w.out-is) (counted_last a.self.now a.from a.message a.payload.now a.now a.epoch a.nonce a.out.now (good h) (heeded h)
-          _ (c.reply_of-reply.ensures (sym c.kind_of.ensures ∙ c.in-1.is)) c.in-Synchronizing.is c.saturating_sub-remaining.result c.saturating_sub-remaining.ensures c.spend-spent.result c.spend-spent.ensures c.if-spent.true
-          c.count-then-spent.result c.count-then-spent.ensures (sym c.events_full.ensures ∙ c.if-events_full.false) _ c.progress.ensures _ c.push.ensures w.if-remaining-gt0.false)
+          _ (c.reply_of-reply.ensures (sym c.kind_of.ensures ∙ c.in-1.is)) c.in-Synchronizing.is c.saturating_sub-remaining.result c.saturating_sub-remaining.ensures c.spend.result c.spend.new.self c.spend.ensures c.if-spend.true
+          c.progress.result c.push.new.self c.progress.ensures c.in_ok-push-in-1.ensures w.if-remaining-gt0.false)
     ] in
     counted c.heard-self.result c.heard-self.ensures
 
@@ -96,7 +100,7 @@ returns-then-full c =
     let a = c.args in
     let u : is_synchronizing a.self.now.sync.phase && is_outstanding c.reply_of-reply.result (outstanding a.self.now.nonces) ≡ false =
     elim c.match-phase.branch [
-      | in-Synchronizing+else-spent v ↦ rw (ap is_synchronizing v.in-Synchronizing.is) (sym v.spend-spent.ensures.found ∙ v.if-spent.false)
+      | in-Synchronizing+else-spend v ↦ rw (ap is_synchronizing v.in-Synchronizing.is) (sym v.spend.ensures.found ∙ v.if-spend.false)
       | in_default-phase v ↦ rw (other_phase a.self.now.sync.phase v.in_default-phase.not-Synchronizing)
     ] in
     (only_crowded a.self.now a.from a.message a.payload.now a.now a.epoch a.nonce a.out.now (good h) (heeded h)
@@ -110,64 +114,76 @@ returns-in_err-admit-in-2 c =
     let a = c.args in
     rw (passed_on c.from_residual-in_err-admit-in-2.result _ c.from_residual-in_err-admit-in-2.ensures.1)
     (packet_refused a.self.now a.from a.message a.payload.now a.now a.epoch a.nonce a.out.now (good h) (heeded h)
-    _ _ _ (c.input_of-head.ensures (sym c.kind_of.ensures ∙ c.in-2.is)) c.open-opened.result c.open-opened.ensures (not-true _ c.if-not-opened.true) c.inform-informed.result c.inform-informed.ensures
+    _ _ _ (c.input_of-head.ensures (sym c.kind_of.ensures ∙ c.in-2.is)) c.open-opened.result c.open-opened.ensures c.if-not-opened.true c.inform-informed.result c.inform-informed.ensures
     _ c.in_err-admit-in-2.ensures)
 
-pub returns-then-not-pushed : goal.returns-then-not-pushed
-returns-then-not-pushed c =
-    let h = (goal.at.returns-then-not-pushed c).Else-is_ignored in
+-- the reference, of 64 bytes, and what is announced with it
+reference : (c : After-push_packet) → c.unwrap_or-reference.result ≡ (found_of c.open-opened.result).input
+unfolding blank_frame zeros
+reference c = c.unwrap_or-reference.ensures
+
+wide : (c : After-push_packet) → length (found_of c.open-opened.result).input.bytes ≡ 64
+wide c = let w : length c.unwrap_or-reference.result.bytes ≡ 64 = search rules in rw (reference c) at w
+
+pushed : (c : After-push_packet) →
+    let ahead_of : List Entry = ahead c.inform-informed.result.resumes c.inform-informed.result.disconnects in
+    let handles : List ℕ = handle_list c.args.self.now.setup.handles in
+    let news = c.news_of-news.result in
+    PushedAs c.args.self.now.events (packet_fits (held_events c.args.self.now.events ++ ahead_of) news.first news.count handles)
+    (ahead_of ++ announced_all news.first c.args.self.now.setup.input_size handles (frames_of c.receiving_width-width.result (found_of c.open-opened.result).input.bytes news.count (drop news.at c.args.payload.now)))
+    c.push_packet.result c.push_packet.new.self
+unfolding held
+pushed c =
+    let p = c.args.payload.now in
+    let n = c.news_of-news.result.at in
+    let rest : take (length p - n) (drop n p) ≡ drop n p = take_all (length p - n) (drop n p) (simp length-drop (omega arith)) in
+    rw (reference c, c.as_slice.ensures.value, rest) at c.push_packet.ensures
+
+pub returns-in_err-push_packet-in-2 : goal.returns-in_err-push_packet-in-2
+returns-in_err-push_packet-in-2 c =
+    let h = (goal.at.returns-in_err-push_packet-in-2 c).Else-is_ignored in
+    let q = (goal.at.returns-in_err-push_packet-in-2 c).After-push_packet in
     let a = c.args in
-    let wide : length c.open-opened.result.input.bytes ≡ 64 = search rules in
+    rw (passed_on c.from_residual-in_err-push_packet-in-2.result _ c.from_residual-in_err-push_packet-in-2.ensures.1, c.push_packet.ensures.same _ c.in_err-push_packet-in-2.was)
     (packet_unannounced a.self.now a.from a.message a.payload.now a.now a.epoch a.nonce a.out.now (good h) (heeded h)
-    _ _ _ (c.input_of-head.ensures (sym c.kind_of.ensures ∙ c.in-2.is)) c.open-opened.result c.open-opened.ensures (not-true _ c.if-not-opened.true) c.inform-informed.result c.inform-informed.ensures
+    _ _ _ (c.input_of-head.ensures (sym c.kind_of.ensures ∙ c.in-2.is)) c.open-opened.result c.open-opened.ensures c.if-not-opened.true c.inform-informed.result c.inform-informed.ensures
     c.in_ok-admit-in-2.ensures c.receiving_width-width.result c.receiving_width-width.ensures
-    wide c.news_of-news.result c.news_of-news.ensures c.push_packet-pushed.result c.push_packet-pushed.ensures (not-true _ c.if-not-pushed.true))
-
--- the endpoint after what is announced
-announcing : (c : Joined-informed-news) → AnnouncedAs c.args.self.now
-    (ahead c.inform-informed.result.resumes c.inform-informed.result.disconnects ++ pick c.open-opened.result.readable (news c.args.self.now.setup (newest_of (received c.args.self.now.history)) c.input_of-head.result.start_frame c.open-opened.result.input.bytes c.args.payload.now) [])
-    c.if-informed-news.self
-announcing c =
-    let h = (goal.at.Joined-informed-news c).Else-is_ignored in
-    let a = c.args in
-    let wide : length c.open-opened.result.input.bytes ≡ 64 = search rules in
-    elim c.if-informed-news.branch [
-      | then-informed-news+else-not-pushed v ↦ packet_announced a.self.now a.from a.message a.payload.now a.now a.epoch a.nonce a.out.now (good h) (heeded h)
-          _ _ _ (c.input_of-head.ensures (sym c.kind_of.ensures ∙ c.in-2.is)) c.open-opened.result c.open-opened.ensures (not-true _ c.if-not-opened.true) c.inform-informed.result c.inform-informed.ensures
-          c.in_ok-admit-in-2.ensures c.receiving_width-width.result c.receiving_width-width.ensures
-          wide c.news_of-news.result c.news_of-news.ensures v.push_packet-pushed.result v.push_packet-pushed.ensures (not-false _ v.if-not-pushed.false) c.if-informed-news.self v.self-is
-      | else-informed-news v ↦ packet_quiet a.self.now a.from a.message a.payload.now a.now a.epoch a.nonce a.out.now (good h) (heeded h)
-          _ _ _ (c.input_of-head.ensures (sym c.kind_of.ensures ∙ c.in-2.is)) c.open-opened.result c.open-opened.ensures (not-true _ c.if-not-opened.true) c.inform-informed.result c.inform-informed.ensures
-          c.in_ok-admit-in-2.ensures c.receiving_width-width.result c.receiving_width-width.ensures
-          wide c.news_of-news.result c.news_of-news.ensures v.if-informed-news.false (no_event_fits a.self.now c.requires) c.if-informed-news.self v.self-is
-    ]
-
--- and after what is dropped
-dropping : (c : Joined-drops) → Drops c.input_of-head.result.ack_frame c.if-informed-news.self c.if-drops.self
-dropping c =
-    elim c.if-drops.branch [
-      | then-drops v ↦ drops_some _ c.if-informed-news.self c.if-drops.self v.drop_to-dropped.result v.drop_to-dropped.ensures v.self-is
-      | else-drops v ↦ drops_none _ c.if-informed-news.self c.if-drops.self (rw (← c.drops.ensures) v.if-drops.false) v.self-is
-    ]
+    (wide q) c.news_of-news.result c.news_of-news.ensures c.push_packet.result c.push_packet.new.self (pushed q) _ c.in_err-push_packet-in-2.was)
 
 pub returns-then-opened : goal.returns-then-opened
 returns-then-opened c =
     let h = (goal.at.returns-then-opened c).Else-is_ignored in
+    let q = (goal.at.returns-then-opened c).After-push_packet in
     let a = c.args in
-    (packet_read a.self.now a.from a.message a.payload.now a.now a.epoch a.nonce a.out.now (good h) (heeded h)
-    _ _ _ (c.input_of-head.ensures (sym c.kind_of.ensures ∙ c.in-2.is)) c.open-opened.result c.open-opened.ensures (not-true _ c.if-not-opened.true) c.inform-informed.result c.inform-informed.ensures
+    let s = with_events_of a.self.now c.push_packet.new.self in
+    let t = remade s c.drop_to-self.new.self c.drop_to-self.result s.history s.sync s.nonces s.clocks s.flags s.quality s.statuses s.checksums s.events s.queued in
+    let announced = packet_announced a.self.now a.from a.message a.payload.now a.now a.epoch a.nonce a.out.now (good h) (heeded h)
+    _ _ _ (c.input_of-head.ensures (sym c.kind_of.ensures ∙ c.in-2.is)) c.open-opened.result c.open-opened.ensures c.if-not-opened.true c.inform-informed.result c.inform-informed.ensures
     c.in_ok-admit-in-2.ensures c.receiving_width-width.result c.receiving_width-width.ensures
-    c.if-informed-news.self (announcing (goal.at.returns-then-opened c).Joined-informed-news) c.if-drops.self (dropping (goal.at.returns-then-opened c).Joined-drops) c.noted-self.result c.noted-self.ensures c.if-opened.true
-    c.take_in-self.result c.take_in-self.ensures c.newest.result c.newest.ensures c.body_only.result c.body_only.new.out c.body_only.ensures _ c.unwrap_or-self.ensures)
+    (wide q) c.news_of-news.result c.news_of-news.ensures c.push_packet.result c.push_packet.new.self (pushed q) c.in_ok-push_packet-in-2.was s refl in
+    let dropped = drops_some c.input_of-head.result.ack_frame s t c.drop_to-self.result c.drop_to-self.new.self c.drop_to-self.ensures refl in
+    packet_read a.self.now a.from a.message a.payload.now a.now a.epoch a.nonce a.out.now (good h) (heeded h)
+    _ _ _ (c.input_of-head.ensures (sym c.kind_of.ensures ∙ c.in-2.is)) c.open-opened.result c.open-opened.ensures c.if-not-opened.true c.inform-informed.result c.inform-informed.ensures
+    c.in_ok-admit-in-2.ensures c.receiving_width-width.result c.receiving_width-width.ensures
+    s announced t dropped c.noted-self.result (rw c.is_some.ensures at c.noted-self.ensures) c.if-opened.true
+    c.take_in.new.self (rw (reference q) at c.take_in.ensures) c.newest.result c.newest.ensures c.body_only.result c.body_only.new.out c.body_only.ensures _ c.unwrap_or-self.ensures
 
 pub returns-else-opened : goal.returns-else-opened
 returns-else-opened c =
     let h = (goal.at.returns-else-opened c).Else-is_ignored in
+    let q = (goal.at.returns-else-opened c).After-push_packet in
     let a = c.args in
-    (packet_unread a.self.now a.from a.message a.payload.now a.now a.epoch a.nonce a.out.now (good h) (heeded h)
-    _ _ _ (c.input_of-head.ensures (sym c.kind_of.ensures ∙ c.in-2.is)) c.open-opened.result c.open-opened.ensures (not-true _ c.if-not-opened.true) c.inform-informed.result c.inform-informed.ensures
+    let s = with_events_of a.self.now c.push_packet.new.self in
+    let t = remade s c.drop_to-self.new.self c.drop_to-self.result s.history s.sync s.nonces s.clocks s.flags s.quality s.statuses s.checksums s.events s.queued in
+    let announced = packet_announced a.self.now a.from a.message a.payload.now a.now a.epoch a.nonce a.out.now (good h) (heeded h)
+    _ _ _ (c.input_of-head.ensures (sym c.kind_of.ensures ∙ c.in-2.is)) c.open-opened.result c.open-opened.ensures c.if-not-opened.true c.inform-informed.result c.inform-informed.ensures
     c.in_ok-admit-in-2.ensures c.receiving_width-width.result c.receiving_width-width.ensures
-    c.if-informed-news.self (announcing (goal.at.returns-else-opened c).Joined-informed-news) c.if-drops.self (dropping (goal.at.returns-else-opened c).Joined-drops) c.noted-self.result c.noted-self.ensures c.if-opened.false)
+    (wide q) c.news_of-news.result c.news_of-news.ensures c.push_packet.result c.push_packet.new.self (pushed q) c.in_ok-push_packet-in-2.was s refl in
+    let dropped = drops_some c.input_of-head.result.ack_frame s t c.drop_to-self.result c.drop_to-self.new.self c.drop_to-self.ensures refl in
+    packet_unread a.self.now a.from a.message a.payload.now a.now a.epoch a.nonce a.out.now (good h) (heeded h)
+    _ _ _ (c.input_of-head.ensures (sym c.kind_of.ensures ∙ c.in-2.is)) c.open-opened.result c.open-opened.ensures c.if-not-opened.true c.inform-informed.result c.inform-informed.ensures
+    c.in_ok-admit-in-2.ensures c.receiving_width-width.result c.receiving_width-width.ensures
+    s announced t dropped c.noted-self.result (rw c.is_some.ensures at c.noted-self.ensures) c.if-opened.false
 
 pub returns-then-full-2 : goal.returns-then-full-2
 returns-then-full-2 c =
@@ -176,7 +192,7 @@ returns-then-full-2 c =
     (only_crowded a.self.now a.from a.message a.payload.now a.now a.epoch a.nonce a.out.now (good h) (heeded h)
     c.is_resuming-resumes.result c.is_resuming-resumes.ensures c.count.result c.count.ensures c.events_full-full.result c.events_full-full.ensures
     (input_passes a.self.now a.from a.message a.payload.now a.now a.epoch a.nonce a.out.now (good h) (heeded h)
-    _ _ _ (c.input_of-head.ensures (sym c.kind_of.ensures ∙ c.in-2.is)) c.open-opened.result c.open-opened.ensures (not-false _ c.if-not-opened.false)) c.if-full-2.true)
+    _ _ _ (c.input_of-head.ensures (sym c.kind_of.ensures ∙ c.in-2.is)) c.open-opened.result c.open-opened.ensures c.if-not-opened.false) c.if-full-2.true)
 
 pub returns-then-full-3 : goal.returns-then-full-3
 returns-then-full-3 c =
@@ -186,14 +202,22 @@ returns-then-full-3 c =
     c.is_resuming-resumes.result c.is_resuming-resumes.ensures c.count.result c.count.ensures c.events_full-full.result c.events_full-full.ensures
     _ (c.ack_of-ack_frame.ensures (sym c.kind_of.ensures ∙ c.in-3.is)) c.if-full-3.true)
 
-pub returns-in_err-weigh-in-6 : goal.returns-in_err-weigh-in-6
-returns-in_err-weigh-in-6 c =
-    let h = (goal.at.returns-in_err-weigh-in-6 c).Else-is_ignored in
+pub returns-in_err-report-in-6 : goal.returns-in_err-report-in-6
+returns-in_err-report-in-6 c =
+    let h = (goal.at.returns-in_err-report-in-6 c).Else-is_ignored in
     let a = c.args in
-    rw (passed_on c.from_residual-in_err-weigh-in-6.result _ c.from_residual-in_err-weigh-in-6.ensures.1)
+    rw (passed_on c.from_residual-in_err-report-in-6.result _ c.from_residual-in_err-report-in-6.ensures.1)
     (report-refused a.self.now a.from a.message a.payload.now a.now a.epoch a.nonce a.out.now (good h) (heeded h)
     c.is_resuming-resumes.result c.is_resuming-resumes.ensures c.count.result c.count.ensures c.events_full-full.result c.events_full-full.ensures
-    _ _ (c.checksum_of-checksum.ensures (sym c.kind_of.ensures ∙ c.in-6.is)) c.interval.result c.interval.ensures c.report-reported.result c.report-reported.ensures _ c.in_err-weigh-in-6.ensures)
+    _ _ (c.checksum_of.ensures (sym c.kind_of.ensures ∙ c.in-6.is)) c.interval.result c.interval.ensures c.report.result c.report.new.self c.report.ensures _ c.in_err-report-in-6.was)
+
+pub returns-then-full-4 : goal.returns-then-full-4
+returns-then-full-4 c =
+    let h = (goal.at.returns-then-full-4 c).Else-is_ignored in
+    let a = c.args in
+    report_crowded a.self.now a.from a.message a.payload.now a.now a.epoch a.nonce a.out.now (good h) (heeded h)
+    c.is_resuming-resumes.result c.is_resuming-resumes.ensures c.count.result c.count.ensures c.events_full-full.result c.events_full-full.ensures
+    _ _ (c.checksum_of.ensures (sym c.kind_of.ensures ∙ c.in-6.is)) c.interval.result c.interval.ensures c.report.result c.report.new.self c.report.ensures c.in_ok-report-in-6.was c.if-full-4.true
 
 -- a number above 7 is no body's
 pub returns-in_default : goal.returns-in_default
@@ -241,7 +265,7 @@ left c =
       | in-1+else-full w ↦
           let u : is_synchronizing a.self.now.sync.phase && is_outstanding w.reply_of-reply.result (outstanding a.self.now.nonces) ≡ false =
           elim w.match-phase.branch [
-            | in-Synchronizing+else-spent v ↦ rw (ap is_synchronizing v.in-Synchronizing.is) (sym v.spend-spent.ensures.found ∙ v.if-spent.false)
+            | in-Synchronizing+else-spend v ↦ rw (ap is_synchronizing v.in-Synchronizing.is) (sym v.spend.ensures.found ∙ v.if-spend.false)
             | in_default-phase v ↦ rw (other_phase a.self.now.sync.phase v.in_default-phase.not-Synchronizing)
           ] in
           rw (w.self-is, w.out-is) (only_left a.self.now a.from a.message a.payload.now a.now a.epoch a.nonce a.out.now (good h) (heeded h)
@@ -252,15 +276,15 @@ left c =
           rw (w.self-is, w.out-is) (only_left a.self.now a.from a.message a.payload.now a.now a.epoch a.nonce a.out.now (good h) (heeded h)
           c.is_resuming-resumes.result c.is_resuming-resumes.ensures c.count.result c.count.ensures c.events_full-full.result c.events_full-full.ensures
           (input_passes a.self.now a.from a.message a.payload.now a.now a.epoch a.nonce a.out.now (good h) (heeded h)
-          _ _ _ (w.input_of-head.ensures (sym c.kind_of.ensures ∙ w.in-2.is)) w.open-opened.result w.open-opened.ensures (not-false _ w.if-not-opened.false)) w.if-full-2.false)
+          _ _ _ (w.input_of-head.ensures (sym c.kind_of.ensures ∙ w.in-2.is)) w.open-opened.result w.open-opened.ensures w.if-not-opened.false) w.if-full-2.false)
       | in-3+else-full-3 w ↦
           rw (w.self-is, w.out-is) (ack_left a.self.now a.from a.message a.payload.now a.now a.epoch a.nonce a.out.now (good h) (heeded h)
           c.is_resuming-resumes.result c.is_resuming-resumes.ensures c.count.result c.count.ensures c.events_full-full.result c.events_full-full.ensures
-          _ (w.ack_of-ack_frame.ensures (sym c.kind_of.ensures ∙ w.in-3.is)) w.if-full-3.false w.drop_to-dropped-in-3.result w.drop_to-dropped-in-3.ensures)
-      | in-6+in_ok-weigh-in-6 w ↦
+          _ (w.ack_of-ack_frame.ensures (sym c.kind_of.ensures ∙ w.in-3.is)) w.if-full-3.false w.drop_to-self-in-3.result w.drop_to-self-in-3.new.self w.drop_to-self-in-3.ensures)
+      | in-6+in_ok-report-in-6+else-full-4 w ↦
           rw (w.self-is, w.out-is) (report_left a.self.now a.from a.message a.payload.now a.now a.epoch a.nonce a.out.now (good h) (heeded h)
           c.is_resuming-resumes.result c.is_resuming-resumes.ensures c.count.result c.count.ensures c.events_full-full.result c.events_full-full.ensures
-          _ _ (w.checksum_of-checksum.ensures (sym c.kind_of.ensures ∙ w.in-6.is)) w.interval.result w.interval.ensures w.report-reported.result w.report-reported.ensures w.in_ok-weigh-in-6.ensures)
+          _ _ (w.checksum_of.ensures (sym c.kind_of.ensures ∙ w.in-6.is)) w.interval.result w.interval.ensures w.report.result w.report.new.self w.report.ensures w.in_ok-report-in-6.was w.if-full-4.false)
       | in-0+in_ok-reacted-in-0 w ↦
           let o : Others c.kind_of.result =
           elim w.in-0-1.branch [
@@ -280,7 +304,7 @@ returns c =
     (elim c.if-resumes.branch [
       | then-resumes w ↦ rw w.self-is (ends_announced a.self.now a.from a.message a.payload.now a.now a.epoch a.nonce a.out.now (good h) (heeded h)
           c.is_resuming-resumes.result c.is_resuming-resumes.ensures c.count.result c.count.ensures c.events_full-full.result c.events_full-full.ensures
-          c.match-kind_of.self c.match-kind_of.out l c.heard-self-2.result (rw w.self-is at c.heard-self-2.ensures) w.if-resumes.true _ refl w.push-then-resumes.result w.push-then-resumes.ensures)
+          c.match-kind_of.self c.match-kind_of.out l c.heard-self-2.result (rw w.self-is at c.heard-self-2.ensures) w.if-resumes.true _ refl w.push-then-resumes.result w.push-then-resumes.new.self w.push-then-resumes.ensures)
       | else-resumes w ↦ rw w.self-is (ends_quiet a.self.now a.from a.message a.payload.now a.now a.epoch a.nonce a.out.now (good h) (heeded h)
           c.is_resuming-resumes.result c.is_resuming-resumes.ensures c.count.result c.count.ensures c.events_full-full.result c.events_full-full.ensures
           c.match-kind_of.self c.match-kind_of.out l c.heard-self-2.result (rw w.self-is at c.heard-self-2.ensures) w.if-resumes.false c.requires)

@@ -74,7 +74,7 @@ unfolding buffer_full
 room_is n at zero h = refl
 room_is n at (suc k) h = rw (lt-ltb 0 (suc k) (omega arith), le-ltb n (at + suc k) (h (omega arith)))
 
-pub empty : {A : Type 0} (l : List A) → length l ≡ 0 → l ≡ []
+empty : {A : Type 0} (l : List A) → length l ≡ 0 → l ≡ []
 empty [] h = refl
 empty (x ∷ xs) h = absurd (omega arith)
 

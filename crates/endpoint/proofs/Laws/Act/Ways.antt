@@ -25,7 +25,6 @@ use Rattle.timers.specs.declared.Clocks.{Clocks}
 use Rattle.timers.specs.Timers.{bad_clocks, passed}
 use Rattle.events.specs.declared.Entry.{Entry}
 use Rattle.events.specs.declared.Events.{Events}
-use Rattle.events.specs.declared.Pushed.{Pushed}
 use Rattle.events.specs.Events.{held_events, has_room, both, PushedAs}
 use Rattle.events.proofs.Laws.{both-length}
 use Rattle.codec.specs.Message.{Wire}
@@ -56,7 +55,7 @@ use Rattle.endpoint.proofs.Laws.Settled.{did_settled}
 use Rattle.endpoint.proofs.Laws.Room.{full_events, room_none, full_bytes, room-bytes, reacted_full, reacted-done}
 use Rattle.endpoint.proofs.Laws.Message.Unqueued.{unqueued}
 use Rattle.endpoint.proofs.Laws.Handshake.{request_full, request_fits}
-use Rattle.endpoint.proofs.Laws.Act.Batch.{empty, none_sent, written_none, written_one, written_then}
+use Rattle.endpoint.proofs.Laws.Act.Batch.{none_sent, written_none, written_one, written_then}
 use Rattle.endpoint.proofs.Laws.Act.Due.{ran, running_is}
 
 -- act by phase, as a reaction: past the tests for 8 and 3 it is refused for room alone
@@ -143,14 +142,9 @@ module _ (e : Endpoint) (buffer : List ℕ) (statuses : Statuses) (now epoch : �
       events_kept : s.events ≡ e.events
       events_kept = ap (λ (x : Endpoint). x.events) kept
 
-      pub announced_none : m ≤ 0 → Announced s s
-      announced_none h =
-          let none : DueEvents ≡ [] = empty DueEvents (omega (arith, announced_many, h)) in
-          (kept ∙ ap (λ (v : Events). grown e v s.queued) (sym events_kept), rw (events_kept, none, append-nil))
-
-      pub announced_some : n + m ≤ 640 → (p : Pushed) → PushedAs s.events (has_room (held_events s.events) (length DueEvents)) DueEvents p → Announced s (grown s p.events s.queued)
-      announced_some h p ep =
-          (ap (λ (x : Endpoint). grown x p.events s.queued) kept, rw (events_kept, announced_fits h) at ep.view)
+      pub announced_all : n + m ≤ 640 → (a : Answered) (v : Events) → PushedAs s.events (has_room (held_events s.events) (length DueEvents)) DueEvents a v → Announced s (grown s v s.queued)
+      announced_all h a v ev =
+          (ap (λ (x : Endpoint). grown x v s.queued) kept, rw (events_kept, announced_fits h) at ev.view)
 
   module _ (pending : ℕ) (some : pending ≡ length (waiting e.pending))
       (due : d ≡ due_of now e.clocks e.flags (ltb 0 pending) e.setup.disconnect_notify_start e.setup.disconnect_timeout) where

@@ -8,7 +8,9 @@ use Rattle.base.specs.Pick.{pick}
 use Rattle.timers.specs.declared.Clocks.{Clocks}
 use Rattle.events.specs.declared.Entry.{Entry}
 use Rattle.events.specs.declared.Events.{Events}
-use Rattle.events.specs.declared.Pushed.{Pushed}
+use Rattle.std.specs.Prelude.{Ok, Err}
+use Rattle.answer.specs.Number.{Answered, done}
+use Rattle.answer.specs.declared.Refusal.TheVariants.{Full}
 use Rattle.events.specs.declared.Event.TheVariants.{NetworkResumed}
 use Rattle.events.specs.Events.{held_events, has_room, without_input, PushedAs}
 use Rattle.endpoint_rules.specs.declared.Flags.{Flags}
@@ -23,7 +25,8 @@ use Rattle.endpoint.specs.Inside.Hearing.{heard_by, resumed_flags}
 use lib.Dec.{leb}
 use Rattle.timers.specs.Timers.{heard_at}
 use Rattle.events.proofs.Laws.{pushed_if, not_pushed}
-use Rattle.endpoint.proofs.Laws.Room.{crowded, roomy}
+use Rattle.endpoint.proofs.Laws.Lengths.{events_most}
+use Rattle.endpoint.proofs.Laws.Room.{crowded, roomy, room_known, crowd_known}
 
 -- the parts that have heard: what hearing announces is at the end of the events, where it fits
 pub record Ears : Type 0 where
@@ -38,8 +41,8 @@ pub record HeardAs (e : Endpoint) (x : Effect) (r : Ears) : Type 0 where
   pub flags : r.flags ≡ x.state.flags
   pub events : held_events r.events ≡ pick r.ok (held_events e.events ++ x.events) (held_events e.events)
 
-abbrev pub ears : Heard → Pushed → Ears
-ears h p = record { ok = p.ok; clocks = h.clocks; flags = h.flags; events = p.events }
+abbrev pub ears : Heard → Bool → Events → Ears
+ears h ok t = record { ok = ok; clocks = h.clocks; flags = h.flags; events = t }
 
 module _ (e : Endpoint) where
   pub not_resumes : is_running e.sync.phase ≡ false → resumes (seen e) ≡ false
@@ -57,13 +60,15 @@ module _ (e : Endpoint) where
     unfolding seen
     heard_by_lem = heard_is (resumes (seen e)) refl
 
-    pub hears : (h : Heard) (x : Entry) (p : Pushed) → h ≡ heard_by e.sync.phase e.clocks e.flags now → x ≡ without_input NetworkResumed
-        → PushedAs e.events (has_room (held_events e.events) (length (pick h.resumes (x ∷ []) []))) (pick h.resumes (x ∷ []) []) p
-        → HeardAs e (heard now (seen e)) (ears h p)
+    pub hears : (h : Heard) (x : Entry) (r : Answered) (t : Events) (ok : Bool) → h ≡ heard_by e.sync.phase e.clocks e.flags now → x ≡ without_input NetworkResumed
+        → PushedAs e.events (has_room (held_events e.events) (length (pick h.resumes (x ∷ []) []))) (pick h.resumes (x ∷ []) []) r t
+        → ok ≡ has_room (held_events e.events) (length (pick h.resumes (x ∷ []) []))
+        → HeardAs e (heard now (seen e)) (ears h ok t)
     unfolding seen
-    hears h x p eh ex ep =
+    hears h x r t ok eh ex ep eo =
         let q = rw (ex, ap (λ (y : Heard). y.resumes) eh) at ep in
-        rw heard_by_lem (record { ok = q.ok; clocks = ap (λ (y : Heard). y.clocks) eh; flags = ap (λ (y : Heard). y.flags) eh; events = rw q.ok q.view })
+        let k = rw (ex, ap (λ (y : Heard). y.resumes) eh) at eo in
+        rw heard_by_lem (record { ok = k; clocks = ap (λ (y : Heard). y.clocks) eh; flags = ap (λ (y : Heard). y.flags) eh; events = rw k q.view })
 
 -- What a message has of its endpoint once it is heard, where an interruption's end is announced only if there is one.
 
@@ -73,20 +78,28 @@ module _ (e : Endpoint) (now : ℕ) (r : Bool) (er : r ≡ (is_running e.sync.ph
   abbrev pub heard_with : Bool → Events → Ears
   heard_with ok events = record { ok = ok; clocks = heard_at now e.clocks; flags = resumed_flags r e.flags; events = events }
 
-  abbrev Pushes : Pushed → Type 0
-  Pushes p = PushedAs e.events (has_room (held_events e.events) (length (pick r (without_input NetworkResumed ∷ []) []))) (pick r (without_input NetworkResumed ∷ []) []) p
+  abbrev Able : Bool
+  Able = has_room (held_events e.events) (length (pick r (without_input NetworkResumed ∷ []) []))
 
-  heard_with_lem : (p : Pushed) → Pushes p → HeardAs e (heard now (seen e)) (heard_with p.ok p.events)
-  heard_with_lem p ep = rw er (hears e now (heard_by e.sync.phase e.clocks e.flags now) (without_input NetworkResumed) p refl refl (rw er at ep))
+  abbrev Pushes : Answered → Events → Type 0
+  Pushes a t = PushedAs e.events Able (pick r (without_input NetworkResumed ∷ []) []) a t
+
+  heard_with_lem : (a : Answered) (t : Events) (ok : Bool) → Pushes a t → ok ≡ Able → HeardAs e (heard now (seen e)) (heard_with ok t)
+  heard_with_lem a t ok ep eo = rw er (hears e now (heard_by e.sync.phase e.clocks e.flags now) (without_input NetworkResumed) a t ok refl refl (rw er at ep) (rw er at eo))
 
   pub ears_full : f ≡ true → HeardAs e (heard now (seen e)) (heard_with false e.events)
-  ears_full h = heard_with_lem (record { ok = false; events = e.events }) (crowded e.events (without_input NetworkResumed) n en r (sym ef ∙ h))
+  ears_full h =
+      let none = crowded e.events (without_input NetworkResumed) n en r (sym ef ∙ h) in
+      heard_with_lem (Err Full) e.events false none (sym (crowd_known _ _ Full none.answer refl).0)
 
-  pub ears_quiet : r ≡ false → length e.events.entries ≡ 640 → HeardAs e (heard now (seen e)) (heard_with true e.events)
-  ears_quiet h l = heard_with_lem (record { ok = true; events = e.events }) (not_pushed e.events r (without_input NetworkResumed) h l)
+  pub ears_quiet : r ≡ false → length e.events.entries.list ≡ 640 → HeardAs e (heard now (seen e)) (heard_with true e.events)
+  ears_quiet h l =
+      let none = not_pushed e.events r (without_input NetworkResumed) h (events_most e.events l) in
+      heard_with_lem done e.events true none (sym (room_known _ _ none.answer refl))
 
-  pub ears_announced : f ≡ false → r ≡ true → (x : Entry) → x ≡ without_input NetworkResumed → (p : Pushed) → PushedAs e.events (has_room (held_events e.events) 1) (x ∷ []) p
-      → HeardAs e (heard now (seen e)) (heard_with true p.events)
-  ears_announced h t x ex p ep =
-      let ok : p.ok ≡ true = roomy e.events x n en r p (sym ef ∙ h) t ep in
-      rw (← ok) (heard_with_lem p (pushed_if e.events r (without_input NetworkResumed) p t (rw ex at ep)))
+  pub ears_announced : f ≡ false → r ≡ true → (x : Entry) → x ≡ without_input NetworkResumed → (a : Answered) (v : Events) → PushedAs e.events (has_room (held_events e.events) 1) (x ∷ []) a v
+      → HeardAs e (heard now (seen e)) (heard_with true v)
+  ears_announced h t x ex a v ep =
+      let ok : a ≡ Ok tt = roomy e.events x n en r a v (sym ef ∙ h) t ep in
+      let one = pushed_if e.events r (without_input NetworkResumed) a v t (rw ex at ep) in
+      heard_with_lem a v true one (sym (room_known _ a one.answer ok))

@@ -5,11 +5,9 @@ use mathlib.Core.Bool.{Bool, true, false, ◌&&◌, ◌||◌}
 use mathlib.Core.List.{List, [], ◌++◌, append-nil}
 use mathlib.Core.Path.{◌≡◌, refl, sym, ◌∙◌}
 use Prim.Native.Nat.{ℕ, ◌+◌, ◌^◌, ◌≤◌, ◌<◌}
-use native.Mathlib.Omega.{arith}
-use lib.Dec.{ltb}
 use lib.ListN.{length, take, drop}
 use Rattle.base.specs.Pick.{pick}
-use Rattle.base.proofs.Bools.{both as both_true, neither}
+use Rattle.base.proofs.Bools.{both as both_true}
 use Rattle.answer.specs.Number.{Answered}
 use Rattle.answer.specs.declared.Refusal.TheVariants.{Full, TooLong, Overflow}
 use Rattle.packing.specs.Packing.{frame_count, frames_of}
@@ -27,8 +25,8 @@ use Rattle.setup.specs.Setup.{terms_of, receiving_width, handle_list}
 use Rattle.packing.specs.declared.input_bytes.InputBytes.{InputBytes}
 use Rattle.pending.specs.declared.Pending.{Pending}
 use Rattle.events.specs.declared.Entry.{Entry}
-use Rattle.events.specs.declared.Pushed.{Pushed}
-use Rattle.events.specs.Events.{held_events, has_room, both, ahead, announced_all, packet_fits, PushedAs}
+use Rattle.events.specs.declared.Events.{Events}
+use Rattle.events.specs.Events.{held_events, has_room, ahead, announced_all, packet_fits, PushedAs}
 use Rattle.std.specs.Result.{result_unwrap_or}
 use Rattle.answer.specs.declared.Refusal.{Refusal}
 use Rattle.outbox.specs.Outbox.{QueuedAs}
@@ -53,10 +51,11 @@ use Rattle.endpoint.proofs.Laws.Message.InputAck.{Drops}
 use Rattle.endpoint.proofs.Laws.Handshake.{false_true}
 use Rattle.endpoint.proofs.Laws.Message.Admission.{let_in, kept_out}
 use Rattle.endpoint.proofs.Laws.Queued.{queued_room}
+use Rattle.endpoint.proofs.Laws.Room.{crowd_known}
 use Rattle.endpoint.proofs.Laws.Ends.{remade}
-use Rattle.endpoint.proofs.Laws.Announced.{with_events_of, AnnouncedAs, announced_all_lem, announced_nothing}
+use Rattle.endpoint.proofs.Laws.Announced.{with_events_of, AnnouncedAs, announced_all_lem}
 use Rattle.endpoint.proofs.Laws.Message.Informing.{Brought, informs, informs_sender}
-use Rattle.endpoint.proofs.Laws.Message.Packet.{announced-news, no_news, nothing_pushed}
+use Rattle.endpoint.proofs.Laws.Message.Packet.{announced-news, nothing_pushed}
 use Rattle.endpoint.proofs.Laws.Message.InputTaken.{unreadable_full, unreadable_done, readable_unannounced, readable_full, readable_done}
 use Rattle.endpoint.proofs.Laws.Message.InputWays.{not_negative, readable, input_long, input-overflows, input_unreadable, input_readable}
 use Rattle.endpoint.proofs.Laws.Message.Bodies.{input_came}
@@ -65,17 +64,14 @@ second_false : (x y : Bool) → (x && y) ≡ false → x ≡ true → y ≡ fals
 second_false true y h t = h
 second_false false y h t = cc
 
-none_ahead : (x y : Bool) → x || y ≡ false → ahead x y ≡ []
-unfolding ahead both
-none_ahead true y h = cc
-none_ahead false true h = cc
-none_ahead false false h = refl
-
 -- d: whether a disconnect is requested, o: the packet as it was opened, x: what it informs of
 module _ (e : Endpoint) (from : ℕ) (m : Message) (p : List ℕ) (now epoch nonce : ℕ) (buffer : List ℕ) (good : bad_clock now || bad_clock epoch ≡ false)
     (heeded : ignored_by e.sync.phase e.setup.peer_addr e.sync.remote_magic from m.magic ≡ false) (d : Bool) (start ack : ℕ) (body : m.body ≡ Input d start ack) (o : Opened)
     (opened : OpenedAs e.history e.setup d start m.reports.count (length p) o) (kept : o.discarded ≡ false) (x : Informed)
     (ix : InformedAs e.sync.phase e.clocks e.flags e.statuses d (report_list m.reports) now x) where
+  abbrev pub Reference : InputBytes
+  Reference = (found_of o).input
+
   abbrev Width : ℕ
   Width = receiving_width (terms_of e.setup)
 
@@ -112,7 +108,7 @@ module _ (e : Endpoint) (from : ℕ) (m : Message) (p : List ℕ) (now epoch non
     module _ (fits : (o.readable && o.overflows) ≡ false) where
       -- inputs that cannot be read
       comes_unreadable : o.readable ≡ false → (z : Ended)
-          → DoneAs e (reacted 0 (seen e) (plainly (inputs_received now (received_if o.held false 0 [] (seen e).carried.receiver) (informed d Reports (change (acknowledged ack) (heard now (seen e))))))) z → Ends z buffer
+          → DoneAs e (reacted 0 (seen e) (plainly (inputs_received now (received_if (found_of o).held false 0 [] (seen e).carried.receiver) (informed d Reports (change (acknowledged ack) (heard now (seen e))))))) z → Ends z buffer
       comes_unreadable unable z h =
           comes _ _ (input_unreadable e buffer now m.reports.count ack start d Reports p o.discarded opened.discarded kept o.too_long opened.long short Width refl (found_of o) opened.found o.readable opened.readable unable z h)
 
@@ -127,7 +123,7 @@ module _ (e : Endpoint) (from : ℕ) (m : Message) (p : List ℕ) (now epoch non
           ltb-false (2 ^ 32) (start + frame_count Width (length p)) (sym opened.overflows ∙ within),
         )
 
-        reads : Readable (seen e) start p o.input
+        reads : Readable (seen e) start p Reference
         reads =
             readable e buffer now m.reports.count ack start d Reports p o.discarded opened.discarded kept o.too_long opened.long short Width refl (found_of o) opened.found o.readable opened.readable able
             (frame_count Width (length p)) refl o.overflows opened.overflows within
@@ -140,7 +136,7 @@ module _ (e : Endpoint) (from : ℕ) (m : Message) (p : List ℕ) (now epoch non
 
       unanswered : (b : Bool) → o.readable ≡ b → buffer_full (length buffer) e.queued (pick b 10 0) ≡ true → Refused (Err Full)
       unfolding buffer_full
-      unanswered true able h = comes_readable able _ _ (readable_full e buffer now ack start d Reports p o.input (reads able) x brought h)
+      unanswered true able h = comes_readable able _ _ (readable_full e buffer now ack start d Reports p Reference (reads able) x brought h)
       unanswered false unable h = absurd (false_true h)
 
   -- refused by what is found of it
@@ -168,7 +164,7 @@ module _ (e : Endpoint) (from : ℕ) (m : Message) (p : List ℕ) (now epoch non
         record { endpoint = remade s pending acked h s.sync s.nonces c x.flags s.quality x.statuses s.checksums s.events queued; answer = Ok tt }
 
     abbrev Noted : Clocks
-    Noted = pick o.readable (sent_at now (input_at now x.clocks)) (pick o.held (input_at now x.clocks) x.clocks)
+    Noted = pick o.readable (sent_at now (input_at now x.clocks)) (pick (found_of o).held (input_at now x.clocks) x.clocks)
 
     -- w: the width
     module _ (w : ℕ) (ew : w ≡ Width) where
@@ -176,43 +172,36 @@ module _ (e : Endpoint) (from : ℕ) (m : Message) (p : List ℕ) (now epoch non
       packet_numbered able = rw ew (numbered short fits able)
 
       abbrev News : List Entry
-      News = news e.setup (newest_of (received e.history)) start o.input.bytes p
+      News = news e.setup (newest_of (received e.history)) start Reference.bytes p
 
       abbrev pub More : List Entry
       More = Ahead ++ pick o.readable News []
 
       -- r: the frames above the newest
-      module _ (wide : length o.input.bytes ≡ 64) (r : Fresh) (nr : NewsIf o.readable o.newest start w (length p) r) where
-        module _ (q : Pushed)
+      module _ (wide : length Reference.bytes ≡ 64) (r : Fresh) (nr : NewsIf o.readable o.newest start w (length p) r) where
+        module _ (a : Answered) (t : Events)
             (pushed : PushedAs e.events (packet_fits (held_events e.events ++ Ahead) r.first r.count (handle_list e.setup.handles))
-            (Ahead ++ announced_all r.first e.setup.input_size (handle_list e.setup.handles) (frames_of w o.input.bytes r.count (drop r.at p))) q) where
-          announced : (b : Bool) → o.readable ≡ b → PushedAs e.events (has_room (held_events e.events) (length (Ahead ++ pick b News []))) (Ahead ++ pick b News []) q
+            (Ahead ++ announced_all r.first e.setup.input_size (handle_list e.setup.handles) (frames_of w Reference.bytes r.count (drop r.at p))) a t) where
+          announced : (b : Bool) → o.readable ≡ b → PushedAs e.events (has_room (held_events e.events) (length (Ahead ++ pick b News []))) (Ahead ++ pick b News []) a t
           announced true able =
               rw (← opened.newest)
-              (announced-news e.setup o.newest start o.input.bytes p e.events Ahead w ew wide (packet_numbered able).1 r (nr.some able) q pushed)
+              (announced-news e.setup o.newest start Reference.bytes p e.events Ahead w ew wide (packet_numbered able).1 r (nr.some able) a t pushed)
           announced false unable =
-              nothing_pushed e.events Ahead e.setup.input_size w (handle_list e.setup.handles) o.input.bytes p q (rw (nr.none unable) at pushed)
+              nothing_pushed e.events Ahead e.setup.input_size w (handle_list e.setup.handles) Reference.bytes p a t (rw (nr.none unable) at pushed)
 
-          unannounced : (b : Bool) → o.readable ≡ b → q.ok ≡ false → Refused (Err Full)
-          unannounced true able k =
-              comes_readable short fits able _ _ (readable_unannounced e buffer now ack start d Reports p o.input (reads short fits able) x brought (sym (announced true able).ok ∙ k))
-          unannounced false unable k =
-              comes_unreadable short fits unable _ (unreadable_full e now ack d Reports o.held x (rw append-nil at (sym (announced false unable).ok ∙ k)) brought)
+          unannounced : (b : Bool) → o.readable ≡ b → (z : Refusal) → a ≡ Err z → Refused (Err z)
+          unannounced true able z k =
+              let crowd = crowd_known _ a z (announced true able).answer k in
+              rw crowd.1 (comes_readable short fits able _ _ (readable_unannounced e buffer now ack start d Reports p Reference (reads short fits able) x brought crowd.0))
+          unannounced false unable z k =
+              let crowd = crowd_known _ a z (announced false unable).answer k in
+              rw crowd.1 (comes_unreadable short fits unable _ (unreadable_full e now ack d Reports (found_of o).held x (rw append-nil at crowd.0) brought))
 
-          pub packet_unannounced : q.ok ≡ false → Refused (Err Full)
+          pub packet_unannounced : (z : Refusal) → a ≡ Err z → Refused (Err z)
           packet_unannounced = unannounced o.readable refl
 
-          pub packet_announced : q.ok ≡ true → (s : Endpoint) → s ≡ with_events_of e q.events → AnnouncedAs e More s
-          packet_announced k s es = announced_all_lem e More s q (announced o.readable refl) k es
-
-        none_new : (b : Bool) → o.readable ≡ b → r.count ≡ 0 → pick b News [] ≡ []
-        none_new true able none = rw (← opened.newest) (no_news e.setup o.newest start o.input.bytes p w ew wide (packet_numbered able).1 r (nr.some able) none)
-        none_new false unable none = refl
-
-        pub packet_quiet : (x.resumes || x.disconnects) || ltb 0 r.count ≡ false → has_room (held_events e.events) 0 ≡ true → (s : Endpoint) → s ≡ e → AnnouncedAs e More s
-        packet_quiet k room s es =
-            let y = neither (x.resumes || x.disconnects) (ltb 0 r.count) k in
-            announced_nothing e More s (rw (none_ahead x.resumes x.disconnects y.0, none_new o.readable refl (omega (arith, ltb-false 0 r.count y.1)))) room es
+          pub packet_announced : a ≡ Ok tt → (s : Endpoint) → s ≡ with_events_of e t → AnnouncedAs e More s
+          packet_announced k s es = announced_all_lem e More s a t (announced o.readable refl) k es
 
       -- s: e after what is announced, t: after what is dropped too, c: its clocks
       module _ (s : Endpoint) (es : AnnouncedAs e More s) (t : Endpoint) (dt : Drops ack s t) (c : Clocks) (ec : c ≡ Noted) where
@@ -222,17 +211,17 @@ module _ (e : Endpoint) (from : ℕ) (m : Message) (p : List ℕ) (now epoch non
         pub packet_unread : o.readable ≡ false → Ends (after t t.pending t.acked t.history c t.queued) buffer
         packet_unread unable =
             rw dt.rest (rw es.rest
-            (comes_unreadable short fits unable _ (unreadable_done e now ack d Reports o.held x es.events (rw (unable, append-nil) at es.room) (rw (unable, append-nil) at es.view) c dt.pending dt.acked (rw unable at ec) ix.statuses.1 (informs_sender e now ack d Reports _ left) brought)))
+            (comes_unreadable short fits unable _ (unreadable_done e now ack d Reports (found_of o).held x es.events (rw (unable, append-nil) at es.room) (rw (unable, append-nil) at es.view) c dt.pending dt.acked (rw unable at ec) ix.statuses.1 (informs_sender e now ack d Reports _ left) brought)))
 
         pub packet_read : o.readable ≡ true → (h : History)
-            → received h ≡ take 33 (taken_above o.newest t.setup.max_prediction (received t.history) (packet_of start w o.input.bytes p))
+            → received h ≡ take 33 (taken_above o.newest t.setup.max_prediction (received t.history) (packet_of start w Reference.bytes p))
             → (newest : ℕ) → newest ≡ newest_of (received h) → (z : Result ℕ Refusal) (b' : List ℕ) → QueuedAs buffer t.queued (body_only t.setup.magic (InputAck newest)) z b'
             → (stop : ℕ) → stop ≡ result_unwrap_or z t.queued
             → Ends (after t t.pending t.acked h c stop) b'
         unfolding buffer_full
         packet_read able =
             rw dt.rest (rw es.rest (λ h eh newest en z b' queued stop es'.
-            let taken : received h ≡ take 33 (taken_in e.setup.max_prediction (received e.history) (packet_of start Width o.input.bytes p)) =
-            rw ew at (taken_known o.newest e.setup.max_prediction (received e.history) (received h) (packet_of start w o.input.bytes p) opened.newest eh) in
+            let taken : received h ≡ take 33 (taken_in e.setup.max_prediction (received e.history) (packet_of start Width Reference.bytes p)) =
+            rw ew at (taken_known o.newest e.setup.max_prediction (received e.history) (received h) (packet_of start w Reference.bytes p) opened.newest eh) in
             let answered = queued_room buffer e.queued (body_only e.setup.magic (InputAck newest)) b' z e.queued queued (rw able at spare) in
-            rw es' (comes_readable short fits able _ _ (readable_done e buffer now ack start d Reports p o.input (reads short fits able) x brought (rw able at spare) es.events (rw able at es.room) (rw able at es.view) h taken newest en (result_unwrap_or z e.queued) b' (rw answered at queued) c dt.pending dt.acked (rw able at ec) ix.statuses.1 (informs_sender e now ack d Reports _ left)))))
+            rw es' (comes_readable short fits able _ _ (readable_done e buffer now ack start d Reports p Reference (reads short fits able) x brought (rw able at spare) es.events (rw able at es.room) (rw able at es.view) h taken newest en (result_unwrap_or z e.queued) b' (rw answered at queued) c dt.pending dt.acked (rw able at ec) ix.statuses.1 (informs_sender e now ack d Reports _ left)))))

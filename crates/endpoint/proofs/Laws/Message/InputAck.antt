@@ -10,9 +10,7 @@ use Rattle.endpoint_rules.specs.Receiving.{on_input_ack}
 use Rattle.endpoint_rules.specs.Step.{heard, reacted}
 use Rattle.packing.specs.declared.input_bytes.InputBytes.{InputBytes}
 use Rattle.pending.specs.declared.Pending.{Pending}
-use Rattle.pending.specs.declared.Dropped.{Dropped}
-use Rattle.pending.specs.Pending.{waiting, drops, DroppedAs}
-use Rattle.pending.proofs.Laws.{dropped_same, last_same}
+use Rattle.pending.specs.Pending.{DroppedAs}
 use Rattle.endpoint.specs.declared.Endpoint.{Endpoint}
 use Rattle.endpoint.specs.Endpoint.{seen, DoneAs}
 use Rattle.endpoint.specs.Inside.Sending.{sent}
@@ -21,14 +19,9 @@ use Rattle.endpoint.proofs.Laws.Ends.{remade}
 use Rattle.endpoint.proofs.Laws.Message.Changed.{changes_full, changes_done}
 
 module _ (pending : Pending) (acked : InputBytes) (ack : ℕ) where
-  pub dropped_sent : (d : Dropped) → DroppedAs pending ack acked d → sent d.pending d.last ≡ dropped_to ack (sent pending acked)
+  pub dropped_sent : (last : InputBytes) (new : Pending) → DroppedAs pending ack acked last new → sent new last ≡ dropped_to ack (sent pending acked)
   unfolding dropped_to
-  dropped_sent d h = rw (h.view, h.last)
-
-  -- where none is dropped
-  kept-sent : drops ack (waiting pending) ≡ false → sent pending acked ≡ dropped_to ack (sent pending acked)
-  unfolding dropped_to
-  kept-sent h = rw (dropped_same ack (waiting pending) h, last_same ack acked (waiting pending) h)
+  dropped_sent last new h = rw (h.view, h.last)
 
 -- an endpoint after the pending inputs that an ack drops: only they and the last acknowledged one are others
 pub record Drops (ack : ℕ) (s t : Endpoint) : Type 0 where
@@ -37,13 +30,9 @@ pub record Drops (ack : ℕ) (s t : Endpoint) : Type 0 where
   pub rest : t ≡ remade s pending acked s.history s.sync s.nonces s.clocks s.flags s.quality s.statuses s.checksums s.events s.queued
   pub left : sent pending acked ≡ dropped_to ack (sent s.pending s.acked)
 
-module _ (ack : ℕ) (s t : Endpoint) where
-  pub drops_some : (d : Dropped) → DroppedAs s.pending ack s.acked d
-      → t ≡ remade s d.pending d.last s.history s.sync s.nonces s.clocks s.flags s.quality s.statuses s.checksums s.events s.queued → Drops ack s t
-  drops_some d h et = record { pending = d.pending; acked = d.last; rest = et; left = dropped_sent s.pending s.acked ack d h }
-
-  pub drops_none : drops ack (waiting s.pending) ≡ false → t ≡ s → Drops ack s t
-  drops_none h et = record { pending = s.pending; acked = s.acked; rest = et; left = kept-sent s.pending s.acked ack h }
+pub drops_some : (ack : ℕ) (s t : Endpoint) (last : InputBytes) (new : Pending) → DroppedAs s.pending ack s.acked last new
+    → t ≡ remade s new last s.history s.sync s.nonces s.clocks s.flags s.quality s.statuses s.checksums s.events s.queued → Drops ack s t
+drops_some ack s t last new h et = record { pending = new; acked = last; rest = et; left = dropped_sent s.pending s.acked ack last new h }
 
 module _ (e : Endpoint) (ack now : ℕ) (x : Ears) (ex : HeardAs e (heard now (seen e)) x) where
   abbrev Acked : Endpoint → Answered → Type 0

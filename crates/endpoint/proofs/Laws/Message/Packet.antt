@@ -1,23 +1,25 @@
 -- A packet's frames above the newest: those left when the known ones are skipped, announced one after another.
 use borrow.Author.Tests.{lt-ltb, ltb-true, ltb-false}
-use mathlib.Core.Bool.{true, false}
+use mathlib.Core.Bool.{Bool, true, false}
 use mathlib.Core.List.{List, [], ◌∷◌, ◌++◌}
-use mathlib.Core.Path.{◌≡◌, refl, ◌∙◌}
+use mathlib.Core.Path.{◌≡◌, refl}
 use Prim.Native.Nat.{ℕ, zero, suc, ◌+◌, ◌-◌, ◌*◌, ◌^◌, ◌≤◌, min}
 use native.Mathlib.Omega.{arith}
 use native.Mathlib.Numerals.{add-one}
 use native.Mathlib.Nat.{mul-le-mul_right, div-mul-le_self}
-use lib.Dec.{ltb}
+use lib.Dec.{ltb, eqb}
 use lib.ListN.{length, take, drop, length-append}
 use Rattle.base.specs.Pick.{pick}
 use Rattle.base.specs.Keyed.{kept}
 use Rattle.packing.specs.Packing.{xors, frame_count, frames_of}
 use Rattle.packing.specs.Pad.{padded}
 use Rattle.packing.proofs.Laws.{xors-length, frames_length, unpack-take, frames_drop}
-use Rattle.history.specs.History.{above, numbered, packet_of}
+use Rattle.std.proofs.Common.{Option, Some, None, is_some, unwrap_or}
+use Rattle.packing.specs.declared.input_bytes.InputBytes.{InputBytes}
+use Rattle.history.specs.History.{above, numbered, packet_of, blank_frame, found_in}
 use Rattle.events.specs.declared.Entry.{Entry}
 use Rattle.events.specs.declared.Events.{Events}
-use Rattle.events.specs.declared.Pushed.{Pushed}
+use Rattle.answer.specs.Number.{Answered}
 use Rattle.events.specs.Events.{held_events, has_room, announced_all, frames_from, packet_fits, PushedAs, announced_each}
 use Rattle.events.proofs.Laws.{announced-padded, packet_fits_lem, packet_length}
 use Rattle.setup.specs.Setup.{terms_of, receiving_width, handle_list}
@@ -92,41 +94,43 @@ module _ (start w n : ℕ) (r p : List ℕ) (counts : n ≡ frame_count w (lengt
           refl
 
       -- A: what is announced ahead of them
-      news-pushed : (e : Events) (A : List Entry) (q : Pushed)
-          → PushedAs e (packet_fits (held_events e ++ A) f m hs) (A ++ announced_all f size hs (frames_of w r m (drop (k * w) p))) q
-          → PushedAs e (has_room (held_events e) (length (A ++ More))) (A ++ More) q
+      news-pushed : (e : Events) (A : List Entry) (a : Answered) (t : Events)
+          → PushedAs e (packet_fits (held_events e ++ A) f m hs) (A ++ announced_all f size hs (frames_of w r m (drop (k * w) p))) a t
+          → PushedAs e (has_room (held_events e) (length (A ++ More))) (A ++ More) a t
       unfolding has_room
-      news-pushed e A q a =
+      news-pushed e A a t h =
           let all = announced_all f size hs (frames_of w r m (drop (k * w) p)) in
           let total : length (held_events e ++ A) + m * length hs ≡ length (held_events e) + length (A ++ all) =
           omega (arith, length-append (held_events e) A, length-append A all, packet_length f size w r hs (drop (k * w) p) m) in
-          rw (news_are, ← total) (rw (packet_fits_lem (held_events e ++ A) f m hs within_first) at a)
+          rw (news_are, ← total) (rw (packet_fits_lem (held_events e ++ A) f m hs within_first) at h)
 
 -- what is pushed of a packet by its news is what it announces, with A announced ahead
 pub announced-news : (g : Setup) (newest start : ℕ) (reference payload : List ℕ) (e : Events) (A : List Entry) (w : ℕ) → w ≡ receiving_width (terms_of g)
-    → length reference ≡ 64 → start + frame_count w (length payload) ≤ 2 ^ 32 → (r : News) → NewsAs newest start w (length payload) r → (q : Pushed)
-    → PushedAs e (packet_fits (held_events e ++ A) r.first r.count (handle_list g.handles)) (A ++ announced_all r.first g.input_size (handle_list g.handles) (frames_of w reference r.count (drop r.at payload))) q
-    → PushedAs e (has_room (held_events e) (length (A ++ news g newest start reference payload))) (A ++ news g newest start reference payload) q
-announced-news g newest start reference payload e A w ew hr within r er q a =
+    → length reference ≡ 64 → start + frame_count w (length payload) ≤ 2 ^ 32 → (r : News) → NewsAs newest start w (length payload) r → (a : Answered) (t : Events)
+    → PushedAs e (packet_fits (held_events e ++ A) r.first r.count (handle_list g.handles)) (A ++ announced_all r.first g.input_size (handle_list g.handles) (frames_of w reference r.count (drop r.at payload))) a t
+    → PushedAs e (has_room (held_events e) (length (A ++ news g newest start reference payload))) (A ++ news g newest start reference payload) a t
+announced-news g newest start reference payload e A w ew hr within r er a t h =
     rw (← ew)
-    (news-pushed start w (frame_count w (length payload)) reference payload refl within newest (skipped newest start w (length payload)) refl g.input_size (handle_list g.handles) r.count r.first er.count er.first hr e A q
-    (rw er.at at a))
-
--- none above the newest are no news
-pub no_news : (g : Setup) (newest start : ℕ) (reference payload : List ℕ) (w : ℕ) → w ≡ receiving_width (terms_of g)
-    → length reference ≡ 64 → start + frame_count w (length payload) ≤ 2 ^ 32 → (r : News) → NewsAs newest start w (length payload) r → r.count ≡ 0
-    → news g newest start reference payload ≡ []
-unfolding announced_all announced_each frames_from frames_of
-no_news g newest start reference payload w ew hr within r er none =
-    rw (← ew)
-    (news_are start w (frame_count w (length payload)) reference payload refl within newest (skipped newest start w (length payload)) refl g.input_size (handle_list g.handles) r.count r.first er.count er.first hr
-    ∙ rw none)
+    (news-pushed start w (frame_count w (length payload)) reference payload refl within newest (skipped newest start w (length payload)) refl g.input_size (handle_list g.handles) r.count r.first er.count er.first hr e A a t
+    (rw er.at at h))
 
 -- what is pushed of no frames is what is announced ahead
-pub nothing_pushed : (e : Events) (A : List Entry) (size w : ℕ) (hs reference payload : List ℕ) (q : Pushed)
-    → PushedAs e (packet_fits (held_events e ++ A) 0 0 hs) (A ++ announced_all 0 size hs (frames_of w reference 0 (drop 0 payload))) q
-    → PushedAs e (has_room (held_events e) (length (A ++ []))) (A ++ []) q
+pub nothing_pushed : (e : Events) (A : List Entry) (size w : ℕ) (hs reference payload : List ℕ) (a : Answered) (t : Events)
+    → PushedAs e (packet_fits (held_events e ++ A) 0 0 hs) (A ++ announced_all 0 size hs (frames_of w reference 0 (drop 0 payload))) a t
+    → PushedAs e (has_room (held_events e) (length (A ++ []))) (A ++ []) a t
 unfolding has_room announced_all announced_each frames_from frames_of
-nothing_pushed e A size w hs reference payload q a =
+nothing_pushed e A size w hs reference payload a t h =
     let total : length (held_events e ++ A) + 0 * length hs ≡ length (held_events e) + length (A ++ []) = omega (arith, length-append (held_events e) A, length-append A []) in
-    rw (← total) (rw (packet_fits_lem (held_events e ++ A) 0 0 hs (omega arith)) at a)
+    rw (← total) (rw (packet_fits_lem (held_events e ++ A) 0 0 hs (omega arith)) at h)
+
+-- the reference as `look` gives it, with the blank one where it is not held
+pub found_again : (f : ℕ) (l : List InputBytes) (r : Option InputBytes) → r ≡ pick (found_in f l).held (Some (found_in f l).input) None
+    → record { held = is_some r; input = unwrap_or r blank_frame } ≡ found_in f l
+unfolding found_in
+found_again f [] r h = rw h
+found_again f (x ∷ xs) r h = go (eqb x.frame f) refl (found_again f xs r)
+  where
+    go : (b : Bool) → eqb x.frame f ≡ b → (r ≡ pick (found_in f xs).held (Some (found_in f xs).input) None → record { held = is_some r; input = unwrap_or r blank_frame } ≡ found_in f xs)
+        → record { held = is_some r; input = unwrap_or r blank_frame } ≡ pick b (record { held = true; input = x }) (found_in f xs)
+    go true e rest = let k : r ≡ Some x = rw e at h in rw k
+    go false e rest = rest (rw e at h)

@@ -14,7 +14,7 @@ use Rattle.timers.specs.declared.Clocks.{Clocks}
 use Rattle.timers.specs.Timers.{heard_at}
 use Rattle.nonces.specs.declared.Nonces.{Nonces}
 use Rattle.nonces.specs.Nonces.{outstanding, is_outstanding, spent, issued}
-use Rattle.events.specs.declared.Pushed.{Pushed}
+use Rattle.events.specs.declared.Events.{Events}
 use Rattle.events.specs.declared.Event.TheVariants as Event
 use Rattle.events.specs.Events.{held_events, has_room, without_input, PushedAs}
 use Rattle.endpoint_rules.specs.declared.Phase.TheVariants.{Synchronizing, Running}
@@ -63,11 +63,11 @@ module _ (e : Endpoint) (now nonce magic reply : ℕ) where
             let x = h.1 in
             rw (h.0, x.1, x.2) (refused_did e (Err Full) _ (rw (request_full buffer e.setup.magic nonce (Counting true).effect refl x.0)) buffer)
 
-        pub early_done : RequestedAs e now nonce buffer (Ok tt) n buffer' → (v : Nonces) → outstanding v ≡ issued nonce (spent reply (outstanding e.nonces)) → (p : Pushed) → has_room (held_events e.events) 1 ≡ true
-            → PushedAs e.events (has_room (held_events e.events) 1) (without_input (Event.Synchronizing 5 (5 - left)) ∷ []) p → (c : Clocks) → c ≡ heard_at now n.clocks
-            → Early (remade n n.pending n.acked n.history (record { phase = n.sync.phase; remaining = left; remote_magic = n.sync.remote_magic }) v c n.flags n.quality n.statuses n.checksums p.events n.queued) (Ok tt) buffer'
+        pub early_done : RequestedAs e now nonce buffer (Ok tt) n buffer' → (v : Nonces) → outstanding v ≡ issued nonce (spent reply (outstanding e.nonces)) → (r : Answered) (t : Events) → has_room (held_events e.events) 1 ≡ true
+            → PushedAs e.events (has_room (held_events e.events) 1) (without_input (Event.Synchronizing 5 (5 - left)) ∷ []) r t → (c : Clocks) → c ≡ heard_at now n.clocks
+            → Early (remade n n.pending n.acked n.history (record { phase = n.sync.phase; remaining = left; remote_magic = n.sync.remote_magic }) v c n.flags n.quality n.statuses n.checksums t n.queued) (Ok tt) buffer'
         unfolding reacted tested replied request counted nonce_issued queue_wire seen terms_with
-        early_done h v ev p room ep =
+        early_done h v ev r t room ep =
             rw h.0 (λ c ec.
             queued_did e _ (record { setup = refl; count = refl }) (Counting true).effect _
             (rw (request_fits buffer e.setup.magic nonce (Counting true).effect refl h.1.room room))
@@ -77,11 +77,11 @@ module _ (e : Endpoint) (now nonce magic reply : ℕ) where
     abbrev Last : Endpoint → Type 0
     Last n = DoneAs e (reacted 0 (seen e) (Counting false)) (record { answer = Ok tt; endpoint = n })
 
-    pub last_done : (v : Nonces) → outstanding v ≡ spent reply (outstanding e.nonces) → (d : Clocks) (p : Pushed) → has_room (held_events e.events) 1 ≡ true → d ≡ heard_at now e.clocks
-        → PushedAs e.events (has_room (held_events e.events) 1) (without_input Event.Synchronized ∷ []) p
-        → Last (remade e e.pending e.acked e.history (record { phase = Running; remaining = left; remote_magic = magic }) v d e.flags e.quality e.statuses e.checksums p.events e.queued)
+    pub last_done : (v : Nonces) → outstanding v ≡ spent reply (outstanding e.nonces) → (d : Clocks) (r : Answered) (t : Events) → has_room (held_events e.events) 1 ≡ true → d ≡ heard_at now e.clocks
+        → PushedAs e.events (has_room (held_events e.events) 1) (without_input Event.Synchronized ∷ []) r t
+        → Last (remade e e.pending e.acked e.history (record { phase = Running; remaining = left; remote_magic = magic }) v d e.flags e.quality e.statuses e.checksums t e.queued)
     unfolding replied counted running seen
-    last_done v ev d p room ed ep =
+    last_done v ev d r t room ed ep =
         done-done e _ (record { setup = refl; count = refl }) (Counting false).effect _ (reacted-done 0 (seen e) (Counting false) refl refl refl (room_none [] (Counting false).effect refl room)) refl
         (rw (ev, el, ed, rw room at ep.view))
 

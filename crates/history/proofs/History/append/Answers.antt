@@ -1,68 +1,65 @@
 -- `append` stores the frames of a payload that are new and stay, one after the other, until there is no more room.
-use Rattle.std.proofs.Common.{rules, ◌≡◌, ◌+◌, ◌-◌, ◌*◌, ◌≤◌, suc, length, take, arith, Bool}
-use mathlib.Core.Path.{sym, ◌∙◌}
+use Rattle.std.proofs.Common.{◌≡◌, ◌+◌, ◌-◌, ◌*◌, ◌≤◌, [], ◌∷◌, suc, length, length-append, arith, Bool, sym, ◌∙◌}
 use native.Mathlib.Nat.{suc-mul, add-zero, sub-zero}
-use lib.ListN.{length-take, length-set}
-use Rattle.base.proofs.Arrays.{unmap, take_count}
 use Rattle.packing.specs.declared.input_bytes.InputBytes.{InputBytes}
 use Rattle.history.specs.History.{received, new_and_kept}
-use Rattle.history.proofs.Laws.{received-le, next, fill_turn, pass_turn, fill_end, fill_full}
-use Rattle.history.proofs.History.append.Goals.{then-is_new_and_kept, else-is_new_and_kept}
+use Rattle.history.proofs.Laws.{next, fill_turn, pass_turn, fill_end, fill_full, push_done, push_refused}
+use Rattle.history.proofs.History.append.Goals.{then-takes+else-is_err, else-takes}
 use Rattle.history.proofs.History.append.Goals as goal
 
 pub loop-k-init : goal.loop-k-init
-loop-k-init c =
+loop-k-init c = record { most = c.requires.2; left = rw sub-zero (omega (arith, c.requires.1)); taken = rw (add-zero, sub-zero) }
+
+pub returns-then-is_err : goal.returns-then-is_err
+unfolding received
+returns-then-is_err c =
     let a = c.args in
-    let h : length a.self.slots ≡ 33 = search (unmap, rules) in
-    (omega arith, omega (arith, received-le a.self, c.count-at.ensures), c.requires.0, rw sub-zero (omega (arith, c.requires.1)), h, rw (add-zero, sub-zero))
+    let l = c.loop-k in
+    let i = l.invariant in
+    let packet = a.packet.now in
+    let line = a.line.now in
+    let p : InputBytes → Bool = (λ x. new_and_kept a.newest line.newest line.max_prediction x.frame) in
+    let full = push_refused l.self.inputs c.push.new.self _ c.push.result c.push.ensures (sym c.is_err.ensures.value ∙ c.if-is_err.true) in
+    full.0 ∙ sym (fill_full packet.start packet.width packet.reference.bytes a.payload.now a.count p (received l.self) l.k l.place (omega (arith, i.most, full.1))) ∙ i.taken
 
 pub loop-k-preserved : goal.loop-k-preserved
+unfolding received
 loop-k-preserved c =
     let a = c.args in
     let l = c.loop-k in
-    let p : InputBytes → Bool = (λ x. new_and_kept a.newest a.last a.max_prediction x.frame) in
-    let e = sym c.is_new_and_kept.ensures in
+    let i = l.invariant in
+    let packet = a.packet.now in
+    let line = a.line.now in
+    let p : InputBytes → Bool = (λ x. new_and_kept a.newest line.newest line.max_prediction x.frame) in
     -- the payload's bytes left after this frame
     let n : a.count - l.k ≡ suc (a.count - (l.k + 1)) = omega arith in
-    let m = suc-mul (a.count - (l.k + 1)) a.width in
-    let q : l.place + suc (a.count - (l.k + 1)) * a.width ≤ length a.payload.now = rw n at l.invariant.3 in
-    let left : l.place + a.width + (a.count - (l.k + 1)) * a.width ≤ length a.payload.now = omega arith in
-    elim c.if-is_new_and_kept.branch [
-      | then-is_new_and_kept w ↦
-          rw (w.self-is, w.at-is, w.frame_at-b.ensures) (
-            omega arith,
-            omega arith,
-            l.invariant.2,
-            left,
-            length-set l.self.slots l.at (next a.start a.width a.reference.bytes a.payload.now a.count l.k l.place) ∙ l.invariant.4,
-            fill_turn a.start a.width a.reference.bytes a.payload.now a.count p l.self.slots _ l.at l.k l.place (omega arith) l.invariant.5 (omega arith) (e ∙ w.if-is_new_and_kept.true),
-          )
-      | else-is_new_and_kept w ↦
-          rw (w.self-is, w.at-is) (
-            omega arith,
-            omega arith,
-            l.invariant.2,
-            left,
-            l.invariant.4,
-            pass_turn a.start a.width a.reference.bytes a.payload.now a.count p l.self.slots _ l.at l.k l.place (omega arith) l.invariant.5 (e ∙ w.if-is_new_and_kept.false),
-          )
+    let m = suc-mul (a.count - (l.k + 1)) packet.width in
+    let q : l.place + suc (a.count - (l.k + 1)) * packet.width ≤ length a.payload.now = rw n at i.left in
+    let left : l.place + packet.width + (a.count - (l.k + 1)) * packet.width ≤ length a.payload.now = omega arith in
+    elim c.if-takes.branch [
+      | then-takes+else-is_err w ↦
+          let pushed = push_done l.self.inputs w.push.new.self _ w.push.result w.push.ensures (sym w.is_err.ensures.value ∙ w.if-is_err.false) in
+          let one = length-append (received l.self) (next packet.start packet.width packet.reference.bytes a.payload.now a.count l.k l.place ∷ []) in
+          rw (w.self-is) (record {
+            most = rw (pushed.0, w.frame_at-bytes.ensures) (omega (arith, pushed.1));
+            left = left;
+            taken = rw (pushed.0, w.frame_at-bytes.ensures) (fill_turn packet.start packet.width packet.reference.bytes a.payload.now a.count p (received l.self) _ l.k l.place (omega arith) i.taken (sym c.takes.ensures ∙ w.if-takes.true));
+          })
+      | else-takes w ↦
+          rw w.self-is (record {
+            most = i.most;
+            left = left;
+            taken = pass_turn packet.start packet.width packet.reference.bytes a.payload.now a.count p (received l.self) _ l.k l.place (omega arith) i.taken (sym c.takes.ensures ∙ w.if-takes.false);
+          })
     ]
 
-pub returns-else-at-lt-MOST_RECEIVED : goal.returns-else-at-lt-MOST_RECEIVED
+pub returns : goal.returns
 unfolding received
-returns-else-at-lt-MOST_RECEIVED c =
+returns c =
     let a = c.args in
     let l = c.loop-k in
-    -- the array up to the count is what is held
-    let held : take c.count-at.result a.self.slots ≡ received a.self = sym (take_count a.self.used a.self.slots ∙ rw c.count-at.ensures) in
-    let n : length (take l.at l.self.slots) ≡ 33 = length-take l.at l.self.slots ∙ omega arith in
-    sym (fill_full a.start a.width a.reference.bytes a.payload.now a.count (λ x. new_and_kept a.newest a.last a.max_prediction x.frame) (take l.at l.self.slots) l.k l.place n) ∙ rw held at l.invariant.5
-
-pub returns-after-loop-k : goal.returns-after-loop-k
-unfolding received
-returns-after-loop-k c =
-    let a = c.args in
-    let l = c.loop-k in
-    let held : take c.count-at.result a.self.slots ≡ received a.self = sym (take_count a.self.used a.self.slots ∙ rw c.count-at.ensures) in
-    let n = length-take l.at l.self.slots in
-    sym (fill_end a.start a.width a.reference.bytes a.payload.now a.count (λ x. new_and_kept a.newest a.last a.max_prediction x.frame) (take l.at l.self.slots) l.k l.place (omega arith) (omega arith)) ∙ rw held at l.invariant.5
+    let i = l.invariant in
+    let packet = a.packet.now in
+    let line = a.line.now in
+    let p : InputBytes → Bool = (λ x. new_and_kept a.newest line.newest line.max_prediction x.frame) in
+    sym (fill_end packet.start packet.width packet.reference.bytes a.payload.now a.count p (received l.self) l.k l.place (omega arith) i.most) ∙ i.taken

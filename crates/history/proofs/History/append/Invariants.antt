@@ -1,23 +1,15 @@
--- The invariant: those stored, with those of them that are left, cut at 33, are what is to be held.
-use mathlib.Core.Path.{◌≡◌}
-use mathlib.Core.List.{◌++◌}
-use Prim.Native.Nat.{◌+◌, ◌-◌, ◌*◌, ◌^◌, ◌≤◌}
-use lib.ListN.{length, take}
+-- The invariant: those held, with those of them that are left, cut at 33, are what is to be held.
+use Rattle.std.proofs.Common.{◌≡◌, ◌++◌, ◌+◌, ◌-◌, ◌*◌, ◌≤◌, length, take}
 use Rattle.base.specs.Keyed.{kept}
 use Rattle.packing.specs.Packing.{frames_of}
-use Rattle.history.specs.History.{new_and_kept, numbered}
+use Rattle.history.specs.History.{received, new_and_kept, numbered}
 use Rattle.history.proofs.Laws.{coming}
-use Rattle.std.proofs.Common.{◌-◌, ◌≡◌, ◌++◌, ◌*◌, ◌≤◌, ◌^◌, length, take, ◌+◌}
-use Rattle.base.specs.Keyed.{kept}
-use Rattle.packing.specs.Packing.{frames_of}
-use Rattle.history.specs.History.{new_and_kept, numbered}
 use Rattle.history.proofs.History.append.Given as goal
 
 abbrev pub invariant-loop-k : goal.invariant-loop-k
-invariant-loop-k l = (l.k ≤ l.count) × (l.at ≤ 33) × (l.count ≤ 2 ^ 32 - l.start) × (l.place + (l.count - l.k) * l.width ≤ length l.payload) × (length l.self.slots ≡ 33)
-    × (take 33 (take l.at l.self.slots ++ kept (λ x. new_and_kept l.newest l.last l.max_prediction x.frame) (coming l.start l.width l.bytes l.payload l.count l.k l.place))
-    ≡ take 33 (take l.initial.at l.initial.self.slots ++ kept (λ x. new_and_kept l.newest l.last l.max_prediction x.frame) (numbered l.start (frames_of l.width l.bytes l.count l.payload))))
-
--- proposed from the loop's first test
-abbrev pub decreases-loop-k : goal.decreases-loop-k
-decreases-loop-k l = l.count - l.k
+invariant-loop-k l = record {
+  most : length (received l.self) ≤ 33;
+  left : l.place + (l.count - l.k) * l.packet.width ≤ length l.payload;
+  taken : take 33 (received l.self ++ kept (λ x. new_and_kept l.newest l.line.newest l.line.max_prediction x.frame) (coming l.packet.start l.packet.width l.packet.reference.bytes l.payload l.count l.k l.place))
+      ≡ take 33 (received l.initial.self ++ kept (λ x. new_and_kept l.newest l.line.newest l.line.max_prediction x.frame) (numbered l.packet.start (frames_of l.packet.width l.packet.reference.bytes l.count l.payload)));
+}

@@ -2,6 +2,7 @@
 use Rattle.std.proofs.Common.{◌≡◌, ◌-◌, ◌*◌, ◌/◌, ◌^◌, ◌≤◌, ℕ, List, length, take, arith}
 use mathlib.Core.Path.{◌∙◌}
 use native.Mathlib.Nat.{mul-le-mul_right, div-mul-le_self}
+use Rattle.fixed_vec.specs.FixedVec.{held}
 use Rattle.packing.specs.Packing.{frames_of, unpack}
 use Rattle.packing.proofs.Laws.{unpack-take, frames_length}
 use Rattle.history.specs.History.{received, packet_of}
@@ -9,22 +10,25 @@ use Rattle.history.proofs.TakenIn.{taken_by}
 use Rattle.history.proofs.History.take_in.Goals as goal
 
 pub append-requires : goal.append-requires
+unfolding received
 append-requires c =
     let a = c.args in
     let n = c.arriving-count in
-    let whole : n.result * a.width ≤ length a.payload.now / a.width * a.width = mul-le-mul_right a.width (omega (arith, n.ensures)) in
-    (omega (arith, n.ensures), omega (arith, div-mul-le_self (length a.payload.now) a.width))
+    let width = a.packet.now.width in
+    let whole : n.result * width ≤ length a.payload.now / width * width = mul-le-mul_right width (omega (arith, n.ensures)) in
+    (omega (arith, n.ensures), omega (arith, div-mul-le_self (length a.payload.now) width), c.retain.ensures.fits)
 
 pub returns : goal.returns
-unfolding packet_of
+unfolding packet_of received
 returns c =
     let a = c.args in
+    let packet = a.packet.now in
     let n = c.arriving-count in
-    let last = c.after-last in
-    let fs : List (List ℕ) = frames_of a.width a.reference.bytes n.result a.payload.now in
-    let long : length fs ≡ n.result = frames_length a.width a.reference.bytes n.result a.payload.now in
-    let packet : take (2 ^ 32 - a.start) (unpack a.width a.reference.bytes a.payload.now) ≡ fs
-    = unpack-take a.width a.reference.bytes (2 ^ 32 - a.start) a.payload.now ∙ rw n.ensures in
-    taken_by a.newest a.max_prediction (received a.self) (received c.keep-kept.result) (received c.append.result) a.start fs last.result
-    (last.ensures ∙ rw long) c.keep-kept.ensures c.append.ensures
-    ∙ rw packet
+    let last = c.after in
+    let fs : List (List ℕ) = frames_of packet.width packet.reference.bytes n.result a.payload.now in
+    let long : length fs ≡ n.result = frames_length packet.width packet.reference.bytes n.result a.payload.now in
+    let whole : take (2 ^ 32 - packet.start) (unpack packet.width packet.reference.bytes a.payload.now) ≡ fs
+    = unpack-take packet.width packet.reference.bytes (2 ^ 32 - packet.start) a.payload.now ∙ rw n.ensures in
+    taken_by a.newest a.max_prediction (received a.self.now) (held c.retain.new.self) (received c.append.new.self) packet.start fs last.result
+    (last.ensures ∙ rw long) c.retain.ensures.value c.append.ensures
+    ∙ rw whole

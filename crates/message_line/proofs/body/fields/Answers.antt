@@ -10,11 +10,11 @@ pub input-requires : goal.input-requires
 unfolding held
 input-requires c =
     let long : length c.args.message.reports.list ≡ 4 = search rules in
-    (c.requires, rw c.as_slice.ensures (simp length-take (omega arith)))
+    (c.requires, rw c.as_slice.ensures.value (simp length-take (omega arith)))
 
 pub returns-in-Input : goal.returns-in-Input
 unfolding held
-returns-in-Input c = rw (c.in-Input.is, ← c.as_slice.ensures) c.input.ensures
+returns-in-Input c = rw (c.in-Input.is, ← c.as_slice.ensures.value) c.input.ensures
 
 pub returns-in-QualityReport : goal.returns-in-QualityReport
 unfolding fields_text field ascii

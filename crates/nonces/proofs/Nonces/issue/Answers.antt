@@ -1,26 +1,26 @@
--- `issue` takes the nonce out where it was, makes room where the others leave none, and writes it behind them.
-use Rattle.std.proofs.Common.{rules, ◌≡◌, length, arith}
-use Rattle.nonces.proofs.Kept.{count_le, issued_last}
+-- Of the others the newest 255 stay, so there is room for one more.
+use Rattle.std.proofs.Common.{◌≡◌, ◌∙◌, ap, ◌-◌, ◌<◌, ℕ, length, arith}
+use borrow.Author.Tests.{lt-ltb}
+use lib.ListN.{length-drop}
+use Rattle.base.specs.Last.{last_of}
+use Rattle.fixed_vec.specs.FixedVec.{held}
+use Rattle.nonces.specs.Nonces.{outstanding, spent, issued}
+use Rattle.nonces.proofs.Laws.{renewed_none}
 use Rattle.nonces.proofs.Nonces.issue.Goals as goal
 
-pub keep_others-others-requires : goal.keep_others-others-requires
-keep_others-others-requires c =
-    let s = c.args.self in
-    let long : length s.list ≡ 256 = search rules in
-    (count_le s long c.count-n.result c.count-n.ensures, long)
-
-pub make_room-at-requires : goal.make_room-at-requires
-make_room-at-requires c =
-    let s = c.args.self in
-    let long : length s.list ≡ 256 = search rules in
-    let kept = c.keep_others-others.ensures in
-    (omega (arith, kept.fewer, count_le s long c.count-n.result c.count-n.ensures), omega (arith, kept.long, long))
+pub unwrap-requires : goal.unwrap-requires
+unfolding outstanding
+unwrap-requires c =
+    let few : length (held c.remove_front.new.self) < 256 =
+    omega (arith, ap length c.remove_front.ensures, length-drop c.saturating_sub-over.result (held c.forget.new.self.list)) in
+    rw (c.push.ensures.0, lt-ltb (length (held c.remove_front.new.self)) 256 few)
 
 pub returns : goal.returns
+unfolding outstanding issued last_of
 returns c =
-    let s = c.args.self in
-    let long : length s.list ≡ 256 = search rules in
-    let n = c.count-n in
-    let kept = c.keep_others-others in
-    let room = c.make_room-at in
-    issued_last s long n.result n.ensures c.args.nonce kept.result kept.new.list kept.ensures room.result room.new.list room.ensures
+    let l = held c.args.self.now.list in
+    let few : length (held c.remove_front.new.self) < 256 =
+    omega (arith, ap length c.remove_front.ensures, length-drop c.saturating_sub-over.result (held c.forget.new.self.list)) in
+    let others : held c.forget.new.self.list ≡ spent c.args.nonce l = c.forget.ensures.view ∙ renewed_none c.args.nonce l in
+    let over : c.saturating_sub-over.result ≡ length (spent c.args.nonce l) - 255 = c.saturating_sub-over.ensures ∙ ap (λ (n : ℕ). n - 255) (c.count.ensures ∙ ap length others) in
+    c.push.ensures.1 ∙ rw (lt-ltb (length (held c.remove_front.new.self)) 256 few, c.remove_front.ensures, others, over)

@@ -4,4 +4,4 @@ use Rattle.setup.proofs.Setup.sorted.Goals as goal
 
 pub returns : goal.returns
 unfolding terms_with
-returns c = (rw c.sorted.ensures.0, c.sorted.ensures.1)
+returns c = (rw c.sort.ensures.0, c.sort.ensures.1)

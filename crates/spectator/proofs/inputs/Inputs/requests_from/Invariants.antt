@@ -1,6 +1,7 @@
 -- The invariant: the first k frames are there, each with its count.
-use Rattle.std.proofs.Common.{◌≡◌, length, take}
+use Rattle.std.proofs.Common.{◌≡◌, length}
 use mathlib.Core.List.{map}
+use Rattle.fixed_vec.specs.FixedVec.{held}
 use Rattle.status.specs.Statuses.{held_statuses}
 use Rattle.spectator.specs.declared.requests.Request.{Request}
 use Rattle.spectator.specs.Stores.{inputs_of, request_of}
@@ -9,6 +10,5 @@ use Rattle.spectator.proofs.inputs.Inputs.requests_from.Given as goal
 
 abbrev pub invariant-loop-k : goal.invariant-loop-k
 invariant-loop-k l =
-    (length l.requests.frames.list ≡ 63)
-    × (map request_of (take l.k l.requests.frames.list) ≡ requests_by l.slots l.k l.frame l.players (inputs_of l.self) (held_statuses l.statuses))
-    × (map (λ (q : Request). q.inputs.count) (take l.k l.requests.frames.list) ≡ map length (requests_by l.slots l.k l.frame l.players (inputs_of l.self) (held_statuses l.statuses)))
+    (map request_of (held l.requests.frames) ≡ requests_by l.slots l.k l.frame l.players (inputs_of l.self) (held_statuses l.statuses))
+    × (map (λ (q : Request). q.inputs.count) (held l.requests.frames) ≡ map length (requests_by l.slots l.k l.frame l.players (inputs_of l.self) (held_statuses l.statuses)))

@@ -6,4 +6,4 @@ use Rattle.spectator.proofs.requests.Requests.frame.Goals as goal
 
 pub returns : goal.returns
 unfolding request_of
-returns c = frame_some c.args.self.now c.args.i c.in-Some.field-0 (sym c.get.ensures ∙ c.in-Some.is) c.len.result c.len.ensures
+returns c = frame_some c.args.self.now c.args.i c.in-Some.field-0 (sym c.get.ensures ∙ c.in-Some.is) c.len.result c.len.ensures.value

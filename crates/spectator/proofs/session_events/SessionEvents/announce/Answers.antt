@@ -1,24 +1,24 @@
--- The oldest are dropped for it, or there is room for one more.
-use Rattle.std.proofs.Common.{◌≡◌, ◌∙◌, ◌+◌, ◌-◌, ◌<◌, ◌≤◌, length, ap, arith}
+-- The oldest are dropped for it, so there is room for one more.
+use Rattle.std.proofs.Common.{◌≡◌, ◌∙◌, ◌+◌, ◌-◌, ◌<◌, ◌≤◌, length, length-drop, drop, ap, arith}
+use borrow.Author.Tests.{lt-ltb}
 use Prim.Native.Nat.{min}
+use Rattle.fixed_vec.specs.FixedVec.{held}
 use Rattle.spectator.specs.Stores.{events_of}
-use Rattle.spectator.proofs.Laws.SessionEvents.{announced-room, announced_dropped}
+use Rattle.spectator_rules.specs.Handling.{event_added}
+use Rattle.spectator.proofs.Laws.SessionEvents.{announced}
+use Rattle.spectator.proofs.Laws.Counts.{counted_view}
 use Rattle.spectator.proofs.session_events.SessionEvents.announce.Goals as goal
-use Rattle.spectator.proofs.session_events.SessionEvents.announce.Goals.{then-most-n, else-most-n}
 
 pub returns : goal.returns
+unfolding events_of held
 returns c =
     let a = c.args in
-    let l = events_of a.self.now in
-    let m = c.min-most in
-    let n = c.count-n in
-    elim c.if-most-n.branch [
-      | then-most-n w ↦
-          let k : n.result - m.result + 1 ≡ length l + 1 - min a.most 128 = omega (arith, n.ensures, m.ensures) in
-          let some : 1 ≤ min a.most 128 = omega (arith, m.ensures) in
-          let full : min a.most 128 ≤ length l = omega (arith, n.ensures, m.ensures) in
-          rw (ap events_of w.self-is ∙ w.shift.ensures.0, k, announced_dropped a.most a.entry l some full) at c.push.ensures
-      | else-most-n w ↦
-          let room : length l < min a.most 128 = omega (arith, n.ensures, m.ensures) in
-          rw (ap events_of w.self-is, announced-room a.most a.entry l room) at c.push.ensures
-    ]
+    let l = held a.self.now.entries in
+    let over = c.saturating_sub-over.result in
+    let most : 1 ≤ min a.most 128 = omega (arith, c.min-most.ensures) in
+    let few : length l ≤ 128 = omega (arith, c.len.ensures.value, c.len.ensures.fits) in
+    let many : over ≡ length l + 1 - min a.most 128 = omega (arith, c.saturating_sub-over.ensures, c.min-most.ensures, c.len.ensures.value) in
+    let front : held c.remove_front.new.self ≡ drop over l = c.remove_front.ensures in
+    let room : length (held c.remove_front.new.self) < 128 = rw front (omega (arith, length-drop over l)) in
+    let view : held c.push.new.self ≡ event_added a.most a.entry l = rw (lt-ltb _ _ room, front, announced a.most a.entry l over many most few) at c.push.ensures.1 in
+    (counted_view c.push.new.self.count c.push.new.self.list c.len-self.result c.len-self.ensures.value ∙ view, c.len-self.ensures.value ∙ ap length view)
