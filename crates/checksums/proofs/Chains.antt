@@ -14,6 +14,8 @@ use Rattle.std.proofs.lemmas.List.Sums.{length-filter}
 use Rattle.std.proofs.lemmas.Iterator.Adapters.{position_from-zero}
 use Rattle.base.specs.Pick.{pick}
 use Rattle.base.specs.Keyed.{kept, has, first_with, place, put}
+use Rattle.std.proofs.lemmas.Bool.{lt-leb}
+use Rattle.base.proofs.Kept.{kept-length}
 use Rattle.base.proofs.Removal.{kept_by_key, put_held, put_new}
 use Rattle.checksums.specs.declared.Checksum.{Checksum}
 use Rattle.checksums.specs.Checksums.{checksum_frame, kept_from, others_full, blank_checksum}
@@ -54,6 +56,16 @@ count_is line l n e = e ∙ sym (length-filter (λ (c : Checksum). leb line c.fr
 pub full_is : (frame line : ℕ) (l : List Checksum) → line ≤ frame → others_full frame (kept_from line l) ≡ pick (has checksum_frame frame l) false (leb 64 (length (kept_from line l)))
 unfolding others_full
 full_is frame line l h = rw (kept_by_key checksum_frame (leb line) frame l, le-leb line frame h)
+
+-- where fewer than 64 are stored, there is room
+pub few_fit : (frame line : ℕ) (l : List Checksum) → line ≤ frame → length l < 64 → others_full frame (kept_from line l) ≡ false
+few_fit frame line l h few =
+    let fewer : length (kept_from line l) < 64 = omega (arith, kept-length (λ (x : Checksum). leb line x.frame) l, few) in
+    full_is frame line l h ∙ rw (lt-leb 64 _ fewer) (either (has checksum_frame frame l))
+  where
+    either : (b : Bool) → pick b false false ≡ false
+    either true = refl
+    either false = refl
 
 -- one is put at the place found for its frame, or at the end
 placed : (frame at : ℕ) (l : List Checksum) → pick (has checksum_frame frame l) (Some (place checksum_frame frame l)) None ≡ Some at → (has checksum_frame frame l ≡ true) × (at ≡ place checksum_frame frame l)

@@ -94,12 +94,16 @@ fn first_place(stored: &[Checksum], frame: u32) -> Option<usize>
 }
 
 impl Checksums {
-    #[tactic(auto, unfolding(crate::specs::Checksums::stored))]
+    // The list is written out: to take it from `FixedVec::new` is to copy it.
+    #[tactic(auto, unfolding(crate::specs::Checksums::stored, fixed_vec::specs::FixedVec::held))]
     pub fn new() -> Checksums
         ensures { stored result ≡ [] }
     {
         Checksums {
-            entries: FixedVec::new(BLANK),
+            entries: FixedVec {
+                list: [BLANK; MOST_CHECKSUMS],
+                count: 0,
+            },
         }
     }
 
@@ -166,7 +170,11 @@ impl Checksums {
         requires { line ≤ frame }
         ensures { result ≡ others_full frame (kept_from line (stored self.now)) }
     {
-        self.find(frame).is_none() && MOST_CHECKSUMS <= self.count_from(line)
+        // With fewer there is nothing to look for.
+        if self.count() < MOST_CHECKSUMS {
+            return false;
+        }
+        MOST_CHECKSUMS <= self.count_from(line) && self.find(frame).is_none()
     }
 
     // Those from a line on stay, in their order.

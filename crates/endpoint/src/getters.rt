@@ -75,7 +75,9 @@ impl Endpoint {
     pub fn last_recv_frame(self) -> u32
         ensures { Value.frame result ≡ value_of (Call.ask Question.newest_frame) (seen self) }
     {
-        self.history.newest()
+        // A copy of the history alone: to lend a part of `self` is to copy all of it.
+        let history = self.history;
+        history.newest()
     }
 
     #[tactic(auto, using(crate::proofs::Laws::Getters::shows_phase))]

@@ -29,7 +29,8 @@ pub(crate) fn progress(remaining: u32) -> Entry
 }
 
 impl Endpoint {
-    // A request: written where it fits, and then the times are noted. Its nonce is the caller's to note.
+    // A request: written where it fits, and then the times are noted. Its nonce is the caller's to note. (Inlined, so that `self` is not lent for it.)
+    #[inline(always)]
     pub(crate) fn request(&mut self, now: u64, nonce: u32, out: &mut [u8]) -> Answer
         ensures { RequestedAs self.old now nonce out.old result self.new out.new }
     {
@@ -62,21 +63,23 @@ impl Endpoint {
                 answer: Err(Refusal::WrongState),
             };
         };
-        match self.request(now, nonce, out) {
-            Ok(()) => {
-                self.nonces.issue(nonce);
-                self.sync.phase = Phase::Synchronizing;
-                self.sync.remaining = NUM_SYNC_PACKETS;
-                self.quality = self.quality.started(epoch);
-                Ended {
-                    endpoint: self,
-                    answer: Ok(()),
-                }
-            }
-            Err(refusal) => Ended {
+        // A way out by `return`: what a `match` gives is a copy of what its arm gives.
+        if let Err(refusal) = self.request(now, nonce, out) {
+            return Ended {
                 endpoint: self,
                 answer: Err(refusal),
-            },
+            };
+        }
+        // A copy of the nonces alone, as in `last_recv_frame`.
+        let mut nonces = self.nonces;
+        nonces.issue(nonce);
+        self.nonces = nonces;
+        self.sync.phase = Phase::Synchronizing;
+        self.sync.remaining = NUM_SYNC_PACKETS;
+        self.quality = self.quality.started(epoch);
+        Ended {
+            endpoint: self,
+            answer: Ok(()),
         }
     }
 }

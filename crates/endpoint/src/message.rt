@@ -128,7 +128,8 @@ impl Endpoint {
                         count: news.count,
                         width,
                     };
-                    self.events.push_packet(
+                    packet::announce(
+                        &mut self.events,
                         notices,
                         frames,
                         &payload[news.at..],
@@ -136,7 +137,7 @@ impl Endpoint {
                         self.setup.handles.as_slice(),
                         self.setup.input_size as usize,
                     )?;
-                    self.acked = self.pending.drop_to(head.ack_frame, self.acked);
+                    self.acked = packet::acknowledge(&mut self.pending, head.ack_frame, self.acked);
                     self.clocks = packet::noted(
                         informed.clocks,
                         opened.reference.is_some(),
@@ -181,14 +182,12 @@ impl Endpoint {
             6 => {
                 // A copy, since an overflow is refused before an event that has no room (N-20).
                 let mut checksums = self.checksums;
-                checksums.report(
+                let reported = checksums.report(
                     body::checksum_of(body),
                     self.setup.interval(),
                     self.setup.choices.firm_checksums,
-                )?;
-                if full {
-                    return Err(Refusal::Full);
-                }
+                );
+                admission::weigh_report(reported, full)?;
                 self.checksums = checksums;
             }
             // SyncRequest, QualityReport, QualityReply, KeepAlive.

@@ -49,7 +49,9 @@ impl Endpoint {
     pub fn update_local_frame_advantage(mut self, local_frame: u32) -> Ended
         ensures { DoneAs self (step (Call.update_local_frame_advantage local_frame) (seen self)) result }
     {
-        let newest = self.history.newest();
+        // A copy of the history alone, as in `last_recv_frame`.
+        let history = self.history;
+        let newest = history.newest();
         if local_frame == NULL_FRAME || newest == NULL_FRAME {
             return Ended {
                 endpoint: self,
@@ -62,18 +64,20 @@ impl Endpoint {
             self.setup.fps,
             local_frame,
         );
-        match advantage {
-            Ok(frames) => {
-                self.quality = self.quality.local(frames);
-                Ended {
+        // A way out by `return`: what a `match` gives is a copy of what its arm gives.
+        let frames = match advantage {
+            Ok(frames) => frames,
+            Err(refusal) => {
+                return Ended {
                     endpoint: self,
-                    answer: Ok(()),
-                }
+                    answer: Err(refusal),
+                };
             }
-            Err(refusal) => Ended {
-                endpoint: self,
-                answer: Err(refusal),
-            },
+        };
+        self.quality = self.quality.local(frames);
+        Ended {
+            endpoint: self,
+            answer: Ok(()),
         }
     }
 }

@@ -46,7 +46,8 @@ fn filled(phase: Phase, queued: usize, room: usize) -> usize
 }
 
 impl Endpoint {
-    // The events held, with a count that is their number, and the endpoint without them.
+    // The events held, with a count that is their number, and the endpoint without them. (A session's are taken in the same way: names and fields of both are
+    // in docs/API.md.)
     pub fn take_events(mut self) -> TakenEvents
         ensures { TakenAs self result }
     {
@@ -56,7 +57,7 @@ impl Endpoint {
                 ..self.events.entries
             },
         };
-        self.events.entries.clear();
+        self.events.entries.count = 0;
         TakenEvents {
             endpoint: self,
             events,

@@ -81,12 +81,16 @@ fn input_entry(frame: u32, player: u32, bytes: &[u8]) -> Entry
 }
 
 impl Events {
-    #[tactic(auto, unfolding(crate::specs::Events::held_events))]
+    // The list is written out: to take it from `FixedVec::new` is to copy it.
+    #[tactic(auto, unfolding(crate::specs::Events::held_events, fixed_vec::specs::FixedVec::held))]
     pub fn new() -> Events
         ensures { held_events result ≡ [] }
     {
         Events {
-            entries: FixedVec::new(SYNCHRONIZED),
+            entries: FixedVec {
+                list: [SYNCHRONIZED; MOST_EVENTS],
+                count: 0,
+            },
         }
     }
 

@@ -1,5 +1,5 @@
 -- Laws of the received inputs' definitions, on lists alone: the loops that search, and the one that takes a packet in.
-use borrow.Author.Tests.{eqb-true, ltb-true, ltb-false}
+use borrow.Author.Tests.{eqb-true, lt-ltb}
 use mathlib.Core.Path.{◌≡◌, refl, ◌∙◌}
 use mathlib.Core.Bool.{Bool, true, false}
 use mathlib.Core.List.{List, [], ◌∷◌, ◌++◌, append-nil}
@@ -126,15 +126,6 @@ module _ (start width : ℕ) (r payload : List ℕ) (count : ℕ) where
 
 -- ---- a push of the store
 
-module _ (v new : FixedVec InputBytes 33) (x : InputBytes) (r : Result Unit InputBytes) (e : PushedAs 33 v x r new) where
-  -- taken: it stands behind the others, and all still fit
-  pub push_done : is_err r ≡ false → (held new ≡ held v ++ x ∷ []) × (length (held v) < 33)
-  push_done h =
-      elim (ltb (length (held v)) 33) as (λ b. ltb (length (held v)) 33 ≡ b → r ≡ pick b (Ok tt) (Err x) → held new ≡ pick b (held v ++ x ∷ []) (held v) → (held new ≡ held v ++ x ∷ []) × (length (held v) < 33))
-      [ true ↦ λ t a b. (b, ltb-true _ _ t) | false ↦ λ t a b. absurd (let z : ◌≡◌ {A = Bool} true false = rw a at h in cc) ] refl e.0 e.1
-
-  -- refused: it is as it was, and full
-  pub push_refused : is_err r ≡ true → (held new ≡ held v) × (33 ≤ length (held v))
-  push_refused h =
-      elim (ltb (length (held v)) 33) as (λ b. ltb (length (held v)) 33 ≡ b → r ≡ pick b (Ok tt) (Err x) → held new ≡ pick b (held v ++ x ∷ []) (held v) → (held new ≡ held v) × (33 ≤ length (held v)))
-      [ true ↦ λ t a b. absurd (let z : ◌≡◌ {A = Bool} false true = rw a at h in cc) | false ↦ λ t a b. (b, ltb-false _ _ t) ] refl e.0 e.1
+-- where there is room, it stands behind the others
+pub push_room : (v new : FixedVec InputBytes 33) (x : InputBytes) (r : Result Unit InputBytes) → PushedAs 33 v x r new → length (held v) < 33 → held new ≡ held v ++ x ∷ []
+push_room v new x r e room = rw (lt-ltb _ _ room) at e.1

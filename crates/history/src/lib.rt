@@ -115,14 +115,17 @@ fn with_frame(inputs: &[InputBytes], frame: u32) -> Option<InputBytes>
 }
 
 impl History {
-    // Holds the blank frame alone.
-    #[tactic(auto, unfolding(crate::specs::History::blank_frame, crate::specs::History::received, packing::specs::Pad::zeros))]
+    // Holds the blank frame alone. The list is written out: to take it from `FixedVec::new` is to copy it.
+    #[tactic(auto, unfolding(crate::specs::History::blank_frame, crate::specs::History::received, fixed_vec::specs::FixedVec::held, packing::specs::Pad::zeros))]
     pub fn new() -> History
         ensures { received result ≡ blank_frame ∷ [] }
     {
-        let mut inputs = FixedVec::new(BLANK);
-        let _ = inputs.push(BLANK);
-        History { inputs }
+        History {
+            inputs: FixedVec {
+                list: [BLANK; MOST_RECEIVED],
+                count: 1,
+            },
+        }
     }
 
     // How many inputs are held.
@@ -169,6 +172,10 @@ impl History {
     {
         let mut place = 0;
         for k in 0..count {
+            // The payload may be long, so it is not read on where no more fits.
+            if MOST_RECEIVED <= self.count() {
+                return;
+            }
             let frame = packet.start + k as u32;
             if line.takes(frame, newest) {
                 let bytes = packing::frame_at(
@@ -177,9 +184,7 @@ impl History {
                     packet.width,
                     &packet.reference.bytes,
                 );
-                if self.inputs.push(InputBytes { frame, bytes }).is_err() {
-                    return;
-                }
+                let _ = self.inputs.push(InputBytes { frame, bytes });
             }
             place += packet.width;
         }

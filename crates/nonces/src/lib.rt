@@ -27,12 +27,16 @@ impl Test<u32> for OtherThan {
 }
 
 impl Nonces {
-    #[tactic(auto, unfolding(crate::specs::Nonces::outstanding))]
+    // The list is written out: to take it from `FixedVec::new` is to copy it.
+    #[tactic(auto, unfolding(crate::specs::Nonces::outstanding, fixed_vec::specs::FixedVec::held))]
     pub fn new() -> Nonces
         ensures { outstanding result ≡ [] }
     {
         Nonces {
-            list: FixedVec::new(0),
+            list: FixedVec {
+                list: [0; MOST_NONCES],
+                count: 0,
+            },
         }
     }
 

@@ -16,7 +16,8 @@ pub struct Pending {
 }
 
 impl Pending {
-    #[tactic(auto, unfolding(crate::specs::Pending::waiting))]
+    // The list is written out: to take it from `FixedVec::new` is to copy it.
+    #[tactic(auto, unfolding(crate::specs::Pending::waiting, fixed_vec::specs::FixedVec::held))]
     pub fn new() -> Pending
         ensures { waiting result ≡ [] }
     {
@@ -25,7 +26,10 @@ impl Pending {
             bytes: [0; MOST_WIDTH],
         };
         Pending {
-            inputs: FixedVec::new(blank),
+            inputs: FixedVec {
+                list: [blank; MOST_PENDING],
+                count: 0,
+            },
         }
     }
 

@@ -1,20 +1,20 @@
 -- Laws of hexadecimal text, for those who keep its definitions shut: two digits a byte, pieces join, and other bytes have other text.
 use borrow.Author.Tests.{lt-ltb, le-ltb}
-use borrow.Rule.Slice.PartMut.{put_mid}
 use mathlib.Core.Path.{◌≡◌, refl, ◌∙◌, ap}
-use mathlib.Core.Bool.{true}
 use mathlib.Core.Logic.{⊎_elim}
 use mathlib.Core.List.{List, [], ◌∷◌, ◌++◌}
-use Prim.Native.Nat.{ℕ, zero, suc, ◌+◌, ◌-◌, ◌*◌, ◌/◌, ◌%◌, ◌<◌, ◌≤◌}
+use Prim.Native.Nat.{ℕ, zero, suc, ◌+◌, ◌*◌, ◌/◌, ◌%◌, ◌<◌, ◌≤◌}
 use native.Mathlib.Omega.{arith}
-use lib.ListN.{length}
+use native.Mathlib.Numerals.{add-one}
+use lib.ListN.{length, get_or, take, set}
+use lib.Seq.{take-suc, sets-eq, length-take-le}
 use Rattle.std.specs.Prelude.{slice_index}
 use Rattle.hex.specs.Hex.{encode_with, encode_lower, lower_digits}
+use Rattle.base.specs.Lay.{laid_at}
 use Rattle.base.specs.Little.{Bytes}
+use Rattle.base.proofs.Lay.{laid_length, laid_join}
 use Rattle.base.proofs.Digits.{below_or_not}
-use Rattle.text.specs.Append.{AppendedAs}
 use Rattle.text.specs.Hex.{hex_digit, hex_of}
-use Rattle.text.proofs.AppendLaws.{copied}
 
 pub hex_length : (bs : List ℕ) → length (hex_of bs) ≡ 2 * length bs
 unfolding hex_of
@@ -83,8 +83,27 @@ encoded (b ∷ bs) small =
     let byte : b < 256 = small 0 in
     rw (glyph (b / 16) (omega arith), glyph (b % 16) (omega arith), encoded bs (λ i. small (suc i)))
 
--- a part of a buffer overwritten with what crate hex gives
-pub encoded_laid : (buffer bytes part : List ℕ) (at : ℕ) → at + 2 * length bytes ≤ length buffer → part ≡ encode_lower bytes → Bytes bytes
-    → AppendedAs buffer at (hex_of bytes) true (put_mid at (at + 2 * length bytes - at) buffer part)
-encoded_laid buffer bytes part at h e small =
-    rw hex_length at (copied buffer at (hex_of bytes) part (omega (arith, hex_length bytes)) (e ∙ encoded bytes small))
+-- two bytes stored one after the other are two bytes laid
+laid_two : (l : List ℕ) (p a b : ℕ) → p + 2 ≤ length l → set (set l p a) (p + 1) b ≡ laid_at l p (a ∷ b ∷ [])
+unfolding laid_at
+laid_two l p a b h = rw add-one (sets-eq (a ∷ b ∷ []) l p h)
+
+-- a turn of the loop that lays the digits of one byte after another
+module _ (buffer : List ℕ) (at : ℕ) (bytes : List ℕ) (fits : at + 2 * length bytes ≤ length buffer) (i : ℕ) where
+  done-length : i ≤ length bytes → length (hex_of (take i bytes)) ≡ 2 * i
+  done-length h = hex_length (take i bytes) ∙ rw (length-take-le i bytes h)
+
+  pub hex_kept : i ≤ length bytes → length (laid_at buffer at (hex_of (take i bytes))) ≡ length buffer
+  hex_kept h = laid_length buffer at (hex_of (take i bytes)) (omega (arith, done-length h))
+
+  pub hex_turn : (out : List ℕ) (place a b : ℕ) → i < length bytes → place ≡ at + 2 * i → out ≡ laid_at buffer at (hex_of (take i bytes))
+      → a ≡ hex_digit (get_or bytes i 0 / 16) → b ≡ hex_digit (get_or bytes i 0 % 16)
+      → set (set out place a) (place + 1) b ≡ laid_at buffer at (hex_of (take (i + 1) bytes))
+  unfolding hex_of
+  hex_turn out place a b h p e ea eb =
+      let n : length (hex_of (take i bytes)) ≡ 2 * i = done-length (omega arith) in
+      let kept : length out ≡ length buffer = rw e (hex_kept (omega arith)) in
+      laid_two out place a b (omega arith)
+      ∙ (rw (ea, eb, e, p, ← n))
+      ∙ laid_join buffer at (hex_of (take i bytes)) (hex_of (get_or bytes i 0 ∷ [])) (omega arith)
+      ∙ (rw (add-one, take-suc bytes i 0 h, hex_append (take i bytes) (get_or bytes i 0 ∷ [])))

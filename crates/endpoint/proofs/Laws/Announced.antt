@@ -1,5 +1,5 @@
 -- An endpoint after what a call announces: only its events are others, and there was room for them.
-use mathlib.Core.Bool.{true}
+use mathlib.Core.Bool.{Bool, true}
 use mathlib.Core.List.{List, [], ◌++◌, append-nil}
 use mathlib.Core.Path.{◌≡◌, ◌∙◌}
 use lib.ListN.{length}
@@ -11,6 +11,10 @@ use Rattle.events.specs.Events.{held_events, has_room, PushedAs}
 use Rattle.endpoint.specs.declared.Endpoint.{Endpoint}
 use Rattle.endpoint.proofs.Laws.Ends.{grown}
 use Rattle.endpoint.proofs.Laws.Room.{room_known}
+
+-- a store that nothing is pushed to
+pub left_alone : (e : Events) (able : Bool) (more : List Entry) → able ≡ true → more ≡ [] → PushedAs e able more (Ok tt) e
+left_alone e able more ea em = record { answer = rw ea; view = rw (ea, em, append-nil); same = λ z q. cc }
 
 abbrev pub with_events_of : Endpoint → Events → Endpoint
 with_events_of e events = grown e events e.queued

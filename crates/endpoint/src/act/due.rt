@@ -2,6 +2,7 @@
 // The plain parts are parameters each, as the definition `due_of` has them.
 ghost use Rattle.std.specs.Prelude.{◌≡◌, ◌||◌, ◌+◌, ◌-◌, ltb, length};
 ghost use Rattle.base.specs.Pick.{pick};
+ghost use Rattle.ceilings.specs.Ceilings.{most_events};
 ghost use Rattle.events.specs.Events.{held_events, has_room, PushedAs};
 ghost use Rattle.endpoint.specs.Inside.Due.{due_of, clocks_by, flags_by, due_events};
 
@@ -93,12 +94,7 @@ pub(crate) fn flags_after(due: Due, flags: Flags) -> Flags
 
 // Both events in their order; where not all that is due fits, unchanged. What is left of the timeout is announced with an interruption.
 #[tactic(auto, using(events::proofs::Laws::both_given), unfolding(crate::specs::Inside::Due::due_events))]
-pub(crate) fn announce(
-    events: &mut Events,
-    due: Due,
-    disconnect_timeout: u64,
-    notify_start: u64,
-) -> Answer
+fn push(events: &mut Events, due: Due, disconnect_timeout: u64, notify_start: u64) -> Answer
     ensures { PushedAs events.old (has_room (held_events events.old) (length (due_events due (disconnect_timeout - notify_start)))) (due_events due (disconnect_timeout - notify_start)) result events.new }
 {
     let interruption = Entry {
@@ -111,4 +107,21 @@ pub(crate) fn announce(
         due.interruption.then_some(interruption),
         due.disconnect.then_some(DISCONNECTED),
     )
+}
+
+// The same, and where none is due the store is left alone. Inlined, so that it is not passed on for that.
+#[inline(always)]
+pub(crate) fn announce(
+    events: &mut Events,
+    due: Due,
+    disconnect_timeout: u64,
+    notify_start: u64,
+) -> Answer
+    requires { length events.old.entries.list ≡ most_events }
+    ensures { PushedAs events.old (has_room (held_events events.old) (length (due_events due (disconnect_timeout - notify_start)))) (due_events due (disconnect_timeout - notify_start)) result events.new }
+{
+    if event_count(due) == 0 {
+        return Ok(());
+    }
+    push(events, due, disconnect_timeout, notify_start)
 }

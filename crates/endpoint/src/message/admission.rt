@@ -1,5 +1,7 @@
 // Whether a message is ignored, by its sender and its magic alone, and what one that is not is refused for.
-ghost use Rattle.std.specs.Prelude.{◌≡◌};
+ghost use Rattle.std.specs.Prelude.{◌≡◌, Ok, Err};
+ghost use Rattle.base.specs.Pick.{pick};
+ghost use Rattle.answer.specs.declared.Refusal.TheVariants.{Full, Overflow};
 ghost use Rattle.endpoint_rules.specs.Step.{ignored_by};
 ghost use Rattle.endpoint.specs.Inside.Admission.{WeighedAs};
 
@@ -27,4 +29,17 @@ pub(crate) fn weigh(too_long: bool, overflows: bool, full: bool) -> Answer
         return Err(Refusal::Full);
     }
     Ok(())
+}
+
+// The same of a checksum that its store was given: 6 is the store's, and 5 the store's or that of an event without room.
+pub(crate) fn weigh_report(reported: Answer, full: bool) -> Answer
+    ensures overflow { reported ≡ Err Overflow → result ≡ Err Overflow }
+    ensures full { reported ≡ Err Full → result ≡ Err Full }
+    ensures done { reported ≡ Ok tt → result ≡ pick full (Err Full) (Ok tt) }
+{
+    weigh(
+        false,
+        reported == Err(Refusal::Overflow),
+        full || reported.is_err(),
+    )
 }

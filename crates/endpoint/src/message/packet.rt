@@ -1,8 +1,11 @@
 // The packet of an Input: the reference that it is packed against, whether it can be read, and its frames that are news.
-ghost use Rattle.std.specs.Prelude.{◌≡◌, true, ◌&&◌, suc, ◌+◌, ◌-◌, ◌^◌, ◌<◌, ◌≤◌, min, ltb};
+ghost use Rattle.std.specs.Prelude.{◌≡◌, true, ◌&&◌, ◌++◌, length, suc, ◌+◌, ◌-◌, ◌^◌, ◌<◌, ◌≤◌, min, ltb};
 ghost use Rattle.base.specs.Pick.{pick};
+ghost use Rattle.ceilings.specs.Ceilings.{most_events};
 ghost use Rattle.timers.specs.Timers.{input_at, sent_at};
-ghost use Rattle.packing.specs.Packing.{frame_count, decodable_length};
+ghost use Rattle.packing.specs.Packing.{frame_count, frames_of, decodable_length};
+ghost use Rattle.pending.specs.Pending.{DroppedAs};
+ghost use Rattle.events.specs.Events.{held_events, ahead, announced_all, packet_fits, PushedAs};
 ghost use Rattle.setup.specs.Setup.{terms_of, receiving_width};
 ghost use Rattle.endpoint_rules.specs.Receiving.{discarded_by, too_long_by, overflows_by};
 ghost use Rattle.endpoint_rules.specs.Room.{buffer_full};
@@ -13,11 +16,13 @@ use crate::message::admission;
 use crate::message::body::InputHead;
 use crate::room;
 use answer::Answer;
-use ceilings::MOST_PENDING;
+use ceilings::{MOST_PENDING, MOST_WIDTH};
 use codec::FIXED_SIZES;
+use events::{Events, Frames, Notices};
 use frame::{BIAS32, FRAMES};
 use history::History;
 use packing::InputBytes;
+use pending::Pending;
 use setup::Setup;
 use timers::Clocks;
 
@@ -152,6 +157,38 @@ pub(crate) fn admit(opened: Opened, len: usize, queued: usize) -> Answer
     let size = if opened.readable { FIXED_SIZES[3] } else { 0 };
     let full = room::buffer_full(len, queued, size);
     admission::weigh(opened.too_long, opened.readable && opened.overflows, full)
+}
+
+// What an Input announces, all of it or nothing: where there is nothing to announce, the store is left alone. Inlined, so that it is not passed on for that.
+#[inline(always)]
+pub(crate) fn announce(
+    events: &mut Events,
+    notices: Notices,
+    frames: Frames,
+    payload: &[u8],
+    reference: &[u8; MOST_WIDTH],
+    handles: &[u32],
+    size: usize,
+) -> Answer
+    requires { length events.old.entries.list ≡ most_events }
+    ensures { PushedAs events.old (packet_fits (held_events events.old ++ ahead notices.resumed notices.disconnected) frames.first frames.count handles.now) (ahead notices.resumed notices.disconnected ++ announced_all frames.first size handles.now (frames_of frames.width reference.now frames.count payload.now)) result events.new }
+{
+    if !notices.resumed && !notices.disconnected && frames.count == 0 {
+        return Ok(());
+    }
+    events.push_packet(notices, frames, payload, reference, handles, size)
+}
+
+// The pending inputs that an Input acknowledges go; where it acknowledges none, they are left alone. Gives the last one that was acknowledged. Inlined, as
+// `announce` is.
+#[inline(always)]
+pub(crate) fn acknowledge(pending: &mut Pending, ack_frame: u32, acked: InputBytes) -> InputBytes
+    ensures { DroppedAs pending.old ack_frame acked result pending.new }
+{
+    if pending.drops(ack_frame) {
+        return pending.drop_to(ack_frame, acked);
+    }
+    acked
 }
 
 // The input time is noted where the reference is held, and the send time of the InputAck.

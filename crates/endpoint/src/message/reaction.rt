@@ -15,7 +15,8 @@ pub struct Reacted {
     pub end: usize,
 }
 
-// A body that is one of these four, refused where what it brings has no room. `full`: what it announces has none.
+// By the number of its kind, which is one of these four (F-6); refused where what it brings has no room. `full`: what it announces has none.
+#[tactic(auto, using(crate::proofs::Laws::Handshake::false_true, codec::proofs::KindNumbers::kind_other, codec::proofs::KindNumbers::kind_quality_reply, codec::proofs::KindNumbers::kind_quality_report, codec::proofs::KindNumbers::kind_sync_request))]
 pub(crate) fn react(
     body: MessageBody,
     full: bool,
@@ -32,8 +33,16 @@ pub(crate) fn react(
     if full {
         return Err(Refusal::Full);
     }
-    match body {
-        MessageBody::SyncRequest { random_request } => {
+    let noted = Reacted {
+        quality,
+        clocks,
+        end: queued,
+    };
+    match codec::kind_of(body) {
+        0 => {
+            let MessageBody::SyncRequest { random_request } = body else {
+                return Ok(noted);
+            };
             let reply = MessageBody::SyncReply {
                 random_reply: random_request,
             };
@@ -43,10 +52,14 @@ pub(crate) fn react(
                 end: outbox::body_only(out, queued, magic, reply)?,
             })
         }
-        MessageBody::QualityReport {
-            frame_advantage,
-            ping,
-        } => {
+        4 => {
+            let MessageBody::QualityReport {
+                frame_advantage,
+                ping,
+            } = body
+            else {
+                return Ok(noted);
+            };
             let reply = MessageBody::QualityReply { pong: ping };
             Ok(Reacted {
                 quality: quality.remote(frame_advantage),
@@ -54,19 +67,17 @@ pub(crate) fn react(
                 end: outbox::body_only(out, queued, magic, reply)?,
             })
         }
-        MessageBody::QualityReply { pong } => {
+        5 => {
+            let MessageBody::QualityReply { pong } = body else {
+                return Ok(noted);
+            };
             let time = quality::round_trip(epoch, pong.low, pong.high);
             Ok(Reacted {
                 quality: quality.tripped(time),
-                clocks,
-                end: queued,
+                ..noted
             })
         }
         // KeepAlive.
-        _ => Ok(Reacted {
-            quality,
-            clocks,
-            end: queued,
-        }),
+        _ => Ok(noted),
     }
 }

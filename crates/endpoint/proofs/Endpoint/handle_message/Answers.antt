@@ -30,11 +30,11 @@ use Rattle.endpoint.proofs.Laws.Announced.{with_events_of}
 use Rattle.endpoint.proofs.Laws.Ends.{passed_on, remade}
 use Rattle.endpoint.proofs.Laws.Handshake.{good_clocks}
 use Rattle.endpoint.proofs.Laws.Message.Bodies.{message-ignored}
-use Rattle.endpoint.proofs.Laws.Message.Ways.{reply_passes, reply_crowded, reply_choked, Counted, counted_more, counted_last, input_passes, only_crowded, ack_crowded, report-refused, report_crowded, react_refuses, Left, only_left, ack_left, report_left, react_left, ends_quiet, ends_announced}
+use Rattle.endpoint.proofs.Laws.Message.Ways.{reply_passes, reply_crowded, reply_choked, Counted, counted_more, counted_last, input_passes, only_crowded, ack_crowded, weighed_refused, react_refuses, Left, only_left, ack_left, weighed_left, react_left, ends_quiet, ends_announced}
 use borrow.Author.Rules.{rules}
 use Rattle.endpoint.proofs.Endpoint.handle_message.Goals as goal
-use Rattle.endpoint.proofs.Endpoint.handle_message.Goals.{Else-is_ignored, After-push_packet, Joined-kind_of}
-use Rattle.endpoint.proofs.Endpoint.handle_message.Goals.{in-Synchronizing+else-spend, in_default-phase, in-0-1, in_default+then-this-lt6, in-1+else-full, in-2+else-not-opened+else-full-2, in-3+else-full-3, in-6+in_ok-report-in-6+else-full-4, in-0+in_ok-reacted-in-0, then-resumes, else-resumes, then-remaining-gt0+in_ok-request-in-1, else-remaining-gt0}
+use Rattle.endpoint.proofs.Endpoint.handle_message.Goals.{Else-is_ignored, After-announce, Joined-kind_of}
+use Rattle.endpoint.proofs.Endpoint.handle_message.Goals.{in-Synchronizing+else-spend, in_default-phase, in-0-1, in_default+then-this-lt6, in-1+else-full, in-2+else-not-opened+else-full-2, in-3+else-full-3, in-6+in_ok-weigh_report-in-6, in-0+in_ok-reacted-in-0, then-resumes, else-resumes, then-remaining-gt0+in_ok-request-in-1, else-remaining-gt0}
 
 -- an open door: the clocks are within their ceilings, and the message is not ignored
 good : (h : Else-is_ignored) → bad_clock h.args.now || bad_clock h.args.epoch ≡ false
@@ -118,50 +118,50 @@ returns-in_err-admit-in-2 c =
     _ c.in_err-admit-in-2.ensures)
 
 -- the reference, of 64 bytes, and what is announced with it
-reference : (c : After-push_packet) → c.unwrap_or-reference.result ≡ (found_of c.open-opened.result).input
+reference : (c : After-announce) → c.unwrap_or-reference.result ≡ (found_of c.open-opened.result).input
 unfolding blank_frame zeros
 reference c = c.unwrap_or-reference.ensures
 
-wide : (c : After-push_packet) → length (found_of c.open-opened.result).input.bytes ≡ 64
+wide : (c : After-announce) → length (found_of c.open-opened.result).input.bytes ≡ 64
 wide c = let w : length c.unwrap_or-reference.result.bytes ≡ 64 = search rules in rw (reference c) at w
 
-pushed : (c : After-push_packet) →
+pushed : (c : After-announce) →
     let ahead_of : List Entry = ahead c.inform-informed.result.resumes c.inform-informed.result.disconnects in
     let handles : List ℕ = handle_list c.args.self.now.setup.handles in
     let news = c.news_of-news.result in
     PushedAs c.args.self.now.events (packet_fits (held_events c.args.self.now.events ++ ahead_of) news.first news.count handles)
     (ahead_of ++ announced_all news.first c.args.self.now.setup.input_size handles (frames_of c.receiving_width-width.result (found_of c.open-opened.result).input.bytes news.count (drop news.at c.args.payload.now)))
-    c.push_packet.result c.push_packet.new.self
+    c.announce.result c.announce.new.events
 unfolding held
 pushed c =
     let p = c.args.payload.now in
     let n = c.news_of-news.result.at in
     let rest : take (length p - n) (drop n p) ≡ drop n p = take_all (length p - n) (drop n p) (simp length-drop (omega arith)) in
-    rw (reference c, c.as_slice.ensures.value, rest) at c.push_packet.ensures
+    rw (reference c, c.as_slice.ensures.value, rest) at c.announce.ensures
 
-pub returns-in_err-push_packet-in-2 : goal.returns-in_err-push_packet-in-2
-returns-in_err-push_packet-in-2 c =
-    let h = (goal.at.returns-in_err-push_packet-in-2 c).Else-is_ignored in
-    let q = (goal.at.returns-in_err-push_packet-in-2 c).After-push_packet in
+pub returns-in_err-announce-in-2 : goal.returns-in_err-announce-in-2
+returns-in_err-announce-in-2 c =
+    let h = (goal.at.returns-in_err-announce-in-2 c).Else-is_ignored in
+    let q = (goal.at.returns-in_err-announce-in-2 c).After-announce in
     let a = c.args in
-    rw (passed_on c.from_residual-in_err-push_packet-in-2.result _ c.from_residual-in_err-push_packet-in-2.ensures.1, c.push_packet.ensures.same _ c.in_err-push_packet-in-2.was)
+    rw (passed_on c.from_residual-in_err-announce-in-2.result _ c.from_residual-in_err-announce-in-2.ensures.1, c.announce.ensures.same _ c.in_err-announce-in-2.was)
     (packet_unannounced a.self.now a.from a.message a.payload.now a.now a.epoch a.nonce a.out.now (good h) (heeded h)
     _ _ _ (c.input_of-head.ensures (sym c.kind_of.ensures ∙ c.in-2.is)) c.open-opened.result c.open-opened.ensures c.if-not-opened.true c.inform-informed.result c.inform-informed.ensures
     c.in_ok-admit-in-2.ensures c.receiving_width-width.result c.receiving_width-width.ensures
-    (wide q) c.news_of-news.result c.news_of-news.ensures c.push_packet.result c.push_packet.new.self (pushed q) _ c.in_err-push_packet-in-2.was)
+    (wide q) c.news_of-news.result c.news_of-news.ensures c.announce.result c.announce.new.events (pushed q) _ c.in_err-announce-in-2.was)
 
 pub returns-then-opened : goal.returns-then-opened
 returns-then-opened c =
     let h = (goal.at.returns-then-opened c).Else-is_ignored in
-    let q = (goal.at.returns-then-opened c).After-push_packet in
+    let q = (goal.at.returns-then-opened c).After-announce in
     let a = c.args in
-    let s = with_events_of a.self.now c.push_packet.new.self in
-    let t = remade s c.drop_to-self.new.self c.drop_to-self.result s.history s.sync s.nonces s.clocks s.flags s.quality s.statuses s.checksums s.events s.queued in
+    let s = with_events_of a.self.now c.announce.new.events in
+    let t = remade s c.acknowledge-self.new.pending c.acknowledge-self.result s.history s.sync s.nonces s.clocks s.flags s.quality s.statuses s.checksums s.events s.queued in
     let announced = packet_announced a.self.now a.from a.message a.payload.now a.now a.epoch a.nonce a.out.now (good h) (heeded h)
     _ _ _ (c.input_of-head.ensures (sym c.kind_of.ensures ∙ c.in-2.is)) c.open-opened.result c.open-opened.ensures c.if-not-opened.true c.inform-informed.result c.inform-informed.ensures
     c.in_ok-admit-in-2.ensures c.receiving_width-width.result c.receiving_width-width.ensures
-    (wide q) c.news_of-news.result c.news_of-news.ensures c.push_packet.result c.push_packet.new.self (pushed q) c.in_ok-push_packet-in-2.was s refl in
-    let dropped = drops_some c.input_of-head.result.ack_frame s t c.drop_to-self.result c.drop_to-self.new.self c.drop_to-self.ensures refl in
+    (wide q) c.news_of-news.result c.news_of-news.ensures c.announce.result c.announce.new.events (pushed q) c.in_ok-announce-in-2.was s refl in
+    let dropped = drops_some c.input_of-head.result.ack_frame s t c.acknowledge-self.result c.acknowledge-self.new.pending c.acknowledge-self.ensures refl in
     packet_read a.self.now a.from a.message a.payload.now a.now a.epoch a.nonce a.out.now (good h) (heeded h)
     _ _ _ (c.input_of-head.ensures (sym c.kind_of.ensures ∙ c.in-2.is)) c.open-opened.result c.open-opened.ensures c.if-not-opened.true c.inform-informed.result c.inform-informed.ensures
     c.in_ok-admit-in-2.ensures c.receiving_width-width.result c.receiving_width-width.ensures
@@ -171,15 +171,15 @@ returns-then-opened c =
 pub returns-else-opened : goal.returns-else-opened
 returns-else-opened c =
     let h = (goal.at.returns-else-opened c).Else-is_ignored in
-    let q = (goal.at.returns-else-opened c).After-push_packet in
+    let q = (goal.at.returns-else-opened c).After-announce in
     let a = c.args in
-    let s = with_events_of a.self.now c.push_packet.new.self in
-    let t = remade s c.drop_to-self.new.self c.drop_to-self.result s.history s.sync s.nonces s.clocks s.flags s.quality s.statuses s.checksums s.events s.queued in
+    let s = with_events_of a.self.now c.announce.new.events in
+    let t = remade s c.acknowledge-self.new.pending c.acknowledge-self.result s.history s.sync s.nonces s.clocks s.flags s.quality s.statuses s.checksums s.events s.queued in
     let announced = packet_announced a.self.now a.from a.message a.payload.now a.now a.epoch a.nonce a.out.now (good h) (heeded h)
     _ _ _ (c.input_of-head.ensures (sym c.kind_of.ensures ∙ c.in-2.is)) c.open-opened.result c.open-opened.ensures c.if-not-opened.true c.inform-informed.result c.inform-informed.ensures
     c.in_ok-admit-in-2.ensures c.receiving_width-width.result c.receiving_width-width.ensures
-    (wide q) c.news_of-news.result c.news_of-news.ensures c.push_packet.result c.push_packet.new.self (pushed q) c.in_ok-push_packet-in-2.was s refl in
-    let dropped = drops_some c.input_of-head.result.ack_frame s t c.drop_to-self.result c.drop_to-self.new.self c.drop_to-self.ensures refl in
+    (wide q) c.news_of-news.result c.news_of-news.ensures c.announce.result c.announce.new.events (pushed q) c.in_ok-announce-in-2.was s refl in
+    let dropped = drops_some c.input_of-head.result.ack_frame s t c.acknowledge-self.result c.acknowledge-self.new.pending c.acknowledge-self.ensures refl in
     packet_unread a.self.now a.from a.message a.payload.now a.now a.epoch a.nonce a.out.now (good h) (heeded h)
     _ _ _ (c.input_of-head.ensures (sym c.kind_of.ensures ∙ c.in-2.is)) c.open-opened.result c.open-opened.ensures c.if-not-opened.true c.inform-informed.result c.inform-informed.ensures
     c.in_ok-admit-in-2.ensures c.receiving_width-width.result c.receiving_width-width.ensures
@@ -202,22 +202,15 @@ returns-then-full-3 c =
     c.is_resuming-resumes.result c.is_resuming-resumes.ensures c.count.result c.count.ensures c.events_full-full.result c.events_full-full.ensures
     _ (c.ack_of-ack_frame.ensures (sym c.kind_of.ensures ∙ c.in-3.is)) c.if-full-3.true)
 
-pub returns-in_err-report-in-6 : goal.returns-in_err-report-in-6
-returns-in_err-report-in-6 c =
-    let h = (goal.at.returns-in_err-report-in-6 c).Else-is_ignored in
+pub returns-in_err-weigh_report-in-6 : goal.returns-in_err-weigh_report-in-6
+returns-in_err-weigh_report-in-6 c =
+    let h = (goal.at.returns-in_err-weigh_report-in-6 c).Else-is_ignored in
     let a = c.args in
-    rw (passed_on c.from_residual-in_err-report-in-6.result _ c.from_residual-in_err-report-in-6.ensures.1)
-    (report-refused a.self.now a.from a.message a.payload.now a.now a.epoch a.nonce a.out.now (good h) (heeded h)
+    rw (passed_on c.from_residual-in_err-weigh_report-in-6.result _ c.from_residual-in_err-weigh_report-in-6.ensures.1)
+    (weighed_refused a.self.now a.from a.message a.payload.now a.now a.epoch a.nonce a.out.now (good h) (heeded h)
     c.is_resuming-resumes.result c.is_resuming-resumes.ensures c.count.result c.count.ensures c.events_full-full.result c.events_full-full.ensures
-    _ _ (c.checksum_of.ensures (sym c.kind_of.ensures ∙ c.in-6.is)) c.interval.result c.interval.ensures c.report.result c.report.new.self c.report.ensures _ c.in_err-report-in-6.was)
-
-pub returns-then-full-4 : goal.returns-then-full-4
-returns-then-full-4 c =
-    let h = (goal.at.returns-then-full-4 c).Else-is_ignored in
-    let a = c.args in
-    report_crowded a.self.now a.from a.message a.payload.now a.now a.epoch a.nonce a.out.now (good h) (heeded h)
-    c.is_resuming-resumes.result c.is_resuming-resumes.ensures c.count.result c.count.ensures c.events_full-full.result c.events_full-full.ensures
-    _ _ (c.checksum_of.ensures (sym c.kind_of.ensures ∙ c.in-6.is)) c.interval.result c.interval.ensures c.report.result c.report.new.self c.report.ensures c.in_ok-report-in-6.was c.if-full-4.true
+    _ _ (c.checksum_of.ensures (sym c.kind_of.ensures ∙ c.in-6.is)) c.interval.result c.interval.ensures c.report-reported.result c.report-reported.new.self c.report-reported.ensures
+    c.weigh_report.result c.weigh_report.ensures.overflow c.weigh_report.ensures.full c.weigh_report.ensures.done _ c.in_err-weigh_report-in-6.was)
 
 -- a number above 7 is no body's
 pub returns-in_default : goal.returns-in_default
@@ -280,11 +273,12 @@ left c =
       | in-3+else-full-3 w ↦
           rw (w.self-is, w.out-is) (ack_left a.self.now a.from a.message a.payload.now a.now a.epoch a.nonce a.out.now (good h) (heeded h)
           c.is_resuming-resumes.result c.is_resuming-resumes.ensures c.count.result c.count.ensures c.events_full-full.result c.events_full-full.ensures
-          _ (w.ack_of-ack_frame.ensures (sym c.kind_of.ensures ∙ w.in-3.is)) w.if-full-3.false w.drop_to-self-in-3.result w.drop_to-self-in-3.new.self w.drop_to-self-in-3.ensures)
-      | in-6+in_ok-report-in-6+else-full-4 w ↦
-          rw (w.self-is, w.out-is) (report_left a.self.now a.from a.message a.payload.now a.now a.epoch a.nonce a.out.now (good h) (heeded h)
+          _ (w.ack_of-ack_frame.ensures (sym c.kind_of.ensures ∙ w.in-3.is)) w.if-full-3.false w.drop_to-self.result w.drop_to-self.new.self w.drop_to-self.ensures)
+      | in-6+in_ok-weigh_report-in-6 w ↦
+          rw (w.self-is, w.out-is) (weighed_left a.self.now a.from a.message a.payload.now a.now a.epoch a.nonce a.out.now (good h) (heeded h)
           c.is_resuming-resumes.result c.is_resuming-resumes.ensures c.count.result c.count.ensures c.events_full-full.result c.events_full-full.ensures
-          _ _ (w.checksum_of.ensures (sym c.kind_of.ensures ∙ w.in-6.is)) w.interval.result w.interval.ensures w.report.result w.report.new.self w.report.ensures w.in_ok-report-in-6.was w.if-full-4.false)
+          _ _ (w.checksum_of.ensures (sym c.kind_of.ensures ∙ w.in-6.is)) w.interval.result w.interval.ensures w.report-reported.result w.report-reported.new.self w.report-reported.ensures
+          w.weigh_report.result w.weigh_report.ensures.overflow w.weigh_report.ensures.full w.weigh_report.ensures.done w.in_ok-weigh_report-in-6.was)
       | in-0+in_ok-reacted-in-0 w ↦
           let o : Others c.kind_of.result =
           elim w.in-0-1.branch [

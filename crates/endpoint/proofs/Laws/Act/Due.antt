@@ -4,7 +4,7 @@ use mathlib.Core.Bool.{Bool, true, false, not, ◌&&◌, ◌||◌}
 use mathlib.Core.List.{List, [], ◌∷◌, ◌++◌, append-nil, append_assoc}
 use mathlib.Core.Path.{◌≡◌, refl, ◌∙◌}
 use native.Mathlib.Omega.{arith}
-use Prim.Native.Nat.{ℕ, ◌-◌}
+use Prim.Native.Nat.{ℕ, ◌+◌, ◌-◌}
 use lib.Dec.{ltb}
 use lib.ListN.{length}
 use Rattle.base.specs.Pick.{pick}
@@ -30,6 +30,18 @@ use Rattle.endpoint_rules.specs.Act.{resend_due, report_due, keep_alive_due, int
 use Rattle.endpoint.specs.declared.act.due.Due.{Due}
 use Rattle.endpoint.specs.Inside.Due.{due_of, clocks_by, flagged, flags_by, due_events}
 use Rattle.endpoint.specs.Inside.Batch.{batch, due_reports}
+
+-- no event is due where none is counted
+pub none_due : (d : Due) (left : ℕ) → pick d.interruption 1 0 + pick d.disconnect 1 0 ≡ 0 → due_events d left ≡ []
+unfolding due_events
+none_due d left h = go d.interruption d.disconnect h
+  where
+    go : (a b : Bool) → pick a 1 0 + pick b 1 0 ≡ 0
+        → pick a (without_input (Event.NetworkInterrupted left) ∷ []) [] ++ pick b (without_input Event.Disconnected ∷ []) [] ≡ []
+    go false false h = refl
+    go true false h = absurd (omega arith)
+    go true true h = absurd (omega arith)
+    go false true h = absurd (omega arith)
 
 -- a clock set by one of two
 either : (a b : Bool) (x y : ℕ) → pick b x (pick a x y) ≡ pick (a || b) x y

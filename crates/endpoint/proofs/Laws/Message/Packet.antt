@@ -1,8 +1,8 @@
 -- A packet's frames above the newest: those left when the known ones are skipped, announced one after another.
-use borrow.Author.Tests.{lt-ltb, ltb-true, ltb-false}
+use borrow.Author.Tests.{lt-ltb, le-leb, ltb-true, ltb-false}
 use mathlib.Core.Bool.{Bool, true, false}
-use mathlib.Core.List.{List, [], ◌∷◌, ◌++◌}
-use mathlib.Core.Path.{◌≡◌, refl}
+use mathlib.Core.List.{List, [], ◌∷◌, ◌++◌, append-nil}
+use mathlib.Core.Path.{◌≡◌, refl, ◌∙◌}
 use Prim.Native.Nat.{ℕ, zero, suc, ◌+◌, ◌-◌, ◌*◌, ◌^◌, ◌≤◌, min}
 use native.Mathlib.Omega.{arith}
 use native.Mathlib.Numerals.{add-one}
@@ -20,7 +20,11 @@ use Rattle.history.specs.History.{above, numbered, packet_of, blank_frame, found
 use Rattle.events.specs.declared.Entry.{Entry}
 use Rattle.events.specs.declared.Events.{Events}
 use Rattle.answer.specs.Number.{Answered}
-use Rattle.events.specs.Events.{held_events, has_room, announced_all, frames_from, packet_fits, PushedAs, announced_each}
+use Rattle.base.proofs.Arrays.{view_le}
+use Rattle.std.specs.Prelude.{Ok}
+use Rattle.fixed_vec.specs.FixedVec.{held}
+use Rattle.events.specs.Events.{held_events, has_room, both, ahead, announced_all, frames_from, packet_fits, PushedAs, announced_each}
+use Rattle.endpoint.proofs.Laws.Announced.{left_alone}
 use Rattle.events.proofs.Laws.{announced-padded, packet_fits_lem, packet_length}
 use Rattle.setup.specs.Setup.{terms_of, receiving_width, handle_list}
 use Rattle.setup.specs.declared.Setup.{Setup}
@@ -122,6 +126,17 @@ unfolding has_room announced_all announced_each frames_from frames_of
 nothing_pushed e A size w hs reference payload a t h =
     let total : length (held_events e ++ A) + 0 * length hs ≡ length (held_events e) + length (A ++ []) = omega (arith, length-append (held_events e) A, length-append A []) in
     rw (← total) (rw (packet_fits_lem (held_events e ++ A) 0 0 hs (omega arith)) at h)
+
+-- where there is no event and no frame to announce, the store left alone is the store with them
+pub nothing_announced : (e : Events) → length e.entries.list ≡ 640 → (resumed disconnected : Bool) → resumed ≡ false → disconnected ≡ false
+    → (first count size w : ℕ) → first ≤ 2 ^ 32 → count ≡ 0 → (hs reference payload : List ℕ)
+    → PushedAs e (packet_fits (held_events e ++ ahead resumed disconnected) first count hs) (ahead resumed disconnected ++ announced_all first size hs (frames_of w reference count payload)) (Ok tt) e
+unfolding has_room announced_all announced_each frames_from frames_of ahead both held_events held
+nothing_announced e long r d er ed first count size w within ec hs reference payload =
+    let few : length (held_events e) ≤ 640 = omega (arith, long, view_le e.entries.count e.entries.list) in
+    let fits : packet_fits (held_events e ++ []) first 0 hs ≡ true
+    = packet_fits_lem (held_events e ++ []) first 0 hs (omega arith) ∙ rw append-nil (le-leb _ _ (omega (arith, few))) in
+    rw (er, ed, ec) (left_alone e _ [] fits refl)
 
 -- the reference as `look` gives it, with the blank one where it is not held
 pub found_again : (f : ℕ) (l : List InputBytes) (r : Option InputBytes) → r ≡ pick (found_in f l).held (Some (found_in f l).input) None

@@ -221,6 +221,27 @@ module _ (e : Endpoint) (from : ℕ) (m : Message) (p : List ℕ) (now epoch non
                   (checksum_done e checksum frame now i ei y v ey within.0 (heard_with e now r er n en f ef true t) k within.1 refl);
             }
 
+      -- w: the report and its event, weighed
+      module _ (w : Answered) (overflows : y ≡ Err Overflow → w ≡ Err Overflow) (fills : y ≡ Err Full → w ≡ Err Full) (fits : y ≡ done → w ≡ pick f (Err Full) (Ok tt)) where
+        pub weighed_refused : (z : Refusal) → w ≡ Err z → Ends e (Err z) buffer
+        weighed_refused z h = go Overflowing Filled f refl ey.answer
+          where
+            go : (o g b : Bool) → f ≡ b → y ≡ pick o (Err Overflow) (pick g (Err Full) done) → Ends e (Err z) buffer
+            go true g b q k = let is : z ≡ Overflow = (let s : ◌≡◌ {A = Answered} (Err z) (Err Overflow) = sym h ∙ overflows k in cc) in rw is (report-refused Overflow k)
+            go false true b q k = let is : z ≡ Full = (let s : ◌≡◌ {A = Answered} (Err z) (Err Full) = sym h ∙ fills k in cc) in rw is (report-refused Full k)
+            go false false true q k = let is : z ≡ Full = (let s : ◌≡◌ {A = Answered} (Err z) (Err Full) = sym h ∙ rw q at fits k in cc) in rw is (report_crowded k q)
+            go false false false q k = let s : ◌≡◌ {A = Answered} (Err z) (Ok tt) = sym h ∙ rw q at fits k in cc
+
+        pub weighed_left : w ≡ Ok tt → Left (remade e e.pending e.acked e.history e.sync e.nonces e.clocks e.flags e.quality e.statuses v e.events e.queued) buffer
+        weighed_left h = go Overflowing Filled f refl ey.answer
+          where
+            go : (o g b : Bool) → f ≡ b → y ≡ pick o (Err Overflow) (pick g (Err Full) done)
+                → Left (remade e e.pending e.acked e.history e.sync e.nonces e.clocks e.flags e.quality e.statuses v e.events e.queued) buffer
+            go true g b q k = let s : ◌≡◌ {A = Answered} (Ok tt) (Err Overflow) = sym h ∙ overflows k in cc
+            go false true b q k = let s : ◌≡◌ {A = Answered} (Ok tt) (Err Full) = sym h ∙ fills k in cc
+            go false false true q k = let s : ◌≡◌ {A = Answered} (Ok tt) (Err Full) = sym h ∙ rw q at fits k in cc
+            go false false false q k = report_left k q
+
     -- one of the other kinds; k: its kind's number
     module _ (y : Result Reacted Refusal) (b' : List ℕ) (ey : ReactedAs m.body f e.quality e.clocks now epoch e.setup.magic buffer e.queued y b') (k : ℕ)
         (ek : k ≡ kind_of m.body) (others : (k ≡ 1 → ⊥) × (k ≡ 2 → ⊥) × (k ≡ 3 → ⊥) × (k ≡ 6 → ⊥)) where

@@ -1,26 +1,24 @@
 -- `append` stores the frames of a payload that are new and stay, one after the other, until there is no more room.
-use Rattle.std.proofs.Common.{◌≡◌, ◌+◌, ◌-◌, ◌*◌, ◌≤◌, [], ◌∷◌, suc, length, length-append, arith, Bool, sym, ◌∙◌}
+use Rattle.std.proofs.Common.{◌≡◌, ◌+◌, ◌-◌, ◌*◌, ◌≤◌, ◌<◌, [], ◌∷◌, suc, length, length-append, arith, Bool, sym, ◌∙◌}
 use native.Mathlib.Nat.{suc-mul, add-zero, sub-zero}
 use Rattle.packing.specs.declared.input_bytes.InputBytes.{InputBytes}
 use Rattle.history.specs.History.{received, new_and_kept}
-use Rattle.history.proofs.Laws.{next, fill_turn, pass_turn, fill_end, fill_full, push_done, push_refused}
-use Rattle.history.proofs.History.append.Goals.{then-takes+else-is_err, else-takes}
+use Rattle.history.proofs.Laws.{next, fill_turn, pass_turn, fill_end, fill_full, push_room}
+use Rattle.history.proofs.History.append.Goals.{then-takes, else-takes}
 use Rattle.history.proofs.History.append.Goals as goal
 
 pub loop-k-init : goal.loop-k-init
 loop-k-init c = record { most = c.requires.2; left = rw sub-zero (omega (arith, c.requires.1)); taken = rw (add-zero, sub-zero) }
 
-pub returns-then-is_err : goal.returns-then-is_err
-unfolding received
-returns-then-is_err c =
+pub returns-then-count-ge-MOST_RECEIVED : goal.returns-then-count-ge-MOST_RECEIVED
+returns-then-count-ge-MOST_RECEIVED c =
     let a = c.args in
     let l = c.loop-k in
     let i = l.invariant in
     let packet = a.packet.now in
     let line = a.line.now in
     let p : InputBytes → Bool = (λ x. new_and_kept a.newest line.newest line.max_prediction x.frame) in
-    let full = push_refused l.self.inputs c.push.new.self _ c.push.result c.push.ensures (sym c.is_err.ensures.value ∙ c.if-is_err.true) in
-    full.0 ∙ sym (fill_full packet.start packet.width packet.reference.bytes a.payload.now a.count p (received l.self) l.k l.place (omega (arith, i.most, full.1))) ∙ i.taken
+    sym (fill_full packet.start packet.width packet.reference.bytes a.payload.now a.count p (received l.self) l.k l.place (omega (arith, i.most, c.count.ensures))) ∙ i.taken
 
 pub loop-k-preserved : goal.loop-k-preserved
 unfolding received
@@ -37,13 +35,14 @@ loop-k-preserved c =
     let q : l.place + suc (a.count - (l.k + 1)) * packet.width ≤ length a.payload.now = rw n at i.left in
     let left : l.place + packet.width + (a.count - (l.k + 1)) * packet.width ≤ length a.payload.now = omega arith in
     elim c.if-takes.branch [
-      | then-takes+else-is_err w ↦
-          let pushed = push_done l.self.inputs w.push.new.self _ w.push.result w.push.ensures (sym w.is_err.ensures.value ∙ w.if-is_err.false) in
+      | then-takes w ↦
+          let room : length (received l.self) < 33 = omega (arith, c.count.ensures) in
+          let pushed = push_room l.self.inputs w.push.new.self _ w.push.result w.push.ensures room in
           let one = length-append (received l.self) (next packet.start packet.width packet.reference.bytes a.payload.now a.count l.k l.place ∷ []) in
           rw (w.self-is) (record {
-            most = rw (pushed.0, w.frame_at-bytes.ensures) (omega (arith, pushed.1));
+            most = rw (pushed, w.frame_at-bytes.ensures) (omega (arith, one, room));
             left = left;
-            taken = rw (pushed.0, w.frame_at-bytes.ensures) (fill_turn packet.start packet.width packet.reference.bytes a.payload.now a.count p (received l.self) _ l.k l.place (omega arith) i.taken (sym c.takes.ensures ∙ w.if-takes.true));
+            taken = rw (pushed, w.frame_at-bytes.ensures) (fill_turn packet.start packet.width packet.reference.bytes a.payload.now a.count p (received l.self) _ l.k l.place (omega arith) i.taken (sym c.takes.ensures ∙ w.if-takes.true));
           })
       | else-takes w ↦
           rw w.self-is (record {
