@@ -14,8 +14,8 @@ fn frame_of(i: u32) -> u32 {
     BIAS32.wrapping_add(i)
 }
 
-// The events that wait and the bytes queued, added up.
-fn waiting(end: &Endpoint) -> u64 {
+// The events that wait and the bytes queued, added up. (By value: an item's endpoint is copied once more where it is lent.)
+fn waiting(end: Endpoint) -> u64 {
     (end.events.entries.count as u64).wrapping_add(end.queued as u64)
 }
 
@@ -29,7 +29,7 @@ pub(crate) fn input(setup: Setup, payload: &[u8], count: u32) -> u64 {
         let now = START + u64::from(i);
         let ended = end.message(PEER, message, payload, now, START, 0, &mut out);
         end = ended.endpoint;
-        sum = sum.wrapping_add(waiting(&end));
+        sum = sum.wrapping_add(waiting(end));
         end.queued = 0;
         end.events.entries.count = 0;
     }
@@ -72,7 +72,7 @@ pub(crate) fn send_input(count: u32) -> u64 {
         let now = START + u64::from(i);
         let ended = end.send_input(frame_of(WAITING), &[3], statuses, now, &mut out);
         end = ended.endpoint;
-        sum = sum.wrapping_add(waiting(&end));
+        sum = sum.wrapping_add(waiting(end));
         end.queued = 0;
         end.pending.inputs.count = 3;
     }
@@ -98,7 +98,7 @@ pub(crate) fn input_ack(count: u32) -> u64 {
             .endpoint
             .message(PEER, ack, b"", now, START, 0, &mut out);
         end = ended.endpoint;
-        sum = sum.wrapping_add(waiting(&end));
+        sum = sum.wrapping_add(waiting(end));
         end.queued = 0;
     }
     sum
@@ -113,7 +113,7 @@ pub(crate) fn keep_alive(count: u32) -> u64 {
         let ended = end.message(PEER, message, b"", now, START, 0, &mut out);
         end = ended.endpoint;
     }
-    waiting(&end)
+    waiting(end)
 }
 
 // At a time when no timer is due.
@@ -125,5 +125,5 @@ pub(crate) fn act(count: u32) -> u64 {
         let ended = end.act(statuses, START + 1, START + 1, 0, &mut out);
         end = ended.endpoint;
     }
-    waiting(&end)
+    waiting(end)
 }
